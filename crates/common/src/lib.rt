@@ -1,0 +1,42 @@
+// Small functions that every layer uses.
+ghost use mathlib.Core.Path.{_≡_};
+ghost use Prim.Native.Nat.{_<_, max};
+ghost use Rattle.common.specs.Choice as choice;
+
+pub fn wide(x: u8) -> usize
+    ensures { λ r. ⌜ r ≡ x ⌝ }
+    ensures byte { λ r. ⌜ r < 256 ⌝ }
+{
+    x as usize
+}
+
+pub fn wide16(x: u16) -> usize
+    ensures { λ r. ⌜ r ≡ x ⌝ }
+    ensures small { λ r. ⌜ r < 65536 ⌝ }
+{
+    x as usize
+}
+
+pub fn greater(a: usize, b: usize) -> usize
+    ensures { λ r. ⌜ r ≡ max a b ⌝ }
+{
+    if a < b { b } else { a }
+}
+
+pub fn both(a: bool, b: bool) -> bool
+    ensures { λ r. ⌜ r ≡ choice.both a b ⌝ }
+{
+    if b { a } else { false }
+}
+
+pub fn pick(test: bool, x: bool, y: bool) -> bool
+    ensures { λ r. ⌜ r ≡ choice.pick test x y ⌝ }
+{
+    if test { x } else { y }
+}
+
+pub fn pick_byte(test: bool, x: u8, y: u8) -> u8
+    ensures { λ r. ⌜ r ≡ choice.pick test x y ⌝ }
+{
+    if test { x } else { y }
+}

@@ -1,0 +1,1 @@
+// The walk over the tree: flags, split lists and starts of the leaves.
