@@ -1,2 +1,3 @@
 -- What the proofs of several functions, and the layers above, use.
 pub mod Named
+pub mod Lists
