@@ -1,0 +1,42 @@
+-- Stores in a row (`sets`): their order, and what each place holds afterwards. Assumes nothing.
+use mathlib.Core.Path.{_≡_, refl, ap, _∙_}
+use Prim.Native.Nat.{ℕ, zero, suc, _+_, _≤_, _<_}
+use native.Mathlib.Nat.{add-zero}
+use native.Mathlib.Omega.{arith}
+use mathlib.Core.List.{List, [], _∷_, _++_}
+use lib.ListN.{length, getD, set, length-set}
+use lib.Seq.{sets, set-comm, getD-set-same, getD-set-other}
+
+-- ---- their order
+
+set-sets : (vs l : List ℕ) (i j v : ℕ) → i < j → set (sets l j vs) i v ≡ sets (set l i v) j vs
+set-sets [] l i j v h = refl
+set-sets (a ∷ vs) l i j v h = set-sets vs (set l j a) i (suc j) v (omega arith) ∙ ap (λ (k : List ℕ). sets k (suc j) vs) (set-comm l j i a v (λ e. omega arith))
+
+pub sets-append : (us vs l : List ℕ) (i : ℕ) → sets l i (us ++ vs) ≡ sets (sets l i us) (i + length us) vs
+sets-append [] vs l i = rw (add-zero i)
+sets-append (a ∷ us) vs l i = sets-append us vs (set l i a) (suc i) ∙ ap (λ (k : ℕ). sets (sets (set l i a) (suc i) us) k vs) (omega arith)
+
+-- stores before others may come after them
+pub sets-sets : (us vs l : List ℕ) (i j : ℕ) → i + length us ≤ j → sets (sets l j vs) i us ≡ sets (sets l i us) j vs
+sets-sets [] vs l i j h = refl
+sets-sets (a ∷ us) vs l i j h = rw (set-sets vs l i j a (omega arith)) (sets-sets us vs (set l i a) (suc i) j (omega arith))
+
+-- ---- what each place holds
+
+pub getD-before : (l o : List ℕ) (at p : ℕ) → p < at → getD (sets o at l) p 0 ≡ getD o p 0
+getD-before [] o at p h = refl
+getD-before (b ∷ l) o at p h = getD-before l (set o at b) (suc at) p (omega arith) ∙ getD-set-other o at p b 0 (λ e. omega arith)
+
+pub getD-after : (l o : List ℕ) (at p : ℕ) → at + length l ≤ p → getD (sets o at l) p 0 ≡ getD o p 0
+getD-after [] o at p h = refl
+getD-after (b ∷ l) o at p h = getD-after l (set o at b) (suc at) p (omega arith) ∙ getD-set-other o at p b 0 (λ e. omega arith)
+
+pub getD-in : (l o : List ℕ) (at j : ℕ) → at + length l ≤ length o → j < length l → getD (sets o at l) (at + j) 0 ≡ getD l j 0
+getD-in [] o at j h k = absurd (omega arith)
+getD-in (b ∷ l) o at zero h k =
+    let e : at + 0 ≡ at = omega arith in
+    rw e (getD-before l (set o at b) (suc at) at (omega arith) ∙ getD-set-same o at b 0 (omega arith))
+getD-in (b ∷ l) o at (suc j) h k =
+    let e : at + suc j ≡ suc at + j = omega arith in
+    rw e (getD-in l (set o at b) (suc at) j (rw length-set (omega arith)) (omega arith))

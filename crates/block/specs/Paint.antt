@@ -1,0 +1,50 @@
+-- Lines laid over bytes; what the printers of a leaf ask and promise.
+use mathlib.Core.Path.{_≡_}
+use Prim.Native.Nat.{ℕ, _+_, _*_, _≤_, _<_}
+use mathlib.Core.List.{List, [], _∷_, _++_}
+use lib.ListN.{length, take, drop}
+use lib.Seq.{sets}
+use Rattle.settings.specs.declared.Settings.{Settings}
+use Rattle.splits.specs.declared.SplitList.{SplitList}
+use Rattle.sizes.specs.declared.Size.{Size}
+use Rattle.sizes.specs.Sizes.{Fits, leafSize}
+use Rattle.block.specs.declared.Flags.{Flags}
+use Rattle.block.specs.Content.{feeds}
+use Rattle.block.specs.Block.{Leaf, tall, wide}
+
+-- the bytes o with the lines x over them: the first at `at`, each `stride` after the one before
+unfoldable pub pasted : List ℕ → ℕ → ℕ → List (List ℕ) → List ℕ
+pasted o at stride [] = o
+pasted o at stride (l ∷ x) = pasted (sets o at l) (at + stride) stride x
+
+-- n lines of w bytes at those places lie within len bytes, and no place after them passes 64 bits
+pub record Room (at stride n w len : ℕ) : Type 0 where
+  pub fits : at + n * stride + w ≤ len + stride
+  pub small : at + n * stride + w < 18446744073709551616
+
+-- a printer's answer, where it stopped, and the bytes afterwards
+pub record Wrote (r end : ℕ) (after is : List ℕ) : Type 0 where
+  pub end-is : r ≡ end
+  pub out-is : after ≡ is
+
+-- the leaf of a text, its size, flags and split lists
+abbrev pub leafOf : List ℕ → Size → Flags → SplitList → SplitList → Leaf
+leafOf t z f h v = record { text = t; size = z; horizontal = take (h .count) (h .pieces); vertical = take (v .count) (v .pieces); flags = f }
+
+-- what `paint_block` asks: the natural size n of the text t, an allotted size z that holds it, and room for the block
+pub record Paintable (s : Settings) (t : List ℕ) (n z : Size) (f : Flags) (h v : SplitList) (base stride len : ℕ) : Type 0 where
+  pub natural-is : n ≡ leafSize s t
+  pub fits : Fits n z
+  pub text-small : length t < 65536
+  pub some-width : 0 < z .width
+  pub width-small : z .width < 65536
+  pub height-small : z .height < 65536
+  pub few-horizontal : h .count ≤ 512
+  pub few-vertical : v .count ≤ 512
+  pub apart : wide s z f ≤ stride
+  pub room : Room base stride (tall s z f) (wide s z f) len
+
+-- the lines x joined by 0A stand at the start of the bytes, which were o₀; r is how many bytes they are; the bytes after them are as they were
+pub record Printed (x : List (List ℕ)) (r : ℕ) (o₀ o : List ℕ) : Type 0 where
+  pub count-is : r ≡ length (feeds x)
+  pub out-is : o ≡ feeds x ++ drop r o₀
