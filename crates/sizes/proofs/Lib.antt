@@ -1,4 +1,7 @@
 -- What the proofs of several functions, and the layers above, use.
 pub mod Either
+pub mod Elems
 pub mod Shares
 pub mod Fill
+pub mod Bounds
+pub mod Listed

@@ -1,0 +1,1 @@
+-- The list of size records by node numbers. Assumes nothing.
