@@ -19,9 +19,13 @@ module _ {ℓ} {A : Type ℓ} where
   elem-back (x ∷ xs) ys i zero h = absurd (omega arith)
   elem-back (x ∷ xs) ys i (suc j) h = elem-back xs ys i j (omega arith)
 
+  -- an empty list has none
+  pub elem-none {κ} : {X : Type κ} (i : ℕ) (x : A) → getElem? [] i ≡ some x → X
+  elem-none i x e = absurd (let z : _≡_ {A = ℕ} 0 1 = cc in omega arith)
+
   -- an entry is there
   pub elem-in : (xs : List A) (i : ℕ) (x : A) → getElem? xs i ≡ some x → i < length xs
-  elem-in [] i x e = absurd (let z : _≡_ {A = ℕ} 0 1 = cc in omega arith)
+  elem-in [] i x e = elem-none i x e
   elem-in (y ∷ xs) zero x e = omega arith
   elem-in (y ∷ xs) (suc i) x e = omega (arith, elem-in xs i x e)
 
@@ -32,3 +36,8 @@ module _ {ℓ} {A : Type ℓ} where
       either (suc i) (length xs)
       (λ h. f (sym (elem-front xs ys i h) ∙ e))
       (λ h. let d : i ≡ length xs + (i - length xs) = omega arith in g (i - length xs) d (sym (elem-back xs ys (i - length xs) i d) ∙ e))
+
+  -- an entry is the first, or one of the others
+  pub elem-first {κ} : {X : Type κ} (y : A) (xs : List A) (i : ℕ) (x : A) → getElem? (y ∷ xs) i ≡ some x → (y ≡ x → X) → ((j : ℕ) → i ≡ suc j → getElem? xs j ≡ some x → X) → X
+  elem-first y xs zero x e f g = f (cc)
+  elem-first y xs (suc i) x e f g = g i refl e

@@ -4,4 +4,6 @@ pub mod Elems
 pub mod Shares
 pub mod Fill
 pub mod Bounds
+pub mod Within
+pub mod Limits
 pub mod Listed
