@@ -1,3 +1,5 @@
 -- What the proofs of several functions, and the layers above, use.
 pub mod Named
 pub mod Lists
+pub mod Reach
+pub mod Cuts

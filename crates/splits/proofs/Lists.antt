@@ -1,14 +1,20 @@
--- Lists padded with zeros. Assumes nothing.
+-- Lists padded with zeros, and the cut of one. Assumes nothing.
 use mathlib.Core.Path.{_≡_, refl, sym, ap, _∙_}
 use mathlib.Core.List.{List, [], _∷_, _++_, append-assoc}
+use mathlib.Core.Bool.{Bool, true, false}
 use Prim.Native.Nat.{ℕ, suc, _+_, _-_, _≤_, _<_}
 use native.Mathlib.Numerals.{add-one}
 use native.Mathlib.Omega.{arith}
-use lib.ListN.{length, take, getD, set, replicate, length-append}
-use lib.Seq.{take-suc, set-at, take-append-seam, length-take-le}
+use lib.ListN.{length, take, drop, getD, set, replicate, length-append, length-drop}
+use lib.Seq.{take-suc, take-add, drop-cons, drop-at, getD-drop, set-at, take-append-seam, length-take-le}
+use lib.Dec.{ltb, eqb}
+use borrow.Author.Tests.{le-leb}
 use Rattle.common.specs.Arrays.{padded}
+use Rattle.common.specs.Choice.{pick}
 use Rattle.splits.specs.declared.SplitList.{SplitList}
+use Rattle.splits.specs.Splits.{Reached, took, reach, Cut, closed, shortSplits3}
 use Rattle.splits.specs.Lists.{listOf, splitList}
+use Rattle.splits.specs.Cuts.{cutOf}
 
 -- ---- a padded list is its pieces
 
@@ -33,8 +39,60 @@ padded-snoc l n v e h =
     let k : length (l ++ (v ∷ [])) ≡ suc (length l) = length-append l (v ∷ []) ∙ add-one (length l) in
     rw (z, k, append-assoc l (v ∷ []) (replicate (512 - suc (length l)) 0)) (set-at l 0 (replicate (512 - suc (length l)) 0) v n e)
 
--- after the n numbers of p, number i of l
-pub store : (p l : List ℕ) (n i : ℕ) → length p ≡ n → i < length l → n + i < 512 → set (padded (p ++ take i l)) (n + i) (getD l i 0) ≡ padded (p ++ take (i + 1) l)
-store p l n i e h b =
-    let k : length (p ++ take i l) ≡ n + i = rw (length-append p (take i l), e, length-take-le i l (omega arith)) in
-    rw (add-one i, take-suc l i 0 h, ← append-assoc p (take i l) (getD l i 0 ∷ [])) (padded-snoc (p ++ take i l) (n + i) (getD l i 0) k b)
+-- after the numbers of p and i of l, number i of l
+pub store : (p l : List ℕ) (i n : ℕ) → length (p ++ take i l) ≡ n → i < length l → n < 512 → set (padded (p ++ take i l)) n (getD l i 0) ≡ padded (p ++ take (i + 1) l)
+store p l i n e h b = rw (add-one i, take-suc l i 0 h, ← append-assoc p (take i l) (getD l i 0 ∷ [])) (padded-snoc (p ++ take i l) n (getD l i 0) e b)
+
+-- after the first `from` of n numbers
+pub rest-is : (s : List ℕ) (from n : ℕ) → from ≤ n → n ≤ length s → drop from (take n s) ≡ take (n - from) (drop from s)
+rest-is s from n h b =
+    let e : n ≡ from + (n - from) = omega arith in
+    ap (λ (m : ℕ). drop from (take m s)) e ∙ ap (drop from) (take-add from (n - from) s) ∙ drop-at (take from s) (take (n - from) (drop from s)) from (length-take-le from s (omega arith))
+
+pub store-rest : (s : List ℕ) (from i : ℕ) → from + i < length s → i < 512 → set (padded (take i (drop from s))) i (getD s (from + i) 0) ≡ padded (take (i + 1) (drop from s))
+store-rest s from i h b =
+    let l : length (drop from s) ≡ length s - from = length-drop from s in
+    rw (← getD-drop from s i 0) (store [] (drop from s) i i (length-take-le i (drop from s) (omega arith)) (omega arith) b)
+
+-- the first of the rest stored anew
+pub store-first : (l : List ℕ) (from v : ℕ) (x : SplitList) → from < length l → x ≡ splitList (drop from l)
+    → _≡_ {A = SplitList} (record { pieces = set (x .pieces) 0 v; count = x .count }) (splitList (v ∷ drop (from + 1) l))
+store-first l from v x h e = rw (e, add-one from, drop-cons l from 0 h)
+
+-- ---- the cut of a padded list
+
+pub cut-is : (x : SplitList) (l : List ℕ) (w : ℕ) → x ≡ splitList l → length l ≤ 512
+    → cutOf x w ≡ record { number = 0; split = shortSplits3 l w .split; taken = splitList (shortSplits3 l w .taken); left = splitList (shortSplits3 l w .left) }
+unfolding cutOf
+cut-is x l w e few = rw (e, le-leb (length l) 512 few, list-of l)
+
+-- what is taken and what is left is no longer than the list
+
+took-few : (b : Bool) (p q pos : ℕ) (ps : List ℕ) (k : Reached) → length (k .taken) + length (k .left) ≡ length ps
+    → let j : Reached = pick b (took p q k) (record { taken = []; positions = []; left = p ∷ ps; pos = pos }) in length (j .taken) + length (j .left) ≡ suc (length ps)
+unfolding took
+took-few true p q pos ps k e = omega arith
+took-few false p q pos ps k e = omega arith
+
+reach-few : (step w : ℕ) (l : List ℕ) (pos : ℕ) → length (reach step w l pos .taken) + length (reach step w l pos .left) ≡ length l
+unfolding reach
+reach-few step w [] pos = omega arith
+reach-few step w (p ∷ ps) pos = took-few (ltb (pos + p) w) p (pos + (p + step)) pos ps (reach step w ps (pos + (p + step))) (reach-few step w ps (pos + (p + step)))
+
+short-few : (b : Bool) (taken ps : List ℕ) (r : ℕ) → let k : Cut = pick b (record { split = true; taken = taken; left = ps }) (record { split = false; taken = taken; left = r ∷ ps }) in
+    (length (k .taken) ≤ length taken) × (length (k .left) ≤ suc (length ps))
+short-few true taken ps r = (omega arith, omega arith)
+short-few false taken ps r = (omega arith, omega arith)
+
+closed-few : (w : ℕ) (taken left : List ℕ) (pos : ℕ) → (length (closed w taken left pos .taken) ≤ length taken) × (length (closed w taken left pos .left) ≤ length left)
+unfolding closed
+closed-few w taken [] pos = (omega arith, omega arith)
+closed-few w taken (p ∷ ps) pos = short-few (eqb (p - (w - pos)) 0) taken ps (p - (w - pos) - 1)
+
+pub cut-few : (l : List ℕ) (w : ℕ) → (length (shortSplits3 l w .taken) ≤ length l) × (length (shortSplits3 l w .left) ≤ length l)
+unfolding shortSplits3
+cut-few l w =
+    let k = reach 1 w l 0 in
+    let f = closed-few w (k .taken) (k .left) (k .pos) in
+    let e = reach-few 1 w l 0 in
+    (omega arith, omega arith)

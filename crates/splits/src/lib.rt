@@ -4,11 +4,22 @@ ghost use Prim.Native.Nat.{_+_, _≤_};
 ghost use mathlib.Core.List.{[], _∷_, _++_};
 ghost use Rattle.common.specs.Arrays.{padded};
 ghost use Rattle.splits.specs.Lists.{listOf, splitList};
+ghost use Rattle.splits.specs.Cuts.{refusedCut, cutOf};
+
+mod cut;
 
 // Up to 512 pieces by value; the list is the first `count` entries.
 pub struct SplitList {
     pub pieces: [u16; 512],
     pub count: usize,
+}
+
+// The answer of `short_splits3`: its number, yes or no, the pieces taken, the list left.
+pub struct CutParts {
+    pub number: u8,
+    pub split: bool,
+    pub taken: SplitList,
+    pub left: SplitList,
 }
 
 // A leaf gives back its width and its height as lists of one piece.
@@ -51,4 +62,28 @@ pub fn append(a: SplitList, b: SplitList) -> SplitList
         pieces: out,
         count: n + m,
     }
+}
+
+fn refused_cut() -> CutParts
+    ensures { λ r. ⌜ r ≡ refusedCut ⌝ }
+{
+    let taken = no_pieces();
+    let left = no_pieces();
+    CutParts {
+        number: 10,
+        split: false,
+        taken: taken,
+        left: left,
+    }
+}
+
+// `short_splits3`, by value.
+pub fn short_splits3(list: SplitList, w: u16) -> CutParts
+    ensures { λ r. ⌜ r ≡ cutOf list w ⌝ }
+{
+    if 512 < list.count {
+        return refused_cut();
+    }
+    let k = cut::take_pieces(list, w);
+    cut::close_cut(list, w, k)
 }

@@ -49,7 +49,8 @@ loop-again c =
     let k = c .before .loop in
     let long : length (a .a .pieces) ≡ 512 = search needs in
     let long₂ : length (a .b .pieces) ≡ 512 = search needs in
-    (omega arith, rw (k .inv .1) (store (listOf (a .a)) (a .b .pieces) (a .a .count) (k .i) (length-take-le _ _ (omega arith)) (omega arith) (omega arith)))
+    let l : length (listOf (a .a) ++ take (k .i) (a .b .pieces)) ≡ a .a .count + k .i = rw (length-append, length-take-le (a .a .count) (a .a .pieces) (omega arith), length-take-le (k .i) (a .b .pieces) (omega arith)) in
+    (omega arith, rw (k .inv .1) (store (listOf (a .a)) (a .b .pieces) (k .i) (a .a .count + k .i) l (omega arith) (omega arith)))
 
 add-t18 : tie.Need-add-t18 Inv-loop μ-loop
 add-t18 c = search needs
