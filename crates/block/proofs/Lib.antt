@@ -7,3 +7,4 @@ pub mod Feeds
 pub mod Text
 pub mod Dims
 pub mod Places
+pub mod NoFeed

@@ -1,0 +1,181 @@
+-- No line of a block holds a 0A, so that the lines joined by 0A are parted into the same lines again. Assumes nothing.
+use mathlib.Core.Path.{_≡_, refl, ap, _∙_}
+use mathlib.Core.Logic.{_≢_}
+use Prim.Native.Nat.{ℕ, zero, suc, _-_}
+use native.Mathlib.Omega.{arith}
+use mathlib.Core.Bool.{Bool, true, false, not}
+use mathlib.Core.List.{List, [], _∷_, _++_, map}
+use lib.ListN.{length, getD, replicate}
+use lib.Dec.{eqb}
+use borrow.Author.Tests.{ne-eqb, eqb-false}
+use Rattle.common.specs.Choice.{pick, both}
+use Rattle.settings.specs.declared.Settings.{Settings}
+use Rattle.splits.specs.Splits.{named}
+use Rattle.sizes.specs.declared.Size.{Size}
+use Rattle.sizes.specs.Text.{onto, lines, textWidth, textHeight}
+use Rattle.block.specs.declared.Flags.{Flags}
+use Rattle.block.specs.Content.{paired, column, mem, ruled, feeds}
+use Rattle.block.specs.Block.{Leaf, mark, topLeft, topRight, bottomLeft, edge, before, indent, textLine, body, topLine, middle, bottomLine, framed, block}
+
+-- no byte is 0A
+pub data Free : List ℕ → Type 0 where
+  none : Free []
+  more : {b : ℕ} {l : List ℕ} → b ≢ 10 → Free l → Free (b ∷ l)
+
+-- no line holds a 0A
+pub data NoFeed : List (List ℕ) → Type 0 where
+  none : NoFeed []
+  more : {l : List ℕ} {x : List (List ℕ)} → Free l → NoFeed x → NoFeed (l ∷ x)
+
+-- no mark and no fill is 0A: they are hex 20 to 7E
+pub record Plain (s : Settings) : Type 0 where
+  pub marks : (i : ℕ) → getD (s .marks) i 0 ≢ 10
+  pub fills : (i : ℕ) → getD (s .fills) i 0 ≢ 10
+
+-- ---- one line
+
+free-append : {l m : List ℕ} → Free l → Free m → Free (l ++ m)
+free-append none k = k
+free-append (more p h) k = more p (free-append h k)
+
+free-replicate : (n : ℕ) {b : ℕ} → b ≢ 10 → Free (replicate n b)
+free-replicate zero p = none
+free-replicate (suc n) p = more p (free-replicate n p)
+
+free-spaces : (n : ℕ) → Free (replicate n 32)
+free-spaces n = free-replicate n (λ e. omega arith)
+
+free-pick : (c : Bool) {a b : ℕ} → a ≢ 10 → b ≢ 10 → pick c a b ≢ 10
+free-pick true p q = p
+free-pick false p q = q
+
+free-ruled : (ns : List ℕ) {b c : ℕ} (i n : ℕ) → b ≢ 10 → c ≢ 10 → Free (ruled ns b c i n)
+unfolding ruled
+free-ruled ns i zero p q = none
+free-ruled ns i (suc n) p q = more (free-pick (mem i ns) p q) (free-ruled ns (suc i) n p q)
+
+-- ---- contents
+
+free-column : {l : List ℕ} → Free l → NoFeed (column l)
+unfolding column
+free-column none = none
+free-column (more p h) = more (more p none) (free-column h)
+
+pub no-feed-append : {x y : List (List ℕ)} → NoFeed x → NoFeed y → NoFeed (x ++ y)
+no-feed-append none k = k
+no-feed-append (more p h) k = more p (no-feed-append h k)
+
+pub no-feed-paired : {x y : List (List ℕ)} → NoFeed x → NoFeed y → NoFeed (paired x y)
+unfolding paired
+no-feed-paired none k = k
+no-feed-paired (more p h) none = more p h
+no-feed-paired (more p h) (more q k) = more (free-append p q) (no-feed-paired h k)
+
+no-feed-picked : (b : Bool) {x y : List (List ℕ)} → NoFeed x → NoFeed y → NoFeed (pick b x y)
+no-feed-picked true h k = h
+no-feed-picked false h k = k
+
+no-feed-replicate : (n : ℕ) {l : List ℕ} → Free l → NoFeed (replicate n l)
+no-feed-replicate zero p = none
+no-feed-replicate (suc n) p = more p (no-feed-replicate n p)
+
+no-feed-map : (f : List ℕ → List ℕ) → ((l : List ℕ) → Free l → Free (f l)) → {x : List (List ℕ)} → NoFeed x → NoFeed (map f x)
+no-feed-map f g none = none
+no-feed-map f g (more {l = l} p h) = more (g l p) (no-feed-map f g h)
+
+no-feed-lines : (t : List ℕ) → NoFeed (lines t)
+unfolding lines onto
+no-feed-lines [] = more none none
+no-feed-lines (b ∷ t) = go (eqb b 10) (no-feed-lines t) (eqb-false b 10)
+  where
+    go : (c : Bool) {ls : List (List ℕ)} → NoFeed ls → (c ≡ false → b ≢ 10) → NoFeed (pick c ([] ∷ ls) (onto b ls))
+    go true h k = more none h
+    go false none k = more (more (k refl) none) none
+    go false (more p h) k = more (more (k refl) p) h
+
+-- ---- the block
+
+module _ (s : Settings) (p : Plain s) where
+  free-mark : (i : ℕ) → mark s i ≢ 10
+  unfolding mark
+  free-mark i = p .marks i
+
+  free-top-left : (f : Flags) → topLeft s f ≢ 10
+  unfolding topLeft
+  free-top-left f =
+      free-pick (f .«top_intersection») (p .marks 14)
+      (free-pick (f .«top_left») (p .marks 12)
+      (free-pick (f .«lean_top») (p .marks 8)
+      (free-pick (both (f .«first_col») (not (f .«first_row»))) (p .marks 12) (p .marks 6))))
+
+  free-top-right : (f : Flags) → topRight s f ≢ 10
+  unfolding topRight
+  free-top-right f = free-pick (f .«first_row») (p .marks 7) (p .marks 13)
+
+  free-bottom-left : (f : Flags) → bottomLeft s f ≢ 10
+  unfolding bottomLeft
+  free-bottom-left f = free-pick (f .«first_col») (p .marks 9) (p .marks 11)
+
+  free-edge : (b : Bool) {m : ℕ} → m ≢ 10 → Free (edge b m)
+  unfolding edge
+  free-edge b h = free-replicate (pick b 1 0) h
+
+  free-text-line : (inner widest : ℕ) (l : List ℕ) → Free l → Free (textLine s inner widest l)
+  unfolding textLine
+  free-text-line inner widest l h =
+      free-append (free-replicate (s .left) (p .fills 0))
+      (free-append (free-spaces (indent s inner widest l))
+      (free-append h
+      (free-append (free-spaces (inner - length l - indent s inner widest l)) (free-replicate (s .right) (p .fills 1)))))
+
+  no-feed-body : (t : List ℕ) (z : Size) → NoFeed (body s t z)
+  unfolding body
+  no-feed-body t z =
+      let w = z .width in
+      let slack = z .height - s .top - s .bottom - textHeight t in
+      no-feed-append (no-feed-replicate (before (s .vertical) slack) (free-spaces w))
+      (no-feed-append (no-feed-replicate (s .top) (free-replicate w (p .fills 2)))
+      (no-feed-append (no-feed-map (textLine s (w - s .left - s .right) (textWidth t)) (free-text-line (w - s .left - s .right) (textWidth t)) (no-feed-lines t))
+      (no-feed-append (no-feed-replicate (s .bottom) (free-replicate w (p .fills 3))) (no-feed-replicate (slack - before (s .vertical) slack) (free-spaces w)))))
+
+  free-top : (l : Leaf) → Free (topLine s l)
+  unfolding topLine
+  free-top l =
+      more (free-top-left (l .flags))
+      (free-append (free-ruled (named (l .size .width) (l .horizontal)) 0 (l .size .width) (free-mark 11) (free-mark 0)) (free-edge (l .flags .«last_col») (free-top-right (l .flags))))
+
+  no-feed-middle : (l : Leaf) → NoFeed (middle s l)
+  unfolding middle
+  no-feed-middle l =
+      let h = l .size .height in
+      no-feed-paired (free-column (free-ruled (named h (l .vertical)) 0 h (free-mark 13) (free-mark 2)))
+      (no-feed-paired (no-feed-body (l .text) (l .size)) (no-feed-replicate h (free-edge (l .flags .«last_col») (free-mark 3))))
+
+  free-bottom : (l : Leaf) → Free (bottomLine s l)
+  unfolding bottomLine
+  free-bottom l =
+      more (free-bottom-left (l .flags)) (free-append (free-replicate (l .size .width) (free-mark 1)) (free-edge (l .flags .«last_col») (free-mark 10)))
+
+  pub block-no-feed : (l : Leaf) → NoFeed (block s l)
+  unfolding block framed
+  block-no-feed l =
+      no-feed-picked (eqb (l .size .width) 0) none
+      (more (free-top l) (no-feed-append (no-feed-middle l) (no-feed-picked (l .flags .«last_row») (more (free-bottom l) none) none)))
+
+-- ---- parted at each 0A
+
+lines-free : {l : List ℕ} → Free l → lines l ≡ l ∷ []
+unfolding lines onto
+lines-free none = refl
+lines-free (more {b = b} p h) = rw (ne-eqb b 10 p, lines-free h)
+
+lines-next : {l : List ℕ} (t : List ℕ) → Free l → lines (l ++ (10 ∷ t)) ≡ l ∷ lines t
+unfolding lines onto
+lines-next t none = refl
+lines-next t (more {b = b} p h) = rw (ne-eqb b 10 p, lines-next t h)
+
+-- lines without 0A, joined by it and parted at each
+pub lines-feeds : {l : List ℕ} {x : List (List ℕ)} → NoFeed (l ∷ x) → lines (feeds (l ∷ x)) ≡ l ∷ x
+unfolding feeds
+lines-feeds (more p none) = lines-free p
+lines-feeds {l} (more p (more {l = m} {x = x} q h)) = lines-next (feeds (m ∷ x)) p ∙ ap (λ (y : List (List ℕ)). l ∷ y) (lines-feeds (more q h))
