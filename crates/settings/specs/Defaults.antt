@@ -1,0 +1,49 @@
+-- The defaults of 01, "Settings record": marks `--||-|+++++++++`, padding 1 1 0 0, fills space, then 0 0 0 2 2.
+use mathlib.Core.Path.{_≡_, refl}
+use Prim.Native.Nat.{ℕ}
+use mathlib.Core.Bool.{Bool, true, false}
+use mathlib.Core.List.{List, [], _∷_, _++_}
+use lib.ListN.{replicate}
+use Rattle.common.specs.Choice.{pick}
+use Rattle.settings.specs.declared.Settings.{Settings}
+use Rattle.settings.specs.declared.Alignment.{Alignment}
+use Rattle.settings.specs.declared.Priority.{Priority}
+use Rattle.settings.specs.Reading.{Parsed, read, readSettings, within}
+
+abbrev pub defaults : Settings
+defaults = record {
+  marks = 45 ∷ 45 ∷ 124 ∷ 124 ∷ 45 ∷ 124 ∷ replicate 9 43;
+  left = 1;
+  right = 1;
+  top = 0;
+  bottom = 0;
+  fills = replicate 4 32;
+  horizontal = Alignment.Start;
+  vertical = Alignment.Start;
+  «line_mode» = false;
+  «width_priority» = Priority.List;
+  «height_priority» = Priority.List;
+}
+
+-- the numbers that stand for the names
+abbrev pub alignmentNumber : Alignment → ℕ
+alignmentNumber Alignment.Start = 0
+alignmentNumber Alignment.Center = 1
+alignmentNumber Alignment.End = 2
+
+abbrev pub priorityNumber : Priority → ℕ
+priorityNumber Priority.First = 0
+priorityNumber Priority.Last = 1
+priorityNumber Priority.List = 2
+
+-- the 31 bytes of settings
+abbrev pub recordOf : Settings → List ℕ
+recordOf s =
+    16 ∷ 0 ∷ 28 ∷ (s .marks
+    ++ (s .left ∷ s .right ∷ s .top ∷ s .bottom ∷ (s .fills
+    ++ (alignmentNumber (s .horizontal) ∷ alignmentNumber (s .vertical) ∷ pick (s .«line_mode») 1 0
+    ∷ priorityNumber (s .«width_priority») ∷ priorityNumber (s .«height_priority») ∷ []))))
+
+pub defaults-read : readSettings (recordOf defaults) ≡ read defaults
+unfolding readSettings
+defaults-read = refl

@@ -1,0 +1,96 @@
+-- Reading the settings record (document 01, "Settings record"): tag hex 10, two-byte length 28, 28 bytes, each in its own range.
+use Prim.Native.Nat.{ℕ, _≤_, _<_}
+use mathlib.Core.Path.{_≡_}
+use mathlib.Core.Bool.{Bool, true, false}
+use mathlib.Core.List.{List, [], _∷_, _++_}
+use lib.ListN.{length, getD, take, drop, replicate}
+use lib.Dec.{ltb, eqb}
+use Rattle.common.specs.Choice.{pick}
+use Rattle.settings.specs.declared.Settings.{Settings}
+use Rattle.settings.specs.declared.Alignment.{Alignment}
+use Rattle.settings.specs.declared.Priority.{Priority}
+use Rattle.settings.specs.declared.ReadSettings.{ReadSettings}
+
+-- the least and the greatest value of each byte: tag, length, 15 marks, 4 padding sizes, 4 fills, 2 alignments, line mode, 2 priorities
+abbrev pub low : List ℕ
+low = 16 ∷ 0 ∷ 28 ∷ (replicate 15 32 ++ (replicate 4 0 ++ (replicate 4 32 ++ (0 ∷ 0 ∷ 0 ∷ 0 ∷ 0 ∷ []))))
+
+abbrev pub high : List ℕ
+high = 16 ∷ 0 ∷ 28 ∷ (replicate 15 126 ++ (replicate 4 16 ++ (replicate 4 126 ++ (2 ∷ 2 ∷ 1 ∷ 2 ∷ 2 ∷ []))))
+
+-- as many bytes as bounds, each byte from its least to its greatest value
+unfoldable pub within : List ℕ → List ℕ → List ℕ → Bool
+within [] [] [] = true
+within (l ∷ ls) (h ∷ hs) (b ∷ bs) = pick (ltb b l) false (pick (ltb h b) false (within ls hs bs))
+within [] [] (b ∷ bs) = false
+within [] (h ∷ hs) bs = false
+within (l ∷ ls) [] bs = false
+within (l ∷ ls) (h ∷ hs) [] = false
+
+abbrev pub alignmentOf : ℕ → Alignment
+alignmentOf b = pick (eqb b 0) Alignment.Start (pick (eqb b 1) Alignment.Center Alignment.End)
+
+abbrev pub priorityOf : ℕ → Priority
+priorityOf b = pick (eqb b 0) Priority.First (pick (eqb b 1) Priority.Last Priority.List)
+
+-- the fields, from the bytes of the record
+abbrev pub settingsOf : List ℕ → Settings
+settingsOf l = record {
+  marks = take 15 (drop 3 l);
+  left = getD l 18 0;
+  right = getD l 19 0;
+  top = getD l 20 0;
+  bottom = getD l 21 0;
+  fills = take 4 (drop 22 l);
+  horizontal = alignmentOf (getD l 26 0);
+  vertical = alignmentOf (getD l 27 0);
+  «line_mode» = eqb (getD l 28 0) 1;
+  «width_priority» = priorityOf (getD l 29 0);
+  «height_priority» = priorityOf (getD l 30 0);
+}
+
+pub data Parsed : Type 0 where
+  refused : Parsed
+  read : Settings → Parsed
+
+unfoldable pub readSettings : List ℕ → Parsed
+unfolding within
+readSettings l = pick (within low high l) (read (settingsOf l)) refused
+
+-- what a refusal holds: 0 or no everywhere, and the variants numbered 0
+abbrev pub blank : Settings
+blank = record {
+  marks = replicate 15 0;
+  left = 0;
+  right = 0;
+  top = 0;
+  bottom = 0;
+  fills = replicate 4 0;
+  horizontal = Alignment.Start;
+  vertical = Alignment.Start;
+  «line_mode» = false;
+  «width_priority» = Priority.First;
+  «height_priority» = Priority.First;
+}
+
+-- the reader's answer for each
+abbrev pub answerOf : Parsed → ReadSettings
+answerOf refused = record { number = 1; settings = blank }
+answerOf (read s) = record { number = 0; settings = s }
+
+abbrev pub settingsAnswer : List ℕ → ReadSettings
+settingsAnswer l = answerOf (readSettings l)
+
+-- n bytes from hex 20 to 7E
+pub record Printable (n : ℕ) (l : List ℕ) : Type 0 where
+  pub many : length l ≡ n
+  pub each : (i : ℕ) → i < n → (32 ≤ getD l i 0) × (getD l i 0 ≤ 126)
+
+-- the ranges of settings that were read
+pub record Ranges (s : Settings) : Type 0 where
+  pub marks : Printable 15 (s .marks)
+  pub left : s .left ≤ 16
+  pub right : s .right ≤ 16
+  pub top : s .top ≤ 16
+  pub bottom : s .bottom ≤ 16
+  pub fills : Printable 4 (s .fills)
