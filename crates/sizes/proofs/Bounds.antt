@@ -11,7 +11,7 @@ use Rattle.common.specs.Choice.{pick}
 use Rattle.settings.specs.declared.Settings.{Settings}
 use Rattle.tree.specs.Tree.{Axis, across, down, Tree, cell, group, Trees, none, more, empty?, count, nodes, nodes*}
 use Rattle.sizes.specs.declared.Size.{Size}
-use Rattle.sizes.specs.Text.{onto, lines, total, greatest, lineLengths, textWidth, textHeight}
+use Rattle.sizes.specs.Text.{onto, lines, total, greatest, textWidth, textHeight}
 use Rattle.sizes.specs.Sizes.{along, beside, sized, sep, spanned, leafSize, natural, naturals}
 use Rattle.sizes.proofs.Fill.{length-naturals}
 

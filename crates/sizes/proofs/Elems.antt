@@ -38,6 +38,7 @@ module _ {ℓ} {A : Type ℓ} where
       (λ h. let d : i ≡ length xs + (i - length xs) = omega arith in g (i - length xs) d (sym (elem-back xs ys (i - length xs) i d) ∙ e))
 
   -- an entry is the first, or one of the others
-  pub elem-first {κ} : {X : Type κ} (y : A) (xs : List A) (i : ℕ) (x : A) → getElem? (y ∷ xs) i ≡ some x → (y ≡ x → X) → ((j : ℕ) → i ≡ suc j → getElem? xs j ≡ some x → X) → X
-  elem-first y xs zero x e f g = f (cc)
+  pub elem-first {κ} : {X : Type κ} (y : A) (xs : List A) (i : ℕ) (x : A) → getElem? (y ∷ xs) i ≡ some x
+      → (i ≡ 0 → y ≡ x → X) → ((j : ℕ) → i ≡ suc j → getElem? xs j ≡ some x → X) → X
+  elem-first y xs zero x e f g = f refl (cc)
   elem-first y xs (suc i) x e f g = g i refl e

@@ -5,5 +5,6 @@ pub mod Shares
 pub mod Fill
 pub mod Bounds
 pub mod Within
+pub mod Nodes
 pub mod Limits
 pub mod Listed

@@ -1,18 +1,17 @@
 -- 01's limits on bytes, nodes and padding keep every size record in 16 bits. Assumes nothing.
-use mathlib.Core.Path.{_≡_, ap, sym, _∙_}
-use Prim.Native.Nat.{ℕ, _+_, _-_, _*_, _≤_, _<_, min}
+use mathlib.Core.Path.{_≡_, ap}
+use Prim.Native.Nat.{ℕ, _+_, _*_, _≤_, _<_}
 use native.Mathlib.Omega.{arith}
 use mathlib.Core.Option.{some}
 use mathlib.Core.List.{List}
-use lib.ListN.{length, getElem?, take, drop, length-take, length-drop}
+use lib.ListN.{length, getElem?, drop, length-take, length-drop}
 use Rattle.settings.specs.declared.Settings.{Settings}
 use Rattle.tree.specs.Tree.{Axis, across, down, Tree, cell, group, Trees, none, more, nodes, nodes*}
 use Rattle.tree.specs.Bytes.{Is, Are, lengthAt, contents}
 use Rattle.tree.proofs.Fronts.{is-whole}
-use Rattle.sizes.specs.declared.Size.{Size}
 use Rattle.sizes.specs.Sizes.{along, sep, natural, Sizes, treeSizes}
 use Rattle.sizes.proofs.Bounds.{bytes, bytes*, each, natural-16}
-use Rattle.sizes.proofs.Within.{Within, sizes-within}
+use Rattle.sizes.proofs.Within.{sizes-within}
 
 -- ---- the statement
 

@@ -1,16 +1,16 @@
 -- The size records of a tree: one for each node, none larger than the root's. Assumes nothing.
 use mathlib.Core.Path.{_≡_, refl, ap}
-use Prim.Native.Nat.{ℕ, zero, suc, _+_, _-_, _*_, _≤_, _<_}
+use Prim.Native.Nat.{ℕ, suc, _≤_}
 use native.Mathlib.Nat.{le-refl}
 use native.Mathlib.Omega.{arith}
 use mathlib.Core.Option.{some}
-use mathlib.Core.List.{List, [], _∷_, _++_, map}
+use mathlib.Core.List.{[], map}
 use lib.ListN.{length, getElem?, length-append}
 use Rattle.settings.specs.declared.Settings.{Settings}
-use Rattle.tree.specs.Tree.{Axis, across, down, Tree, cell, group, Trees, none, more, empty?, count, nodes, nodes*}
+use Rattle.tree.specs.Tree.{Axis, across, down, Tree, cell, group, Trees, none, more, count, nodes, nodes*}
 use Rattle.sizes.specs.declared.Size.{Size}
 use Rattle.sizes.specs.Text.{total, greatest}
-use Rattle.sizes.specs.Sizes.{Fits, along, beside, sized, sep, natural, naturals, allot, spareOf, childSize, Sizes, sizes, sizes*, treeSizes}
+use Rattle.sizes.specs.Sizes.{Fits, along, beside, sized, natural, naturals, allot, spareOf, childSize, Sizes, sizes, sizes*, treeSizes}
 use Rattle.sizes.proofs.Elems.{elem-none, elem-first, elem-cases}
 use Rattle.sizes.proofs.Fill.{extents, fits-refl, group-beside, group-fills, child-fits}
 
@@ -64,9 +64,9 @@ mutual
   unfolding sizes extents total naturals greatest
 
   pub within : (s : Settings) (t : Tree) (z : Size) → Fits (natural s t) z → (k : ℕ) (y : Sizes) → getElem? (sizes s t z) k ≡ some y → Within z y
-  within s (cell t) z f k y e = elem-first _ [] k y e (within-self s (cell t) z y f) (λ j d. elem-none j y)
+  within s (cell t) z f k y e = elem-first _ [] k y e (λ d. within-self s (cell t) z y f) (λ j d. elem-none j y)
   within s (group a ts) z f k y e =
-      elem-first _ (sizes* s ts a z (spareOf s a ts z) (count ts) 0) k y e (within-self s (group a ts) z y f)
+      elem-first _ (sizes* s ts a z (spareOf s a ts z) (count ts) 0) k y e (λ d. within-self s (group a ts) z y f)
       (λ j d l. within* s ts a z (spareOf s a ts z) (count ts) 0 (group-beside s a ts f) (extents-within s a ts z f) j y l)
 
   within* : (s : Settings) (ts : Trees) (a : Axis) (z : Size) (spare n i : ℕ) → greatest (map (beside a) (naturals s ts)) ≤ beside a z → total (extents s a spare n i ts) ≤ along a z
