@@ -8,3 +8,5 @@ pub mod Within
 pub mod Nodes
 pub mod Limits
 pub mod Listed
+pub mod Parts
+pub mod Lines

@@ -1,2 +1,4 @@
 pub mod Text
 pub mod Sizes
+pub mod Measuring
+pub mod Sharing

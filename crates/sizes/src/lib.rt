@@ -1,4 +1,6 @@
 // Natural and allotted sizes of a tree's nodes.
+pub mod sharing;
+pub mod text;
 
 // The columns and lines inside a node's marks: `Dim`.
 pub struct Size {
