@@ -8,23 +8,31 @@ use lib.ListN.{length, take, drop, getD}
 use Rattle.common.specs.Choice.{pick}
 use Rattle.splits.specs.declared.SplitList.{SplitList}
 use Rattle.splits.specs.declared.CutParts.{CutParts}
+use Rattle.splits.specs.declared.ShortParts.{ShortParts}
+use Rattle.splits.specs.declared.Positions.{Positions}
 use Rattle.splits.specs.declared.cut.Taken.{Taken}
-use Rattle.splits.specs.Splits.{Reached, reach, Cut, shortSplits3}
-use Rattle.splits.specs.Lists.{listOf, splitList}
+use Rattle.splits.specs.declared.short.Listed.{Listed}
+use Rattle.splits.specs.Splits.{reach, Cut, shortSplits3, Short, shortSplits}
+use Rattle.splits.specs.Lists.{listOf, splitList, positionList}
 
--- the loop of a cut has left l's entry `at` and those after it, at position `pos`
-pub record Stops (step w : ℕ) (l : List ℕ) (at pos : ℕ) : Type 0 where
-  pub within : at ≤ length l
+-- over the first n of s, the loop of a cut stops before entry `at`, at position `pos`
+pub record Stops (step w n : ℕ) (s : List ℕ) (at pos : ℕ) : Type 0 where
+  pub within : at ≤ n
   pub low : pos ≤ w
-  pub high : at < length l → w ≤ pos + getD l at 0
-  pub taken : reach step w l 0 .taken ≡ take at l
-  pub left : reach step w l 0 .left ≡ drop at l
-  pub reached : reach step w l 0 .pos ≡ pos
+  pub high : at < n → w ≤ pos + getD s at 0
+  pub taken : reach step w (take n s) 0 .taken ≡ take at (take n s)
+  pub left : reach step w (take n s) 0 .left ≡ drop at (take n s)
+  pub reached : reach step w (take n s) 0 .pos ≡ pos
 
 -- what the loop of `short_splits3` answers
-pub record Took (w : ℕ) (l : List ℕ) (r : Taken) : Type 0 where
-  pub stops : Stops 1 w l (r .list .count) (r .pos)
-  pub list : r .list ≡ splitList (take (r .list .count) l)
+pub record Took (w : ℕ) (list : SplitList) (r : Taken) : Type 0 where
+  pub stops : Stops 1 w (list .count) (list .pieces) (r .list .count) (r .pos)
+  pub taken : r .list ≡ splitList (reach 1 w (listOf list) 0 .taken)
+
+-- what the loop of `short_splits` answers
+pub record Told (w : ℕ) (list : SplitList) (r : Listed) : Type 0 where
+  pub stops : Stops 0 w (list .count) (list .pieces) (r .positions .count) (r .pos)
+  pub listed : r .positions ≡ positionList (reach 0 w (listOf list) 0 .positions)
 
 abbrev pub answered : Cut → CutParts
 answered k = record { number = 0; split = k .split; taken = splitList (k .taken); left = splitList (k .left) }
@@ -36,3 +44,18 @@ refusedCut = record { number = 10; split = false; taken = splitList []; left = s
 -- `short_splits3`: 10 where the count is over 512
 unfoldable pub cutOf : SplitList → ℕ → CutParts
 cutOf list w = pick (leb (list .count) 512) (answered (shortSplits3 (listOf list) w)) refusedCut
+
+abbrev pub answeredShort : Short → ShortParts
+answeredShort k = record { number = 0; positions = positionList (k .positions); left = splitList (k .left) }
+
+abbrev pub refusedShort : ShortParts
+refusedShort = record { number = 10; positions = positionList []; left = splitList [] }
+
+-- `short_splits`: 10 where the count is over 512
+unfoldable pub shortOf : SplitList → ℕ → ShortParts
+shortOf list w = pick (leb (list .count) 512) (answeredShort (shortSplits (listOf list) w)) refusedShort
+
+-- positions to which an index below 512 can be added
+pub record Small (p : Positions) : Type 0 where
+  pub few : p .count ≤ 512
+  pub each : (i : ℕ) → i < p .count → getD (p .entries) i 0 < 65536

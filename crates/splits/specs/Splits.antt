@@ -1,5 +1,5 @@
 -- Split lists over lists of numbers: `short_splits3`, `short_splits` and `squash_splits` (document 01, "Split lists").
-use Prim.Native.Nat.{ℕ, suc, _+_, _-_}
+use Prim.Native.Nat.{ℕ, suc, _+_, _-_, _≤_}
 use lib.Dec.{ltb, eqb}
 use mathlib.Core.Bool.{Bool, true, false}
 use mathlib.Core.List.{List, [], _∷_}
@@ -66,3 +66,13 @@ squashSplits i (n ∷ ns) = (n + i) ∷ squashSplits (suc i) ns
 unfoldable pub named : ℕ → List ℕ → List ℕ
 unfolding shortSplits squashSplits
 named w l = squashSplits 0 (shortSplits l w .positions)
+
+-- is the line, or the column, n named?
+unfoldable pub isNamed : ℕ → List ℕ → Bool
+isNamed n [] = false
+isNamed n (m ∷ ms) = pick (eqb n m) true (isNamed n ms)
+
+-- each place is greater than the one before it, and none is less than b
+unfoldable pub Rises : ℕ → List ℕ → Type 0
+Rises b [] = Unit {0}
+Rises b (m ∷ ms) = (b ≤ m) × Rises (suc m) ms

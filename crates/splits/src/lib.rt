@@ -4,9 +4,11 @@ ghost use Prim.Native.Nat.{_+_, _≤_};
 ghost use mathlib.Core.List.{[], _∷_, _++_};
 ghost use Rattle.common.specs.Arrays.{padded};
 ghost use Rattle.splits.specs.Lists.{listOf, splitList};
-ghost use Rattle.splits.specs.Cuts.{refusedCut, cutOf};
+ghost use Rattle.splits.specs.Cuts.{refusedCut, cutOf, refusedShort, shortOf};
 
 mod cut;
+mod part;
+mod short;
 
 // Up to 512 pieces by value; the list is the first `count` entries.
 pub struct SplitList {
@@ -19,6 +21,19 @@ pub struct CutParts {
     pub number: u8,
     pub split: bool,
     pub taken: SplitList,
+    pub left: SplitList,
+}
+
+// Up to 512 positions by value, as pieces are.
+pub struct Positions {
+    pub entries: [u32; 512],
+    pub count: usize,
+}
+
+// The answer of `short_splits`: its number, the positions, the list left.
+pub struct ShortParts {
+    pub number: u8,
+    pub positions: Positions,
     pub left: SplitList,
 }
 
@@ -86,4 +101,37 @@ pub fn short_splits3(list: SplitList, w: u16) -> CutParts
     }
     let k = cut::take_pieces(list, w);
     cut::close_cut(list, w, k)
+}
+
+fn refused_short() -> ShortParts
+    ensures { λ r. ⌜ r ≡ refusedShort ⌝ }
+{
+    let entries = [0u32; 512];
+    let positions = Positions {
+        entries: entries,
+        count: 0,
+    };
+    let left = no_pieces();
+    ShortParts {
+        number: 10,
+        positions: positions,
+        left: left,
+    }
+}
+
+// `short_splits`, by value; a first piece left that becomes 0 stays.
+pub fn short_splits(list: SplitList, w: u16) -> ShortParts
+    ensures { λ r. ⌜ r ≡ shortOf list w ⌝ }
+{
+    if 512 < list.count {
+        return refused_short();
+    }
+    let k = short::list_positions(list, w);
+    let positions = k.positions;
+    let left = short::lessened(list, positions.count, w as u32 - k.pos);
+    ShortParts {
+        number: 0,
+        positions: positions,
+        left: left,
+    }
 }

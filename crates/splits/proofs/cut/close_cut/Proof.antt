@@ -1,15 +1,10 @@
 use mathlib.Core.Path.{_≡_}
-use mathlib.Core.Bool.{true, false}
-use mathlib.Core.List.{[], _∷_}
-use Prim.Native.Nat.{_+_, _-_}
 use native.Mathlib.Omega.{arith}
+use borrow.Author.Needs.{needs}
 use mir.Val.{Fits}
 use mir.Syntax.{w16}
-use lib.ListN.{length, take, drop, getD}
-use lib.Seq.{length-take-le, getD-take}
-use Rattle.splits.specs.Lists.{listOf}
-use Rattle.splits.proofs.Cuts.{cut-none, cut-yes, cut-no, answer-is}
-use borrow.Author.Needs.{needs}
+use lib.ListN.{length, getD}
+use Rattle.splits.proofs.Cuts.{cut-none, cut-yes, cut-no}
 use Rattle.splits.proofs.cut.close_cut.Statement.{statement}
 use Rattle.splits.proofs.cut.close_cut.Tie as tie
 
@@ -19,11 +14,8 @@ no-pieces-requires c κs = search needs
 returns : tie.Need-returns
 returns c =
     let a = c .before .before .before .before .args in
-    let l = listOf (a .list) in
-    let n = a .k .list .count in
     let long : length (a .list .pieces) ≡ 512 = search needs in
-    let len : length l ≡ a .list .count = length-take-le (a .list .count) (a .list .pieces) (omega arith) in
-    rw (cut-none (a .w) l n (a .k .pos) (c .before .before .before .before .pre .1 .stops) (omega arith)) (answer-is (record { split = false; taken = take n l; left = [] }) (c .before .before .before .before .pre .1 .list) (c .no-pieces .ensures))
+    cut-none (a .w) (a .list) (omega arith) (c .before .before .before .before .pre .1 .stops) (c .before .before .before .before .pre .1 .taken) (c .no-pieces .ensures) (omega arith)
 
 mul-short : tie.Need-mul-short
 mul-short c = search needs
@@ -38,14 +30,7 @@ sub-short : tie.Need-sub-short
 sub-short c = search needs
 
 sub-short-2 : tie.Need-sub-short-2
-sub-short-2 c =
-    let a = c .before .before .before .before .before .args in
-    let l = listOf (a .list) in
-    let n = a .k .list .count in
-    let long : length (a .list .pieces) ≡ 512 = search needs in
-    let len : length l ≡ a .list .count = length-take-le (a .list .count) (a .list .pieces) (omega arith) in
-    let here : getD l n 0 ≡ getD (a .list .pieces) n 0 = getD-take (a .list .count) (a .list .pieces) n 0 (omega arith) in
-    omega (arith, c .before .before .before .before .before .pre .1 .stops .high (omega arith))
+sub-short-2 c = omega (arith, c .before .before .before .before .before .pre .1 .stops .high (omega arith))
 
 add-rest : tie.Need-add-rest
 add-rest c = search needs
@@ -56,12 +41,8 @@ rest-requires c κs = search needs
 returns-2 : tie.Need-returns-2
 returns-2 c =
     let a = c .before .before .before .before .before .before .before .args in
-    let l = listOf (a .list) in
-    let n = a .k .list .count in
     let long : length (a .list .pieces) ≡ 512 = search needs in
-    let len : length l ≡ a .list .count = length-take-le (a .list .count) (a .list .pieces) (omega arith) in
-    let here : getD l n 0 ≡ getD (a .list .pieces) n 0 = getD-take (a .list .count) (a .list .pieces) n 0 (omega arith) in
-    rw (cut-yes (a .w) l n (a .k .pos) (c .before .before .before .before .before .before .before .pre .1 .stops) (omega arith) (omega arith)) (answer-is (record { split = true; taken = take n l; left = drop (n + 1) l }) (c .before .before .before .before .before .before .before .pre .1 .list) (c .rest .ensures))
+    cut-yes (a .w) (a .list) (omega arith) (c .before .before .before .before .before .before .before .pre .1 .stops) (c .before .before .before .before .before .before .before .pre .1 .taken) (c .rest .ensures) (omega arith) (omega arith)
 
 sub-shortened : tie.Need-sub-shortened
 sub-shortened c = search needs
@@ -77,13 +58,8 @@ shortened-requires c κs = search needs
 returns-3 : tie.Need-returns-3
 returns-3 c =
     let a = c .before .before .before .before .before .before .before .args in
-    let l = listOf (a .list) in
-    let n = a .k .list .count in
     let long : length (a .list .pieces) ≡ 512 = search needs in
-    let len : length l ≡ a .list .count = length-take-le (a .list .count) (a .list .pieces) (omega arith) in
-    let here : getD l n 0 ≡ getD (a .list .pieces) n 0 = getD-take (a .list .count) (a .list .pieces) n 0 (omega arith) in
-    rw (cut-no (a .w) l n (a .k .pos) (c .before .before .before .before .before .before .before .pre .1 .stops) (omega arith) (λ z. omega arith), here)
-    (answer-is (record { split = false; taken = take n l; left = (getD (a .list .pieces) n 0 - (a .w - a .k .pos) - 1) ∷ drop (n + 1) l }) (c .before .before .before .before .before .before .before .pre .1 .list) (c .shortened .ensures))
+    cut-no (a .w) (a .list) (omega arith) (c .before .before .before .before .before .before .before .pre .1 .stops) (c .before .before .before .before .before .before .before .pre .1 .taken) (c .shortened .ensures) (omega arith) (λ z. omega arith)
 
 pub close-cut-spec : {M : Type 1} → statement M
 close-cut-spec =

@@ -1,27 +1,23 @@
-use mathlib.Core.Path.{_≡_, refl, ap, _∙_, sym}
-use mathlib.Core.List.{List, []}
-use Prim.Native.Nat.{ℕ, _+_, _-_, _≤_}
+use mathlib.Core.Path.{_≡_}
+use Prim.Native.Nat.{_-_}
 use native.Mathlib.Omega.{arith}
 use borrow.Author.Needs.{needs}
 use mir.Val.{Fits}
 use mir.Syntax.{w16}
-use lib.ListN.{length, take, drop, getD}
-use lib.Seq.{length-take-le, getD-take}
+use lib.ListN.{length, take, getD}
 use Rattle.common.specs.Arrays.{padded}
-use Rattle.splits.specs.Lists.{listOf}
-use Rattle.splits.proofs.Lists.{split-list, store}
-use Rattle.splits.proofs.Reach.{Goes, goes-first, goes-on, goes-stops}
+use Rattle.splits.proofs.Reach.{Goes, goes-first, goes-on, goes-stops, stores, stored}
 use Rattle.splits.proofs.cut.take_pieces.Statement.{statement}
 use Rattle.splits.proofs.cut.take_pieces.Tie as tie
 
 abbrev Inv-loop : tie.InvT-loop
-Inv-loop w n s end out₀ i₀ pos₀ out i pos = (end ≡ w) × ((out ≡ padded (take i (take n s))) × Goes 1 w (take n s) i pos)
+Inv-loop w n s end out₀ i₀ pos₀ out i pos = (end ≡ w) × ((out ≡ padded (take i (take n s))) × Goes 1 w n s i pos)
 
 abbrev μ-loop : tie.MeasureT-loop
 μ-loop w n s end out₀ i₀ pos₀ out i pos = n - i
 
 loop-holds : tie.Need-loop-holds Inv-loop μ-loop
-loop-holds c = search needs
+loop-holds c = (search needs, (search needs, goes-first _ _ _ _))
 
 mul-piece : tie.Need-mul-piece Inv-loop μ-loop
 mul-piece c = search needs
@@ -40,12 +36,10 @@ add-next c =
 returns : tie.Need-returns Inv-loop μ-loop
 returns c =
     let a = c .before .before .before .before .args in
-    let k = c .before .before .loop in
-    let l = listOf (a .list) in
     let long : length (a .list .pieces) ≡ 512 = search needs in
-    let len : length l ≡ a .list .count = length-take-le (a .list .count) (a .list .pieces) (omega arith) in
-    let here : getD l (k .i) 0 ≡ getD (a .list .pieces) (k .i) 0 = getD-take (a .list .count) (a .list .pieces) (k .i) 0 (omega arith) in
-    record { stops = goes-stops 1 (a .w) l (k .i) (k .pos) (λ _. omega arith) (k .inv .1 .1); list = split-list (take (k .i) l) (k .inv .1 .0) (length-take-le (k .i) l (omega arith)) }
+    let k = c .before .before .loop in
+    let at = goes-stops 1 (a .w) (a .list .count) (a .list .pieces) (omega arith) (k .i) (k .pos) (k .inv .1 .1) (λ _. omega arith) in
+    record { stops = at; taken = stored (a .w) (a .list .count) (a .list .pieces) (omega arith) (omega arith) (k .i) (k .inv .1 .0) at }
 
 mul-out : tie.Need-mul-out Inv-loop μ-loop
 mul-out c = search needs
@@ -65,21 +59,17 @@ loop-less c = search needs
 loop-again : tie.Need-loop-again Inv-loop μ-loop
 loop-again c =
     let a = c .before .before .before .before .args in
-    let k = c .before .before .loop in
-    let l = listOf (a .list) in
     let long : length (a .list .pieces) ≡ 512 = search needs in
-    let len : length l ≡ a .list .count = length-take-le (a .list .count) (a .list .pieces) (omega arith) in
-    let here : getD l (k .i) 0 ≡ getD (a .list .pieces) (k .i) 0 = getD-take (a .list .count) (a .list .pieces) (k .i) 0 (omega arith) in
-    (k .inv .0, (rw (k .inv .1 .0, ← here) (store [] l (k .i) (k .i) (length-take-le (k .i) l (omega arith)) (omega arith) (omega arith)), goes-on 1 (a .w) l (k .i) (k .pos) _ (omega arith) (omega arith) (omega arith) (omega arith) (k .inv .1 .1)))
+    let k = c .before .before .loop in
+    (k .inv .0, (stores (a .w) (a .list .count) (a .list .pieces) (omega arith) (omega arith) (k .i) (k .inv .1 .0) (omega arith), goes-on 1 (a .w) (a .list .count) (a .list .pieces) (omega arith) (k .i) (k .pos) (k .inv .1 .1) _ (omega arith) (omega arith) (omega arith) (omega arith)))
 
 returns-2 : tie.Need-returns-2 Inv-loop μ-loop
 returns-2 c =
     let a = c .before .before .before .args in
-    let k = c .before .loop in
-    let l = listOf (a .list) in
     let long : length (a .list .pieces) ≡ 512 = search needs in
-    let len : length l ≡ a .list .count = length-take-le (a .list .count) (a .list .pieces) (omega arith) in
-    record { stops = goes-stops 1 (a .w) l (k .i) (k .pos) (λ h. omega arith) (k .inv .1 .1); list = split-list (take (k .i) l) (k .inv .1 .0) (length-take-le (k .i) l (omega arith)) }
+    let k = c .before .loop in
+    let at = goes-stops 1 (a .w) (a .list .count) (a .list .pieces) (omega arith) (k .i) (k .pos) (k .inv .1 .1) (λ h. omega arith) in
+    record { stops = at; taken = stored (a .w) (a .list .count) (a .list .pieces) (omega arith) (omega arith) (k .i) (k .inv .1 .0) at }
 
 pub take-pieces-spec : {M : Type 1} → statement M
 take-pieces-spec =

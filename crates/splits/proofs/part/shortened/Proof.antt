@@ -5,8 +5,8 @@ use lib.Seq.{length-take-le}
 use Rattle.splits.specs.Lists.{listOf}
 use Rattle.splits.proofs.Lists.{store-first}
 use borrow.Author.Needs.{needs}
-use Rattle.splits.proofs.cut.shortened.Statement.{statement}
-use Rattle.splits.proofs.cut.shortened.Tie as tie
+use Rattle.splits.proofs.part.shortened.Statement.{statement}
+use Rattle.splits.proofs.part.shortened.Tie as tie
 
 rest-requires : tie.Need-rest-requires
 rest-requires c κs = search needs

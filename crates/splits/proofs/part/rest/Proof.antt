@@ -7,8 +7,8 @@ use lib.Seq.{length-take-le}
 use Rattle.common.specs.Arrays.{padded}
 use Rattle.splits.specs.Lists.{listOf}
 use Rattle.splits.proofs.Lists.{split-list, rest-is, store-rest}
-use Rattle.splits.proofs.cut.rest.Statement.{statement}
-use Rattle.splits.proofs.cut.rest.Tie as tie
+use Rattle.splits.proofs.part.rest.Statement.{statement}
+use Rattle.splits.proofs.part.rest.Tie as tie
 
 abbrev Inv-loop : tie.InvT-loop
 Inv-loop from s n out₀ i₀ out i = (i ≤ n) × (out ≡ padded (take i (drop from s)))
