@@ -1,2 +1,4 @@
 -- What the proofs of several functions, and the layers above, use.
 pub mod Fronts
+mod Steps
+pub mod Sound

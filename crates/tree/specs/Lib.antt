@@ -1,2 +1,4 @@
 pub mod Tree
 pub mod Bytes
+pub mod Reading
+pub mod Accepted
