@@ -2,3 +2,4 @@
 pub mod Laid
 pub mod Fit
 pub mod Numbered
+pub mod Narrow
