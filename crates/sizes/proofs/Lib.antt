@@ -4,6 +4,7 @@ pub mod Elems
 pub mod Shares
 pub mod Fill
 pub mod Bounds
+pub mod Heights
 pub mod Within
 pub mod Nodes
 pub mod Limits
