@@ -70,9 +70,13 @@ leaf-nodes an-empty = refl
 no-contents : (s : List ℕ) → lengthAt s ≡ 0 → contents s ≡ []
 no-contents s h = rw h refl
 
-tag-low : (a : Axis) → 2 ≤ tagOf a
+pub tag-low : (a : Axis) → 2 ≤ tagOf a
 tag-low across = omega arith
 tag-low down = omega arith
+
+pub tag-high : (a : Axis) → tagOf a ≤ 3
+tag-high across = omega arith
+tag-high down = omega arith
 
 empty-leaf : (a : Axis) (ts : Trees) (text : List ℕ) → text ≡ [] → ts ≡ none → LeafIs (group a ts) text
 empty-leaf a ts text e f = rw (e, f) an-empty
@@ -98,7 +102,7 @@ unfolding Is empty?
 some-trees none s k h = absurd (h k)
 some-trees (more t ts) s k h = refl
 
-axis-of : (a : Axis) (n : ℕ) → n ≡ tagOf a → a ≡ axisOf (eqb n 2)
+pub axis-of : (a : Axis) (n : ℕ) → n ≡ tagOf a → a ≡ axisOf (eqb n 2)
 axis-of across n e = rw e refl
 axis-of down n e = rw e refl
 

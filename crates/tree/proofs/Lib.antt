@@ -2,3 +2,5 @@
 pub mod Fronts
 mod Steps
 pub mod Sound
+pub mod Refusals
+pub mod Complete

@@ -19,7 +19,7 @@ use Rattle.tree.specs.declared.Step.{Step}
 use Rattle.tree.specs.declared.Sequence.{Sequence}
 use Rattle.tree.specs.declared.ReadTree.{ReadTree}
 
--- a branch's answer from its sequence's
+-- a group's answer from its sequence's
 abbrev pub groupStep : ℕ → Sequence → Step
 groupStep size (Sequence.Fault k) = Step.Fault k
 groupStep size (Sequence.Whole count) = Step.Whole size count
