@@ -1,5 +1,8 @@
 -- What the proofs of several functions, and the layers above, use.
 pub mod Laid
 pub mod Fit
+pub mod Inside
 pub mod Numbered
+pub mod Entries
+pub mod Named
 pub mod Narrow

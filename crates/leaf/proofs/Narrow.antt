@@ -1,6 +1,6 @@
 -- Some node is allotted width 0 exactly where some leaf is: the sheet printer's refusal 7, told from the list of sizes. Assumes nothing.
 use mathlib.Core.Path.{_≡_, refl, subst}
-use Prim.Native.Nat.{ℕ, suc, _+_, _-_, _≤_, _<_}
+use Prim.Native.Nat.{ℕ, suc, _+_, _≤_, _<_}
 use native.Mathlib.Omega.{arith}
 use mathlib.Core.Bool.{Bool, false}
 use mathlib.Core.List.{List, _++_, map}
@@ -12,11 +12,13 @@ use Rattle.sizes.specs.declared.Size.{Size}
 use Rattle.sizes.specs.Text.{total, greatest}
 use Rattle.sizes.specs.Sizes.{Fits, along, beside, sep, natural, naturals, allot, spareOf, childSize, Sizes, sizes, sizes*, treeSizes}
 use Rattle.sizes.proofs.Fill.{extents, group-beside, child-fits}
+use Rattle.sizes.proofs.Nodes.{subtrees}
 use Rattle.sizes.proofs.Within.{child-within, extents-within}
 use Rattle.block.proofs.Every.{Every, every-append, every-front, every-back, every-map, every-elem}
 use Rattle.leaf.specs.Walk.{Context, Placed, Walked, child, leafWalked, joinWalked, alongList, besideList, walk, children, root, leaves}
 use Rattle.leaf.proofs.Laid.{child-size, root-fits}
-use Rattle.leaf.proofs.Numbered.{Listed, numbered, numbered-listed}
+use Rattle.leaf.proofs.Entries.{Listed, numbered-listed}
+use Rattle.leaf.proofs.Named.{leaves-numbered}
 
 -- ---- the statement
 
@@ -93,6 +95,5 @@ unfolding leaves treeSizes root
 nodes-wide s t h = wide-nodes s t (root s t) (root-fits s t) h
 
 pub leaves-wide : (s : Settings) (t : Tree) → Every Wide (treeSizes s t) → Every HasWidth (leaves s t)
-unfolding leaves treeSizes root
 leaves-wide s t h =
-    every-map (Listed s 0 (treeSizes s t)) HasWidth (λ f l. every-elem Wide (treeSizes s t) (f .at .node - 0) _ h (l .entry)) (leaves s t) (numbered-listed (numbered s t (root s t)))
+    every-map (Listed s 0 (subtrees t) (treeSizes s t)) HasWidth (λ f l. every-elem Wide (treeSizes s t) (l .place) _ h (l .sizes-are)) (leaves s t) (numbered-listed (leaves-numbered s t))

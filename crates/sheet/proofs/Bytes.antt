@@ -6,19 +6,18 @@ use mathlib.Core.Option.{some}
 use lib.ListN.{length, getD, getElem?}
 use Rattle.settings.specs.declared.Settings.{Settings}
 use Rattle.tree.specs.Tree.{Tree}
-use Rattle.sizes.specs.Sizes.{Fits, leafSize}
 use Rattle.sizes.proofs.Heights.{natural-height}
 use Rattle.block.specs.Content.{feeds}
 use Rattle.block.specs.Block.{block}
 use Rattle.block.proofs.Every.{Every, every-elem, Dims}
 use Rattle.block.proofs.Dims.{block-dims}
 use Rattle.block.proofs.Feeds.{feeds-length, feeds-at}
-use Rattle.leaf.specs.Walk.{Placed, leafOf, walk, root, leaves, W, H}
+use Rattle.leaf.specs.Walk.{Placed, leafOf, leaves, W, H}
 use Rattle.leaf.proofs.Laid.{tallAt, wideAt}
 use Rattle.leaf.proofs.Fit.{LeafFits, leaves-fit}
 use Rattle.leaf.proofs.Narrow.{HasWidth}
 use Rattle.sheet.specs.Sheet.{sheet}
-use Rattle.sheet.proofs.Tiling.{leaf-inside}
+use Rattle.leaf.proofs.Inside.{leaf-inside}
 use Rattle.sheet.proofs.Content.{sheet-dims, sheet-shows}
 
 pub some-lines : (s : Settings) (t : Tree) → 0 < H s t

@@ -3,7 +3,7 @@ use mathlib.Core.Path.{_≡_, _∙_}
 use Prim.Native.Nat.{ℕ, _+_, _-_, _<_}
 use native.Mathlib.Omega.{arith}
 use mathlib.Core.Option.{some}
-use mathlib.Core.List.{List, [], _++_}
+use mathlib.Core.List.{List, _++_}
 use lib.ListN.{getElem?}
 use Rattle.settings.specs.declared.Settings.{Settings}
 use Rattle.tree.specs.Tree.{Tree}
@@ -14,7 +14,7 @@ use Rattle.block.proofs.Dims.{block-dims}
 use Rattle.leaf.specs.Walk.{Placed, leafOf, walk, root, leaves, W, H}
 use Rattle.leaf.proofs.Laid.{tallAt, wideAt, Laid, one, side, under, root-laid}
 use Rattle.leaf.proofs.Narrow.{HasWidth}
-use Rattle.sheet.proofs.Tiling.{Inside, laid-inside}
+use Rattle.leaf.proofs.Inside.{Inside, laid-inside}
 
 -- the content, which starts at line l, column k, has the leaf's block at the leaf's start
 unfoldable pub Shows : Settings → List (List ℕ) → ℕ → ℕ → Placed → Type 0

@@ -1,0 +1,64 @@
+-- The sheet is what the painting of its leaves' blocks, one after the other, gives. Assumes nothing.
+use mathlib.Core.Path.{_≡_, refl, sym, _∙_}
+use Prim.Native.Nat.{ℕ, _+_, _-_, _*_, _≤_}
+use native.Mathlib.Omega.{arith}
+use mathlib.Core.List.{List, [], _∷_, _++_}
+use lib.ListN.{length, replicate}
+use Rattle.settings.specs.declared.Settings.{Settings}
+use Rattle.tree.specs.Tree.{Tree}
+use Rattle.block.specs.Content.{feeds}
+use Rattle.block.specs.Block.{block}
+use Rattle.block.specs.Paint.{pasted}
+use Rattle.block.proofs.Every.{Every, every-front, every-back}
+use Rattle.block.proofs.Pasted.{pasted-append, pasted-paired}
+use Rattle.block.proofs.Feeds.{pasted-feeds}
+use Rattle.leaf.specs.Walk.{Placed, leafOf, walk, root, leaves, W, H}
+use Rattle.leaf.proofs.Laid.{Laid, one, side, under, root-laid}
+use Rattle.leaf.proofs.Narrow.{HasWidth}
+use Rattle.sheet.specs.Sheet.{sheet}
+use Rattle.sheet.proofs.Content.{laid-dims, sheet-dims}
+use Rattle.sheet.proofs.Bytes.{sheet-length}
+
+-- ---- the leaves' blocks, painted one after the other
+
+unfoldable pub painted : Settings → ℕ → List Placed → List ℕ → List ℕ
+unfolding pasted
+painted s stride [] o = o
+painted s stride (f ∷ fs) o = painted s stride fs (pasted o (f .at .line * stride + f .at .column) stride (block s (leafOf f)))
+
+painted-append : (s : Settings) (stride : ℕ) (fs gs : List Placed) (o : List ℕ) → painted s stride (fs ++ gs) o ≡ painted s stride gs (painted s stride fs o)
+unfolding painted
+painted-append s stride [] gs o = refl
+painted-append s stride (f ∷ fs) gs o = painted-append s stride fs gs (pasted o (f .at .line * stride + f .at .column) stride (block s (leafOf f)))
+
+-- all leaves of a rectangle painted: the rectangle's content is
+pub laid-painted : {s : Settings} {l k h w : ℕ} {fs : List Placed} {x : List (List ℕ)} (stride : ℕ) (o : List ℕ) → Laid s l k h w fs x → Every HasWidth fs → w ≤ stride
+    → painted s stride fs o ≡ pasted o (l * stride + k) stride x
+unfolding painted
+laid-painted stride o (one f fits) n b = refl
+laid-painted {s} {l} {k} stride o (side {w = w} {v = v} {fs = fs} {gs = gs} {x = x} {y = y} p q) n b =
+    let np = every-front HasWidth fs gs n in
+    let nq = every-back HasWidth fs gs n in
+    let e : l * stride + (k + w) ≡ l * stride + k + w = omega arith in
+    let c = laid-dims p np in
+    let d = laid-dims q nq in
+    painted-append s stride fs gs o
+    ∙ rw (laid-painted stride o p np (omega arith), laid-painted stride (pasted o (l * stride + k) stride x) q nq (omega arith), e)
+    (pasted-paired x y o (l * stride + k) w v stride (c .lines ∙ sym (d .lines)) (c .columns) (d .columns) b)
+laid-painted {s} {l} {k} stride o (under {h = h} {fs = fs} {gs = gs} {x = x} {y = y} p q) n b =
+    let np = every-front HasWidth fs gs n in
+    let nq = every-back HasWidth fs gs n in
+    let c = laid-dims p np in
+    let e : (l + h) * stride + k ≡ l * stride + k + h * stride = omega arith in
+    painted-append s stride fs gs o
+    ∙ rw (laid-painted stride o p np b, laid-painted stride (pasted o (l * stride + k) stride x) q nq b, e, pasted-append x y o (l * stride + k) stride, c .lines)
+
+-- the sheet: its leaves painted over (W + 1) × H − 1 bytes of 0A, with stride W + 1; the bytes after them are as they were
+pub sheet-painted : (s : Settings) (t : Tree) (r : List ℕ) → Every HasWidth (leaves s t) → painted s (W s t + 1) (leaves s t) (replicate ((W s t + 1) * H s t - 1) 10 ++ r) ≡ sheet s t ++ r
+unfolding sheet
+sheet-painted s t r n =
+    let d = sheet-dims s t n in
+    let e : 0 * (W s t + 1) + 0 ≡ 0 = omega arith in
+    rw (← (sheet-length s t n))
+    (laid-painted (W s t + 1) (replicate (length (feeds (walk s t (root s t) .content))) 10 ++ r) (root-laid s t) n (omega arith)
+    ∙ rw e (pasted-feeds (walk s t (root s t) .content) r (W s t) (d .columns)))

@@ -2,7 +2,6 @@
 -- Nothing here opens `sep`: it holds for every separator width. Assumes nothing.
 use mathlib.Core.Path.{_≡_, refl, ap, _∙_}
 use Prim.Native.Nat.{ℕ, _+_, _≤_, _<_}
-use native.Mathlib.Nat.{le-refl}
 use native.Mathlib.Omega.{arith}
 use mathlib.Core.Option.{some}
 use mathlib.Core.List.{List, [], _++_}
@@ -11,9 +10,10 @@ use Rattle.settings.specs.declared.Settings.{Settings}
 use Rattle.tree.specs.Tree.{Tree}
 use Rattle.sizes.proofs.Either.{either}
 use Rattle.sizes.proofs.Elems.{elem-front, elem-back, elem-in, elem-none, elem-first, elem-cases}
-use Rattle.block.proofs.Every.{Every, every-append, every-map, every-elem}
+use Rattle.block.proofs.Every.{Every, every-map, every-elem}
 use Rattle.leaf.specs.Walk.{Placed, leaves, W, H}
 use Rattle.leaf.proofs.Laid.{tallAt, wideAt, Laid, one, side, under, root-laid}
+use Rattle.leaf.proofs.Inside.{Inside, laid-inside, leaf-inside}
 
 -- ---- the statement
 
@@ -31,28 +31,6 @@ pub record ExactlyOne (s : Settings) (fs : List Placed) (l k : ℕ) : Type 0 whe
   pub stands : getElem? fs index ≡ some leaf
   pub covered : Covers s leaf l k
   pub only : (j : ℕ) (g : Placed) → getElem? fs j ≡ some g → Covers s g l k → j ≡ index
-
--- the leaf's block stands in the rectangle of h lines and w columns at line l, column k
-pub record Inside (s : Settings) (l k h w : ℕ) (f : Placed) : Type 0 where
-  pub above : l ≤ f .at .line
-  pub below : f .at .line + tallAt s (f .at) ≤ l + h
-  pub left : k ≤ f .at .column
-  pub right : f .at .column + wideAt s (f .at) ≤ k + w
-
--- ---- no place outside
-
-pub laid-inside : {s : Settings} {l k h w : ℕ} {fs : List Placed} {x : List (List ℕ)} → Laid s l k h w fs x → Every (Inside s l k h w) fs
-laid-inside (one f fits) = (record { above = le-refl _; below = le-refl _; left = le-refl _; right = le-refl _ }, tt)
-laid-inside {s} {l} {k} {h} (side {w = w} {v = v} {fs = fs} {gs = gs} p q) =
-    let All = Inside s l k h (w + v) in
-    every-append All fs gs
-    (every-map (Inside s l k h w) All (λ f i. omega arith) fs (laid-inside p))
-    (every-map (Inside s l (k + w) h v) All (λ f i. omega arith) gs (laid-inside q))
-laid-inside {s} {l} {k} {w = w} (under {h = h} {g = g} {fs = fs} {gs = gs} p q) =
-    let All = Inside s l k (h + g) w in
-    every-append All fs gs
-    (every-map (Inside s l k h w) All (λ f i. omega arith) fs (laid-inside p))
-    (every-map (Inside s (l + h) k g w) All (λ f i. omega arith) gs (laid-inside q))
 
 -- ---- exactly one
 
@@ -99,9 +77,6 @@ laid-one {s} {l₀} {k₀} {w = w} (under {h = h} {g = g} {fs = fs} {gs = gs} p 
 -- each place of the H × W rectangle lies in exactly one leaf's block
 pub tiling : (s : Settings) (t : Tree) (l k : ℕ) → l < H s t → k < W s t → ExactlyOne s (leaves s t) l k
 tiling s t l k p q = laid-one (root-laid s t) l k (omega arith) (omega arith) (omega arith) (omega arith)
-
-pub leaf-inside : (s : Settings) (t : Tree) (j : ℕ) (g : Placed) → getElem? (leaves s t) j ≡ some g → Inside s 0 0 (H s t) (W s t) g
-leaf-inside s t j g e = every-elem _ (leaves s t) j g (laid-inside (root-laid s t)) e
 
 -- and no leaf's block has a place outside
 pub no-place-outside : (s : Settings) (t : Tree) (j : ℕ) (g : Placed) → getElem? (leaves s t) j ≡ some g → (l k : ℕ) → Covers s g l k
