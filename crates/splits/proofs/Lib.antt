@@ -3,3 +3,4 @@ pub mod Named
 pub mod Lists
 pub mod Reach
 pub mod Cuts
+pub mod Squash

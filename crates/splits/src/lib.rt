@@ -3,10 +3,12 @@ ghost use mathlib.Core.Path.{_≡_};
 ghost use Prim.Native.Nat.{_+_, _≤_};
 ghost use mathlib.Core.List.{[], _∷_, _++_};
 ghost use Rattle.common.specs.Arrays.{padded};
+ghost use Rattle.splits.specs.Splits.{named, isNamed};
 ghost use Rattle.splits.specs.Lists.{listOf, splitList};
 ghost use Rattle.splits.specs.Cuts.{refusedCut, cutOf, refusedShort, shortOf};
 
 mod cut;
+mod marks;
 mod part;
 mod short;
 
@@ -134,4 +136,13 @@ pub fn short_splits(list: SplitList, w: u16) -> ShortParts
         positions: positions,
         left: left,
     }
+}
+
+// Whether a leaf of w columns, or of w lines, marks the column, or the line, at `place`.
+pub fn is_named(list: SplitList, w: u16, place: u32) -> bool
+    requires { ⌜ list .count ≤ 512 ⌝ }
+    ensures { λ r. ⌜ r ≡ isNamed place (named w (listOf list)) ⌝ }
+{
+    let p = marks::named_places(list, w);
+    marks::has_place(p, place)
 }
