@@ -4,3 +4,4 @@ pub mod Lists
 pub mod Reach
 pub mod Cuts
 pub mod Squash
+pub mod Whole

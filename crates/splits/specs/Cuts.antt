@@ -10,6 +10,8 @@ use Rattle.splits.specs.declared.SplitList.{SplitList}
 use Rattle.splits.specs.declared.CutParts.{CutParts}
 use Rattle.splits.specs.declared.ShortParts.{ShortParts}
 use Rattle.splits.specs.declared.Positions.{Positions}
+use Rattle.splits.specs.declared.CutAnswer.{CutAnswer}
+use Rattle.splits.specs.declared.Kept.{Kept}
 use Rattle.splits.specs.declared.cut.Taken.{Taken}
 use Rattle.splits.specs.declared.short.Listed.{Listed}
 use Rattle.splits.specs.Splits.{reach, Cut, shortSplits3, Short, shortSplits}
@@ -44,6 +46,13 @@ refusedCut = record { number = 10; split = false; taken = splitList []; left = s
 -- `short_splits3`: 10 where the count is over 512
 unfoldable pub cutOf : SplitList → ℕ → CutParts
 cutOf list w = pick (leb (list .count) 512) (answered (shortSplits3 (listOf list) w)) refusedCut
+
+-- the answer of a cut in place, and the list that the caller then has: a refusal leaves it as it was
+unfoldable pub keptOf : SplitList → ℕ → Kept
+keptOf list w = record {
+  answer = record { number = cutOf list w .number; split = cutOf list w .split; taken = cutOf list w .taken };
+  list = pick (leb (list .count) 512) (cutOf list w .left) list;
+}
 
 abbrev pub answeredShort : Short → ShortParts
 answeredShort k = record { number = 0; positions = positionList (k .positions); left = splitList (k .left) }

@@ -5,7 +5,7 @@ ghost use mathlib.Core.List.{[], _∷_, _++_};
 ghost use Rattle.common.specs.Arrays.{padded};
 ghost use Rattle.splits.specs.Splits.{named, isNamed};
 ghost use Rattle.splits.specs.Lists.{listOf, splitList};
-ghost use Rattle.splits.specs.Cuts.{refusedCut, cutOf, refusedShort, shortOf};
+ghost use Rattle.splits.specs.Cuts.{refusedCut, cutOf, keptOf, refusedShort, shortOf};
 
 mod cut;
 mod marks;
@@ -24,6 +24,19 @@ pub struct CutParts {
     pub split: bool,
     pub taken: SplitList,
     pub left: SplitList,
+}
+
+// The answer of `short_splits3` in place: the list left stays with the caller.
+pub struct CutAnswer {
+    pub number: u8,
+    pub split: bool,
+    pub taken: SplitList,
+}
+
+// That answer, with the list that the caller then has.
+pub struct Kept {
+    pub answer: CutAnswer,
+    pub list: SplitList,
 }
 
 // Up to 512 positions by value, as pieces are.
@@ -103,6 +116,51 @@ pub fn short_splits3(list: SplitList, w: u16) -> CutParts
     }
     let k = cut::take_pieces(list, w);
     cut::close_cut(list, w, k)
+}
+
+// The cut by value, with the list that the caller has afterwards: the list left, or after a refusal the list itself.
+fn cut_kept(list: SplitList, w: u16) -> Kept
+    ensures { λ r. ⌜ r ≡ keptOf list w ⌝ }
+{
+    let parts = short_splits3(list, w);
+    let taken = parts.taken;
+    let answer = CutAnswer {
+        number: parts.number,
+        split: parts.split,
+        taken: taken,
+    };
+    if 512 < list.count {
+        return Kept {
+            answer: answer,
+            list: list,
+        };
+    }
+    let left = parts.left;
+    Kept {
+        answer: answer,
+        list: left,
+    }
+}
+
+// `short_splits3`: the list handed in is shortened where the caller keeps it.
+pub fn short_splits3_in_place(list: &mut SplitList, w: u16) -> CutAnswer
+    ensures { λ r. ⌜ (r ≡ keptOf (now (list .entry)) w .answer) × (now (list .exit) ≡ keptOf (now (list .entry)) w .list) ⌝ }
+{
+    let r = cut_kept(*list, w);
+    *list = r.list;
+    r.answer
+}
+
+// The cut in place of a list that is passed by value: plain parameters, so whoever calls it needs no proof by hand.
+pub fn cut_here(list: SplitList, w: u16) -> Kept
+    ensures { λ r. ⌜ r ≡ keptOf list w ⌝ }
+{
+    let mut here = list;
+    let answer = short_splits3_in_place(&mut here, w);
+    Kept {
+        answer: answer,
+        list: here,
+    }
 }
 
 fn refused_short() -> ShortParts
