@@ -9,7 +9,7 @@ use Rattle.settings.specs.declared.Settings.{Settings}
 use Rattle.tree.specs.Tree.{Tree, empty?}
 use Rattle.tree.proofs.Fronts.{LeafIs, a-cell, an-empty}
 use Rattle.sizes.specs.Sizes.{leafSize, natural, treeSizes}
-use Rattle.sizes.proofs.Elems.{elem-none}
+use Rattle.sizes.proofs.Elems.{elem-none, elem-same}
 use Rattle.sizes.proofs.Nodes.{subtrees}
 use Rattle.block.proofs.Every.{every-elem}
 use Rattle.leaf.specs.Walk.{Placed, root, leaves}
@@ -55,10 +55,7 @@ module _ (s : Settings) (t : Tree) where
   -- a number names one leaf
   pub same-leaf : {n : ℕ} {f g : Placed} → LeafAt s t n f → LeafAt s t n g → f ≡ g
   same-leaf {f = f} {g} p q =
-      let i = same-index (p .index) (q .index) f g (p .stands) (q .stands) (p .number ∙ sym (q .number)) in
-      let e : getElem? (leaves s t) (q .index) ≡ some f = rw i at (p .stands) in
-      let d = q .stands in
-      cc
+      elem-same (leaves s t) (p .stands) (q .stands) (same-index (p .index) (q .index) f g (p .stands) (q .stands) (p .number ∙ sym (q .number)))
 
 -- ---- the leaf's size record, and its node in the tree
 

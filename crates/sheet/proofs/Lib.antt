@@ -1,5 +1,7 @@
--- The theorems of demand 3, and what they rest on.
+-- The theorems of demand 3 (Demand3), and what they rest on.
 pub mod Tiling
 pub mod Content
 pub mod Bytes
+pub mod Parted
+pub mod Demand3
 pub mod Painted

@@ -6,8 +6,10 @@ use mathlib.Core.Option.{some}
 use mathlib.Core.List.{List}
 use lib.ListN.{length, getElem?, drop, length-take, length-drop}
 use Rattle.settings.specs.declared.Settings.{Settings}
+use Rattle.settings.specs.Reading.{Ranges}
 use Rattle.tree.specs.Tree.{Axis, across, down, Tree, cell, group, Trees, none, more, nodes, nodes*}
 use Rattle.tree.specs.Bytes.{Is, Are, lengthAt, contents}
+use Rattle.tree.specs.Accepted.{GotTree}
 use Rattle.tree.proofs.Fronts.{is-whole}
 use Rattle.sizes.specs.Sizes.{along, sep, natural, Sizes, treeSizes}
 use Rattle.sizes.proofs.Bounds.{bytes, bytes*, each, natural-16}
@@ -15,11 +17,9 @@ use Rattle.sizes.proofs.Within.{sizes-within}
 
 -- ---- the statement
 
+-- what the readers promise of settings and tree
 pub record Limits (s : Settings) (t : Tree) : Type 0 where
-  pub left : s .left ≤ 16
-  pub right : s .right ≤ 16
-  pub top : s .top ≤ 16
-  pub bottom : s .bottom ≤ 16
+  pub ranges : Ranges s
   pub few-bytes : bytes t ≤ 32768
   pub few-nodes : nodes t ≤ 512
 
@@ -51,6 +51,9 @@ mutual
 pub tree-bytes : (t : Tree) (b : List ℕ) → Is t b → bytes t + 3 * nodes t ≤ length b
 tree-bytes t b k = omega (arith, is-bytes t b k, is-whole t b k)
 
+pub read-limits : (s : Settings) {t : Tree} {b : List ℕ} {size n : ℕ} → Ranges s → GotTree b t size n → Limits s t
+read-limits s {t} {b} r g = record { ranges = r; few-bytes = omega (arith, tree-bytes t b (g .is), g .short); few-nodes = g .few }
+
 -- ---- 16 bits
 
 -- all that the bounds ask of the separator width
@@ -60,8 +63,8 @@ sep-small s = omega arith
 
 each-small : (s : Settings) (t : Tree) (d : Axis) → Limits s t → each s d ≤ 34
 unfolding each
-each-small s t across l = omega (arith, sep-small s)
-each-small s t down l = omega (arith, sep-small s)
+each-small s t across l = omega (arith, sep-small s, l .ranges .left, l .ranges .right)
+each-small s t down l = omega (arith, sep-small s, l .ranges .top, l .ranges .bottom)
 
 natural-small : (s : Settings) (t : Tree) (d : Axis) → Limits s t → along d (natural s t) < 65536
 natural-small s t d l = natural-16 s d t (l .few-bytes) (l .few-nodes) (each-small s t d l)

@@ -1,15 +1,17 @@
 -- The nodes of a tree by their numbers (document 01, "Tree"), and their size records. Assumes nothing.
 use mathlib.Core.Path.{_≡_, refl, ap, _∙_}
-use Prim.Native.Nat.{ℕ, suc, _+_, _≤_, _<_}
+use Prim.Native.Nat.{ℕ, zero, suc, _+_, _≤_, _<_}
 use native.Mathlib.Omega.{arith}
+use mathlib.Core.Option.{some}
 use mathlib.Core.List.{List, [], _∷_, _++_}
-use lib.ListN.{length, getD, length-append, List·getD-append}
+use lib.ListN.{length, getD, getElem?, length-append, List·getD-append}
 use lib.Seq.{getD-append-add}
 use Rattle.settings.specs.declared.Settings.{Settings}
 use Rattle.tree.specs.Tree.{Axis, Tree, cell, group, Trees, none, more, nodes, nodes*}
 use Rattle.tree.proofs.Fronts.{nodes-low}
 use Rattle.sizes.specs.declared.Size.{Size}
 use Rattle.sizes.specs.Sizes.{natural, allot, childSize, Sizes, sizes, sizes*}
+use Rattle.sizes.proofs.Elems.{elem-none}
 use Rattle.sizes.proofs.Within.{sizes-length}
 
 -- ---- definitions
@@ -43,6 +45,12 @@ childNodes n (more t ts) = n ∷ childNodes (n + nodes t) ts
 -- the record of node n
 unfoldable pub sizesAt : List Sizes → ℕ → Sizes
 sizesAt zs n = getD zs n (record { natural = record { width = 0; height = 0 }; allotted = record { width = 0; height = 0 } })
+
+pub sizes-at : (zs : List Sizes) (n : ℕ) (y : Sizes) → getElem? zs n ≡ some y → sizesAt zs n ≡ y
+unfolding sizesAt
+sizes-at [] n y e = elem-none n y e
+sizes-at (z ∷ zs) zero y e = cc
+sizes-at (z ∷ zs) (suc n) y e = sizes-at zs n y e
 
 -- the records from node n on are xs
 pub record Part (zs : List Sizes) (n : ℕ) (xs : List Sizes) : Type 0 where
