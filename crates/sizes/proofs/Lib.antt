@@ -11,3 +11,7 @@ pub mod Limits
 pub mod Listed
 pub mod Parts
 pub mod Lines
+pub mod Passing
+pub mod Sides
+pub mod Stores
+pub mod Naturals

@@ -2,3 +2,4 @@ pub mod Text
 pub mod Sizes
 pub mod Measuring
 pub mod Sharing
+pub mod Collecting

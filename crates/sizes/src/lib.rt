@@ -1,4 +1,7 @@
 // Natural and allotted sizes of a tree's nodes.
+mod axis;
+mod lists;
+mod natural;
 pub mod sharing;
 pub mod text;
 
