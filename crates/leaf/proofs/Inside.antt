@@ -1,7 +1,7 @@
 -- Each leaf's block stands inside its ancestors' rectangles. Assumes nothing.
 use mathlib.Core.Path.{_≡_}
-use Prim.Native.Nat.{ℕ, _+_, _≤_}
-use native.Mathlib.Nat.{le-refl}
+use Prim.Native.Nat.{ℕ, _+_, _*_, _≤_}
+use native.Mathlib.Nat.{le-refl, mul-le-mul-right}
 use native.Mathlib.Omega.{arith}
 use mathlib.Core.Option.{some}
 use mathlib.Core.List.{List}
@@ -9,6 +9,7 @@ use lib.ListN.{getElem?}
 use Rattle.settings.specs.declared.Settings.{Settings}
 use Rattle.tree.specs.Tree.{Tree}
 use Rattle.sizes.specs.Sizes.{Fits, natural}
+use Rattle.block.specs.Paint.{Room}
 use Rattle.block.proofs.Every.{Every, every-append, every-map, every-elem}
 use Rattle.leaf.specs.Walk.{Context, Placed, walk, leaves, W, H}
 use Rattle.leaf.proofs.Laid.{tallAt, wideAt, Laid, one, side, under, laid, root-laid}
@@ -40,3 +41,10 @@ walk-inside s t c fits = laid-inside (laid s t c fits)
 
 pub leaf-inside : (s : Settings) (t : Tree) (j : ℕ) (g : Placed) → getElem? (leaves s t) j ≡ some g → Inside s 0 0 (H s t) (W s t) g
 leaf-inside s t j g e = every-elem _ (leaves s t) j g (laid-inside (root-laid s t)) e
+
+-- where a rectangle has room, each block inside it has
+pub room-inside : {s : Settings} {l k h w : ℕ} {f : Placed} (stride len : ℕ) → Inside s l k h w f → Room (l * stride + k) stride h w len
+    → Room (f .at .line * stride + f .at .column) stride (tallAt s (f .at)) (wideAt s (f .at)) len
+room-inside {s} {l} {k} {h} {w} {f} stride len i r =
+    let m = mul-le-mul-right stride (i .below) in
+    record { fits = omega (arith, r .fits, i .right); small = omega (arith, r .small, i .right) }

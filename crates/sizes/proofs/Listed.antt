@@ -7,7 +7,7 @@ use mathlib.Core.Option.{some}
 use mathlib.Core.List.{List, [], map}
 use lib.ListN.{length, getElem?}
 use Rattle.settings.specs.declared.Settings.{Settings}
-use Rattle.tree.specs.Tree.{Axis, Tree, cell, group, Trees, none, more, count, nodes}
+use Rattle.tree.specs.Tree.{Axis, across, down, Tree, cell, group, Trees, none, more, count, nodes}
 use Rattle.sizes.specs.declared.Size.{Size}
 use Rattle.sizes.specs.Text.{total, greatest}
 use Rattle.sizes.specs.Sizes.{Fits, along, beside, sep, natural, naturals, spareOf, childSize, Sizes, sizes, sizes*, treeSizes}
@@ -103,3 +103,14 @@ unfolding treeSizes
 groups-filled s t node a ts e h =
     let m : node ≡ 0 + node = omega arith in
     rw m (filled s (treeSizes s t) t (natural s t) 0 (fits-refl _) (part-whole _) node a ts e h)
+
+-- the same for a Row and for a Column
+pub row-filled : (s : Settings) (t : Tree) (node : ℕ) (ts : Trees) → getElem? (subtrees t) node ≡ some (group across ts) → 0 < count ts
+    → total (map (λ m. sizesAt (treeSizes s t) m .allotted .width) (childNodes (suc node) ts)) + (count ts - 1) * sep s ≡ sizesAt (treeSizes s t) node .allotted .width
+unfolding along
+row-filled s t node ts e h = groups-filled s t node across ts e h .exact
+
+pub column-filled : (s : Settings) (t : Tree) (node : ℕ) (ts : Trees) → getElem? (subtrees t) node ≡ some (group down ts) → 0 < count ts
+    → total (map (λ m. sizesAt (treeSizes s t) m .allotted .height) (childNodes (suc node) ts)) + (count ts - 1) * sep s ≡ sizesAt (treeSizes s t) node .allotted .height
+unfolding along
+column-filled s t node ts e h = groups-filled s t node down ts e h .exact
