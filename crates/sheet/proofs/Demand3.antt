@@ -1,7 +1,7 @@
 -- Demand 3 in the words of document 01, by node numbers. `groups-filled` (sizes/proofs/Listed) is its sentence on sharing.
 -- Nothing here opens `sep`: it holds for every separator width. Assumes nothing.
-use mathlib.Core.Path.{_≡_, refl, sym, ap, _∙_}
-use Prim.Native.Nat.{ℕ, _+_, _<_}
+use mathlib.Core.Path.{_≡_, refl, sym, ap, _∙_, subst₂}
+use Prim.Native.Nat.{ℕ, _+_, _-_, _<_}
 use native.Mathlib.Omega.{arith}
 use mathlib.Core.List.{List}
 use Rattle.settings.specs.declared.Settings.{Settings}
@@ -60,11 +60,11 @@ one-leaf s t l k o = record {
   only = λ m g p c. sym (p .number) ∙ ap (λ (f : Placed). f .at .node) (elem-same (leaves s t) (p .stands) (o .stands) (o .only (p .index) g (p .stands) c));
 }
 
--- "each place lies in exactly one leaf's block"
+-- "Each place of an accepted sheet lies in exactly one leaf's block"
 pub covered-once : (s : Settings) (t : Tree) (l k : ℕ) → l < H s t → k < W s t → OneLeaf s t l k
 covered-once s t l k p q = one-leaf s t l k (tiling s t l k p q)
 
--- "no block has a place outside"
+-- and no leaf's block has a place outside
 pub none-outside : (s : Settings) (t : Tree) {n : ℕ} {f : Placed} → LeafAt s t n f → (l k : ℕ) → Covers s f l k → (l < H s t) × (k < W s t)
 none-outside s t {f = f} p l k c = no-place-outside s t (p .index) f (p .stands) l k c
 
@@ -87,6 +87,14 @@ module _ (s : Settings) (t : Tree) (a : Accepted s t) where
     pub block-rectangle : Dims (lines (blockOf s f)) (tall s (sizesAt (treeSizes s t) n .allotted) (f .at .flags)) (wide s (sizesAt (treeSizes s t) n .allotted) (f .at .flags))
     block-rectangle = rw (sizes-at (treeSizes s t) n _ (leaf-size s t p), block-lines) (leaf-dims s t (a .widths) (p .index) f (p .stands))
 
-    -- "the sheet's byte at a leaf's start plus (i, j)" is the byte at (i, j) of its block, "both read in lines parted at each 0A"
+    -- the sheet's byte at the leaf's start plus (i, j) is the byte at (i, j) of its block
     pub sheet-owned : (i j : ℕ) → i < tallAt s (f .at) → j < wideAt s (f .at) → placeAt (sheet s t) (f .at .line + i) (f .at .column + j) ≡ placeAt (blockOf s f) i j
     sheet-owned i j h k = rw (sheet-parted s t (a .ranges) (a .widths), block-lines) (sheet-shows s t (a .widths) (p .index) f (p .stands) i j h k)
+
+    -- the same, from a place that the block covers
+    pub place-owned : (l k : ℕ) → Covers s f l k → placeAt (sheet s t) l k ≡ placeAt (blockOf s f) (l - f .at .line) (k - f .at .column)
+    place-owned l k c =
+        let i : f .at .line + (l - f .at .line) ≡ l = omega (arith, c .from-line) in
+        let j : f .at .column + (k - f .at .column) ≡ k = omega (arith, c .from-column) in
+        subst₂ (λ (x y : ℕ). placeAt (sheet s t) x y ≡ placeAt (blockOf s f) (l - f .at .line) (k - f .at .column)) i j
+        (sheet-owned (l - f .at .line) (k - f .at .column) (omega (arith, c .from-line, c .to-line)) (omega (arith, c .from-column, c .to-column)))
