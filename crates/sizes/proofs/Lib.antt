@@ -15,3 +15,6 @@ pub mod Passing
 pub mod Sides
 pub mod Stores
 pub mod Naturals
+pub mod Counts
+pub mod Held
+pub mod Allotted

@@ -3,3 +3,4 @@ pub mod Sizes
 pub mod Measuring
 pub mod Sharing
 pub mod Collecting
+pub mod Allotting

@@ -1,4 +1,5 @@
 // Natural and allotted sizes of a tree's nodes.
+mod allot;
 mod axis;
 mod lists;
 mod natural;

@@ -8,6 +8,7 @@ ghost use Rattle.sizes.specs.Collecting.{Small, sizeAt};
 pub fn size_at(widths: &[u16], heights: &[u16], node: usize) -> Size
     requires { ⌜ (node < length (now widths)) × (node < length (now heights)) ⌝ }
     ensures { λ r. ⌜ r ≡ sizeAt (now (widths .entry)) (now (heights .entry)) node ⌝ }
+    ensures small { λ r. ⌜ Small r ⌝ }
 {
     let w = common::wide16(widths[node]);
     let h = common::wide16(heights[node]);
