@@ -1,0 +1,152 @@
+//! The public calls of document 01, as one trait that each side of a comparison implements: `sides::Original` (the crate's answers under
+//! the document's refusals), `sides::Paper` (the document's words) and, in a driver, the proved library.
+//!
+//! On a refusal every field beside the number is 0 or no, and no lent list or output is written.
+
+use crate::form::{Flags, Settings};
+use crate::judge;
+
+/// A number and the settings.
+#[derive(Debug, Clone, Copy, PartialEq, Eq)]
+pub struct ReadSettings {
+    pub number: u8,
+    pub settings: Settings,
+}
+
+/// A number and a count of nodes, entries or bytes.
+#[derive(Debug, Clone, Copy, Default, PartialEq, Eq)]
+pub struct Counted {
+    pub number: u8,
+    pub count: usize,
+}
+
+#[derive(Debug, Clone, Copy, Default, PartialEq, Eq)]
+pub struct SizeRecord {
+    pub natural_width: u16,
+    pub natural_height: u16,
+    pub allotted_width: u16,
+    pub allotted_height: u16,
+}
+
+/// Pieces, and 0 past their count.
+#[derive(Clone, PartialEq, Eq)]
+pub struct SplitList {
+    pub pieces: [u16; judge::PIECES],
+    pub count: usize,
+}
+
+impl SplitList {
+    pub const EMPTY: SplitList = SplitList {
+        pieces: [0; judge::PIECES],
+        count: 0,
+    };
+
+    pub fn new(pieces: &[usize]) -> SplitList {
+        let mut list = SplitList {
+            count: pieces.len(),
+            ..SplitList::EMPTY
+        };
+        for (place, &piece) in list.pieces.iter_mut().zip(pieces) {
+            *place = u16::try_from(piece).expect("a piece has 16 bits");
+        }
+        list
+    }
+
+    /// The pieces within the count.
+    pub fn list(&self) -> Vec<usize> {
+        self.pieces[..self.count]
+            .iter()
+            .map(|&piece| piece.into())
+            .collect()
+    }
+}
+
+impl std::fmt::Debug for SplitList {
+    /// The count, then the entries up to the last that is not 0.
+    fn fmt(&self, f: &mut std::fmt::Formatter<'_>) -> std::fmt::Result {
+        let end = self.pieces.iter().rposition(|&piece| piece != 0);
+        let shown = &self.pieces[..end.map_or(0, |at| at + 1)];
+        write!(f, "{} of {shown:?}", self.count)
+    }
+}
+
+#[derive(Debug, Clone, PartialEq, Eq)]
+pub struct LeafRecord {
+    pub number: u8,
+    pub node: usize,
+    pub width: u16,
+    pub height: u16,
+    pub horizontal: SplitList,
+    pub vertical: SplitList,
+    pub flags: Flags,
+}
+
+/// What `short_splits3` answers.
+#[derive(Debug, Clone, PartialEq, Eq)]
+pub struct CutParts {
+    pub number: u8,
+    pub split: bool,
+    pub taken: SplitList,
+    pub left: SplitList,
+}
+
+/// What `short_splits` answers. Positions have 32 bits.
+#[derive(Clone, PartialEq, Eq)]
+pub struct CutPositions {
+    pub number: u8,
+    pub positions: [u32; judge::PIECES],
+    pub count: usize,
+    pub left: SplitList,
+}
+
+impl std::fmt::Debug for CutPositions {
+    fn fmt(&self, f: &mut std::fmt::Formatter<'_>) -> std::fmt::Result {
+        let end = self.positions.iter().rposition(|&at| at != 0);
+        f.debug_struct("CutPositions")
+            .field("number", &self.number)
+            .field("positions", &&self.positions[..end.map_or(0, |at| at + 1)])
+            .field("count", &self.count)
+            .field("left", &self.left)
+            .finish()
+    }
+}
+
+/// A number and a child's part of the spare space.
+#[derive(Debug, Clone, Copy, Default, PartialEq, Eq)]
+pub struct Shared {
+    pub number: u8,
+    pub part: usize,
+}
+
+pub trait Calls {
+    fn read_settings(&mut self, settings: &[u8]) -> ReadSettings;
+
+    /// Answers the node count.
+    fn read_tree(&mut self, tree: &[u8]) -> Counted;
+
+    /// The size collector. Answers the node count.
+    fn sizes(&mut self, settings: &[u8], tree: &[u8], list: &mut [SizeRecord]) -> Counted;
+
+    fn leaf_record(&mut self, settings: &[u8], tree: &[u8], node: usize) -> LeafRecord;
+
+    /// The leaf printer. Answers the bytes written.
+    fn leaf(&mut self, settings: &[u8], tree: &[u8], node: usize, output: &mut [u8]) -> Counted;
+
+    /// The sheet printer. Answers the bytes written.
+    fn sheet(&mut self, settings: &[u8], tree: &[u8], output: &mut [u8]) -> Counted;
+
+    fn short_splits3(&mut self, list: &SplitList, width: u16) -> CutParts;
+
+    fn short_splits(&mut self, list: &SplitList, width: u16) -> CutPositions;
+
+    /// The cut that shortens the list where the caller keeps it. What it answers has the list left, too.
+    fn short_splits3_lent(&mut self, list: &mut SplitList, width: u16) -> CutParts {
+        let cut = self.short_splits3(list, width);
+        if cut.number == 0 {
+            *list = cut.left.clone();
+        }
+        cut
+    }
+
+    fn share(&mut self, spare: usize, n: usize, priority: u8, index: usize) -> Shared;
+}

@@ -1,0 +1,382 @@
+//! Two sides on the same inputs: every number, every field, and every lent entry, written or not.
+
+use std::collections::BTreeMap;
+use std::fmt;
+
+use crate::calls::{Calls, SizeRecord, SplitList};
+use crate::form::{encode_settings, encode_tree, Settings, Tree};
+use crate::gen::{self, Case, Rng};
+use crate::judge;
+
+/// Where two sides part.
+#[derive(Debug, Clone, PartialEq, Eq)]
+pub struct Difference {
+    pub call: &'static str,
+    /// What was handed in.
+    pub input: String,
+    pub one: String,
+    pub other: String,
+}
+
+impl fmt::Display for Difference {
+    fn fmt(&self, f: &mut fmt::Formatter<'_>) -> fmt::Result {
+        writeln!(f, "{} of {}", self.call, self.input)?;
+        writeln!(f, "  one:   {}", self.one)?;
+        write!(f, "  other: {}", self.other)
+    }
+}
+
+/// How often each call gave each number.
+#[derive(Debug, Clone, Default, PartialEq, Eq)]
+pub struct Counts(pub BTreeMap<(&'static str, u8), usize>);
+
+impl Counts {
+    pub fn of(&self, call: &'static str, number: u8) -> usize {
+        self.0.get(&(call, number)).copied().unwrap_or(0)
+    }
+
+    pub fn total(&self) -> usize {
+        self.0.values().sum()
+    }
+}
+
+impl fmt::Display for Counts {
+    fn fmt(&self, f: &mut fmt::Formatter<'_>) -> fmt::Result {
+        let mut last = "";
+        for ((call, number), count) in &self.0 {
+            if *call != last {
+                write!(f, "{}{call}:", if last.is_empty() { "" } else { "\n" })?;
+                last = call;
+            }
+            write!(f, "  {number} × {count}")?;
+        }
+        Ok(())
+    }
+}
+
+/// A comparison that is under way.
+pub struct Comparison<'a> {
+    pub one: &'a mut dyn Calls,
+    pub other: &'a mut dyn Calls,
+    pub counts: Counts,
+}
+
+fn bytes(bytes: &[u8]) -> String {
+    bytes.iter().map(|byte| format!("{byte:02x}")).collect()
+}
+
+/// What a lent output holds before a call.
+fn junk(length: usize) -> Vec<u8> {
+    (0..length).map(|at| (at as u8) ^ 0xA5).collect()
+}
+
+/// What a lent size list holds before a call.
+fn junk_sizes(length: usize) -> Vec<SizeRecord> {
+    let number = |at: usize| (at as u16) ^ 0xA5A5;
+    (0..length)
+        .map(|at| SizeRecord {
+            natural_width: number(4 * at),
+            natural_height: number(4 * at + 1),
+            allotted_width: number(4 * at + 2),
+            allotted_height: number(4 * at + 3),
+        })
+        .collect()
+}
+
+impl<'a> Comparison<'a> {
+    pub fn new(one: &'a mut dyn Calls, other: &'a mut dyn Calls) -> Self {
+        Comparison {
+            one,
+            other,
+            counts: Counts::default(),
+        }
+    }
+
+    /// Run a call on both sides and hold the two answers, number first, side by side.
+    fn call<T: PartialEq + fmt::Debug>(
+        &mut self,
+        call: &'static str,
+        input: impl Fn() -> String,
+        run: impl Fn(&mut dyn Calls) -> (u8, T),
+    ) -> Result<(), Difference> {
+        let one = run(self.one);
+        let other = run(self.other);
+        if one != other {
+            return Err(Difference {
+                call,
+                input: input(),
+                one: format!("{one:?}"),
+                other: format!("{other:?}"),
+            });
+        }
+        *self.counts.0.entry((call, one.0)).or_default() += 1;
+        Ok(())
+    }
+
+    fn readers(&mut self, settings: &[u8], tree: &[u8]) -> Result<(), Difference> {
+        self.call(
+            "settings",
+            || bytes(settings),
+            |side| {
+                let answer = side.read_settings(settings);
+                (answer.number, answer)
+            },
+        )?;
+        self.call(
+            "tree",
+            || bytes(tree),
+            |side| {
+                let answer = side.read_tree(tree);
+                (answer.number, answer)
+            },
+        )
+    }
+
+    fn sizes(&mut self, settings: &[u8], tree: &[u8], length: usize) -> Result<(), Difference> {
+        self.call(
+            "sizes",
+            || format!("{} {} lent {length}", bytes(settings), bytes(tree)),
+            |side| {
+                let mut list = junk_sizes(length);
+                let answer = side.sizes(settings, tree, &mut list);
+                (answer.number, (answer, list))
+            },
+        )
+    }
+
+    fn leaf_record(&mut self, settings: &[u8], tree: &[u8], node: usize) -> Result<(), Difference> {
+        self.call(
+            "leaf record",
+            || format!("{} {} node {node}", bytes(settings), bytes(tree)),
+            |side| {
+                let answer = side.leaf_record(settings, tree, node);
+                (answer.number, answer)
+            },
+        )
+    }
+
+    fn leaf(
+        &mut self,
+        settings: &[u8],
+        tree: &[u8],
+        node: usize,
+        length: usize,
+    ) -> Result<(), Difference> {
+        self.call(
+            "leaf",
+            || {
+                let (settings, tree) = (bytes(settings), bytes(tree));
+                format!("{settings} {tree} node {node} lent {length}")
+            },
+            |side| {
+                let mut output = junk(length);
+                let answer = side.leaf(settings, tree, node, &mut output);
+                (answer.number, (answer, output))
+            },
+        )
+    }
+
+    fn sheet(&mut self, settings: &[u8], tree: &[u8], length: usize) -> Result<(), Difference> {
+        self.call(
+            "sheet",
+            || format!("{} {} lent {length}", bytes(settings), bytes(tree)),
+            |side| {
+                let mut output = junk(length);
+                let answer = side.sheet(settings, tree, &mut output);
+                (answer.number, (answer, output))
+            },
+        )
+    }
+
+    /// Every call, once.
+    pub fn case(&mut self, case: &Case) -> Result<(), Difference> {
+        let (settings, tree) = (&case.settings, &case.tree);
+        self.readers(settings, tree)?;
+        self.sizes(settings, tree, case.list)?;
+        self.leaf_record(settings, tree, case.node)?;
+        self.leaf(settings, tree, case.node, case.block)?;
+        self.sheet(settings, tree, case.sheet)
+    }
+
+    /// A whole table: every node's sizes, record and block, the number past the last, and the sheet; lists lent with three entries more
+    /// than are needed, and once with one less.
+    pub fn table(&mut self, settings: &Settings, tree: &Tree) -> Result<(), Difference> {
+        let nodes = tree.nodes();
+        let settings = encode_settings(settings);
+        let tree = encode_tree(tree);
+        self.readers(&settings, &tree)?;
+        self.sizes(&settings, &tree, nodes + 3)?;
+        self.sizes(&settings, &tree, nodes - 1)?;
+        for node in 0..=nodes {
+            self.leaf_record(&settings, &tree, node)?;
+            let needed = judge::leaf_bytes(&settings, &tree, node).unwrap_or(0);
+            self.leaf(&settings, &tree, node, needed + 3)?;
+        }
+        if let Ok(read) = judge::read(&settings, &tree) {
+            let needed = read.sheet_bytes().min(70_000);
+            self.sheet(&settings, &tree, needed + 3)?;
+            self.sheet(&settings, &tree, needed - 1)?;
+        }
+        Ok(())
+    }
+
+    /// The cuts of one list.
+    pub fn list(&mut self, list: &SplitList, width: u16) -> Result<(), Difference> {
+        let input = || format!("{list:?} at {width}");
+        self.call("short_splits3", input, |side| {
+            let answer = side.short_splits3(list, width);
+            (answer.number, answer)
+        })?;
+        self.call("short_splits", input, |side| {
+            let answer = side.short_splits(list, width);
+            (answer.number, answer)
+        })?;
+        self.call("short_splits3, lent", input, |side| {
+            let mut lent = list.clone();
+            let answer = side.short_splits3_lent(&mut lent, width);
+            (answer.number, (answer, lent))
+        })
+    }
+
+    /// The sharing helper.
+    pub fn share(
+        &mut self,
+        spare: usize,
+        n: usize,
+        priority: u8,
+        index: usize,
+    ) -> Result<(), Difference> {
+        self.call(
+            "share",
+            || format!("{spare} among {n}, priority {priority}, child {index}"),
+            |side| {
+                let answer = side.share(spare, n, priority, index);
+                (answer.number, answer)
+            },
+        )
+    }
+
+    /// Every tree of up to `nodes` nodes with a few texts, under each of the settings.
+    pub fn small_tables(&mut self, nodes: usize, settings: &[Settings]) -> Result<(), Difference> {
+        for nodes in 1..=nodes {
+            for tree in gen::small_trees(nodes, &["", "a", "bcd", "e\nfg"]) {
+                for settings in settings {
+                    self.table(settings, &tree)?;
+                }
+            }
+        }
+        Ok(())
+    }
+
+    /// Every pair of small groups, under each of the settings.
+    pub fn two_groups(&mut self, settings: &[Settings]) -> Result<(), Difference> {
+        for tree in gen::two_groups(&["", "a", "bc\nd"]) {
+            for settings in settings {
+                self.table(settings, &tree)?;
+            }
+        }
+        Ok(())
+    }
+
+    /// So many tables on each side of each limit, −2 to 2 from it.
+    pub fn limits(&mut self, rng: &mut Rng, rounds: usize) -> Result<(), Difference> {
+        for limit in gen::LIMITS {
+            for offset in -2..=2 {
+                for _ in 0..rounds {
+                    let (settings, tree) = gen::near(rng, limit, offset);
+                    let (settings, tree) = (encode_settings(&settings), encode_tree(&tree));
+                    for _ in 0..4 {
+                        let case = gen::case(rng, settings.clone(), tree.clone());
+                        self.case(&case)?;
+                    }
+                }
+            }
+        }
+        Ok(())
+    }
+
+    /// So many whole tables of ordinary size.
+    pub fn tables(&mut self, rng: &mut Rng, rounds: usize) -> Result<(), Difference> {
+        for _ in 0..rounds {
+            let (settings, tree) = gen::table(rng);
+            self.table(&settings, &tree)?;
+        }
+        Ok(())
+    }
+
+    /// So many cases of any kind, damaged bytes among them.
+    pub fn cases(&mut self, rng: &mut Rng, rounds: usize) -> Result<(), Difference> {
+        for _ in 0..rounds {
+            let case = gen::any_case(rng);
+            self.case(&case)?;
+        }
+        Ok(())
+    }
+
+    /// Every list of up to three pieces of 0 to 4 at widths 0 to 9, then so many random ones, then counts past the limit.
+    pub fn lists(&mut self, rng: &mut Rng, rounds: usize) -> Result<(), Difference> {
+        for count in 0..=3 {
+            for pieces in 0..5usize.pow(count) {
+                let list: Vec<usize> = (0..count).map(|at| pieces / 5usize.pow(at) % 5).collect();
+                for width in 0..=9 {
+                    self.list(&SplitList::new(&list), width)?;
+                }
+            }
+        }
+        for _ in 0..rounds {
+            let (list, width) = gen::list(rng);
+            let mut list = SplitList::new(&list);
+            // What stands past the count is the caller's.
+            if rng.one_in(2) {
+                for place in &mut list.pieces[list.count..] {
+                    *place = rng.below(65_536) as u16;
+                }
+            }
+            self.list(&list, width)?;
+            list.count = rng.pick(&[513, 514, 1024, 65_536, usize::MAX]);
+            self.list(&list, width)?;
+        }
+        Ok(())
+    }
+
+    /// Every share of up to `most` among up to `most` children, the refusals included, then large ones.
+    pub fn shares(&mut self, rng: &mut Rng, most: usize) -> Result<(), Difference> {
+        for n in 0..=most {
+            for spare in 0..=most {
+                for priority in 0..3 {
+                    for index in 0..=n {
+                        self.share(spare, n, priority, index)?;
+                    }
+                }
+            }
+        }
+        for _ in 0..most {
+            let n = rng.between(1, judge::NODES);
+            let spare = rng.between(0, 65_535);
+            let priority = rng.below(3) as u8;
+            let index = rng.below(n + 1);
+            self.share(spare, n, priority, index)?;
+        }
+        self.share(usize::MAX, usize::MAX, 2, usize::MAX - 1)?;
+        self.share(usize::MAX, usize::MAX, 2, usize::MAX)?;
+        self.share(usize::MAX, 1, 2, 0)?;
+        self.share(usize::MAX, 2, 2, 0)
+    }
+    /// Everything: the exhaustive inputs, then `rounds` of the random ones.
+    pub fn all(&mut self, seed: u64, rounds: usize) -> Result<(), Difference> {
+        let mut rng = Rng::new(seed);
+        let padded = Settings {
+            padding: [1, 0, 0, 1],
+            fills: *b"<>^~",
+            ..Settings::M
+        };
+        self.small_tables(5, &gen::few_settings())?;
+        self.small_tables(4, &gen::choices(padded))?;
+        self.two_groups(&gen::few_settings())?;
+        self.lists(&mut rng, 1000 * rounds)?;
+        self.shares(&mut rng, 12)?;
+        self.limits(&mut rng, 10 * rounds)?;
+        self.tables(&mut rng, 300 * rounds)?;
+        self.cases(&mut rng, 3000 * rounds)
+    }
+}

@@ -1,0 +1,183 @@
+//! Settings and trees as plain values, and document 01's byte forms of them.
+
+/// Document 01's settings record, its numbers as they stand in the bytes.
+#[derive(Debug, Clone, Copy, PartialEq, Eq)]
+pub struct Settings {
+    /// Top, bottom, left, right, horizontal, vertical, top_left, top_right, top_intersection, bottom_left, bottom_right,
+    /// bottom_intersection, left_intersection, right_intersection, intersection.
+    pub marks: [u8; 15],
+    /// Left, right, top, bottom.
+    pub padding: [u8; 4],
+    /// In the same order.
+    pub fills: [u8; 4],
+    /// 0 left, 1 center, 2 right.
+    pub horizontal: u8,
+    /// 0 top, 1 center, 2 bottom.
+    pub vertical: u8,
+    /// 0 or 1.
+    pub line_mode: u8,
+    /// 0 First, 1 Last, 2 List.
+    pub width_priority: u8,
+    /// 0 First, 1 Last, 2 List.
+    pub height_priority: u8,
+}
+
+impl Settings {
+    /// The set D of the figures.
+    pub const D: Settings = Settings {
+        marks: *b"--||-|+++++++++",
+        padding: [1, 1, 0, 0],
+        fills: [b' '; 4],
+        horizontal: 0,
+        vertical: 0,
+        line_mode: 0,
+        width_priority: 2,
+        height_priority: 2,
+    };
+
+    /// The set M of the figures.
+    pub const M: Settings = Settings {
+        marks: *b"-_()hv123456789",
+        ..Settings::D
+    };
+}
+
+#[derive(Debug, Clone, PartialEq, Eq)]
+pub enum Tree {
+    Cell(Vec<u8>),
+    Row(Vec<Tree>),
+    Column(Vec<Tree>),
+}
+
+impl Tree {
+    pub fn cell(text: impl AsRef<[u8]>) -> Tree {
+        Tree::Cell(text.as_ref().to_vec())
+    }
+
+    /// The children; none of a Cell.
+    pub fn children(&self) -> &[Tree] {
+        match self {
+            Tree::Cell(_) => &[],
+            Tree::Row(children) | Tree::Column(children) => children,
+        }
+    }
+
+    pub fn nodes(&self) -> usize {
+        1 + self.children().iter().map(Tree::nodes).sum::<usize>()
+    }
+
+    /// The root alone has depth 1.
+    pub fn depth(&self) -> usize {
+        1 + self.children().iter().map(Tree::depth).max().unwrap_or(0)
+    }
+
+    /// The bytes of its form.
+    pub fn bytes(&self) -> usize {
+        3 + match self {
+            Tree::Cell(text) => text.len(),
+            Tree::Row(children) | Tree::Column(children) => children.iter().map(Tree::bytes).sum(),
+        }
+    }
+}
+
+/// The 31 bytes.
+pub fn encode_settings(settings: &Settings) -> Vec<u8> {
+    let mut bytes = vec![0x10, 0, 28];
+    bytes.extend(settings.marks);
+    bytes.extend(settings.padding);
+    bytes.extend(settings.fills);
+    bytes.extend([
+        settings.horizontal,
+        settings.vertical,
+        settings.line_mode,
+        settings.width_priority,
+        settings.height_priority,
+    ]);
+    bytes
+}
+
+/// Panics where a length does not fit its two bytes.
+pub fn encode_tree(tree: &Tree) -> Vec<u8> {
+    fn put(tree: &Tree, bytes: &mut Vec<u8>) {
+        let tag = match tree {
+            Tree::Cell(_) => 1,
+            Tree::Row(_) => 2,
+            Tree::Column(_) => 3,
+        };
+        let length = u16::try_from(tree.bytes() - 3).expect("a length has two bytes");
+        bytes.push(tag);
+        bytes.extend(length.to_be_bytes());
+        match tree {
+            Tree::Cell(text) => bytes.extend(text),
+            Tree::Row(children) | Tree::Column(children) => {
+                children.iter().for_each(|child| put(child, bytes))
+            }
+        }
+    }
+
+    let mut bytes = Vec::with_capacity(tree.bytes());
+    put(tree, &mut bytes);
+    bytes
+}
+
+/// The four numbers of a node.
+#[derive(Debug, Clone, Copy, Default, PartialEq, Eq)]
+pub struct Size {
+    pub natural_width: usize,
+    pub natural_height: usize,
+    pub allotted_width: usize,
+    pub allotted_height: usize,
+}
+
+/// The eight flags of document 01.
+#[derive(Debug, Clone, Copy, Default, PartialEq, Eq)]
+pub struct Flags {
+    pub first_row: bool,
+    pub last_row: bool,
+    pub first_col: bool,
+    pub last_col: bool,
+    pub no_right: bool,
+    pub lean_top: bool,
+    pub top_left: bool,
+    pub top_intersection: bool,
+}
+
+/// A leaf's record and its block.
+#[derive(Debug, Clone, PartialEq, Eq)]
+pub struct Leaf {
+    pub node: usize,
+    /// Allotted.
+    pub width: usize,
+    pub height: usize,
+    /// The horizontal split list, as the leaf is given it.
+    pub horizontal: Vec<usize>,
+    pub vertical: Vec<usize>,
+    pub flags: Flags,
+    pub block: Vec<u8>,
+}
+
+/// What there is to know of one table.
+#[derive(Debug, Clone, PartialEq, Eq)]
+pub struct Answer {
+    /// By node number.
+    pub sizes: Vec<Size>,
+    /// In node order.
+    pub leaves: Vec<Leaf>,
+    pub sheet: Vec<u8>,
+}
+
+/// What `short_splits3` makes of a list.
+#[derive(Debug, Clone, PartialEq, Eq)]
+pub struct Cut3 {
+    pub yes: bool,
+    pub taken: Vec<usize>,
+    pub left: Vec<usize>,
+}
+
+/// What `short_splits` makes of a list, and `squash_splits` of its positions.
+#[derive(Debug, Clone, PartialEq, Eq)]
+pub struct Cut {
+    pub positions: Vec<usize>,
+    pub squashed: Vec<usize>,
+    pub left: Vec<usize>,
+}

@@ -1,0 +1,591 @@
+//! Inputs: exhaustive small ones, random ones, those on each side of each limit, damaged ones.
+
+use crate::form::{encode_settings, encode_tree, Settings, Tree};
+use crate::judge;
+use crate::paper;
+
+/// A small seeded generator (splitmix64).
+#[derive(Debug, Clone)]
+pub struct Rng(u64);
+
+impl Rng {
+    pub fn new(seed: u64) -> Rng {
+        Rng(seed)
+    }
+
+    pub fn number(&mut self) -> u64 {
+        self.0 = self.0.wrapping_add(0x9E37_79B9_7F4A_7C15);
+        let mut z = self.0;
+        z = (z ^ (z >> 30)).wrapping_mul(0xBF58_476D_1CE4_E5B9);
+        z = (z ^ (z >> 27)).wrapping_mul(0x94D0_49BB_1331_11EB);
+        z ^ (z >> 31)
+    }
+
+    /// 0 to n − 1.
+    pub fn below(&mut self, n: usize) -> usize {
+        (self.number() % n as u64) as usize
+    }
+
+    /// Both ends included.
+    pub fn between(&mut self, low: usize, high: usize) -> usize {
+        low + self.below(high - low + 1)
+    }
+
+    pub fn one_in(&mut self, n: usize) -> bool {
+        self.below(n) == 0
+    }
+
+    pub fn pick<T: Clone>(&mut self, list: &[T]) -> T {
+        list[self.below(list.len())].clone()
+    }
+
+    fn byte(&mut self) -> u8 {
+        self.number() as u8
+    }
+}
+
+// Exhaustive
+
+/// Every tree of exactly so many nodes whose Cells have these texts.
+pub fn small_trees(nodes: usize, texts: &[&str]) -> Vec<Tree> {
+    let mut trees: Vec<Vec<Tree>> = vec![Vec::new()];
+    let mut forests: Vec<Vec<Vec<Tree>>> = vec![vec![Vec::new()]];
+    for n in 1..=nodes {
+        let mut of_n: Vec<Tree> = Vec::new();
+        if n == 1 {
+            of_n.extend(texts.iter().map(Tree::cell));
+        }
+        for forest in &forests[n - 1] {
+            of_n.push(Tree::Row(forest.clone()));
+            of_n.push(Tree::Column(forest.clone()));
+        }
+        trees.push(of_n);
+
+        let mut forest = Vec::new();
+        for first in 1..=n {
+            for tree in &trees[first] {
+                for rest in &forests[n - first] {
+                    forest.push([std::slice::from_ref(tree), rest].concat());
+                }
+            }
+        }
+        forests.push(forest);
+    }
+    trees.swap_remove(nodes)
+}
+
+/// Every Column of two Rows, and every Row of two Columns, of one to three Cells with these texts: the second group's cuts meet the
+/// first one's pieces in every way. (A cut says yes from 7 nodes on, as in F4.)
+pub fn two_groups(texts: &[&str]) -> Vec<Tree> {
+    let mut groups: Vec<Vec<Tree>> = Vec::new();
+    let mut last = vec![Vec::new()];
+    for _ in 1..=3 {
+        let longer = last.iter().flat_map(|group: &Vec<Tree>| {
+            texts
+                .iter()
+                .map(|text| [&group[..], &[Tree::cell(text)]].concat())
+        });
+        last = longer.collect();
+        groups.extend(last.clone());
+    }
+
+    let mut list = Vec::new();
+    for first in &groups {
+        for second in &groups {
+            let pair = [first.clone(), second.clone()];
+            list.push(Tree::Column(pair.clone().map(Tree::Row).to_vec()));
+            list.push(Tree::Row(pair.map(Tree::Column).to_vec()));
+        }
+    }
+    list
+}
+
+/// Every choice of alignments, line mode and priorities.
+pub fn choices(base: Settings) -> Vec<Settings> {
+    let mut list = Vec::new();
+    for n in 0..162u8 {
+        list.push(Settings {
+            horizontal: n % 3,
+            vertical: n / 3 % 3,
+            line_mode: n / 9 % 2,
+            width_priority: n / 18 % 3,
+            height_priority: n / 54,
+            ..base
+        });
+    }
+    list
+}
+
+/// A few settings that differ in all they can, each mark and fill a character of its own.
+pub fn few_settings() -> Vec<Settings> {
+    let bare = Settings {
+        padding: [0; 4],
+        ..Settings::M
+    };
+    let wide = Settings {
+        padding: [2, 1, 1, 2],
+        fills: *b"<>^~",
+        horizontal: 1,
+        vertical: 1,
+        line_mode: 1,
+        width_priority: 0,
+        height_priority: 1,
+        ..Settings::M
+    };
+    let late = Settings {
+        padding: [0, 1, 0, 1],
+        fills: *b"<>^~",
+        horizontal: 2,
+        vertical: 2,
+        line_mode: 0,
+        width_priority: 1,
+        height_priority: 0,
+        ..Settings::M
+    };
+    vec![Settings::D, Settings::M, bare, wide, late]
+}
+
+// Random
+
+/// Settings of the form, mostly with fifteen different marks.
+pub fn settings(rng: &mut Rng) -> Settings {
+    let mut bytes: Vec<u8> = (0x20..=0x7E).collect();
+    for at in 0..19 {
+        let other = rng.between(at, bytes.len() - 1);
+        bytes.swap(at, other);
+    }
+    if rng.one_in(8) {
+        let byte = rng.pick(b" ~a");
+        bytes[..19].fill(byte);
+    }
+
+    let most = rng.pick(&[0, 1, 1, 2, 3, 16]);
+    let mut padding = [0; 4];
+    for size in &mut padding {
+        *size = if rng.one_in(16) {
+            16
+        } else {
+            rng.between(0, most) as u8
+        };
+    }
+    Settings {
+        marks: bytes[..15].try_into().expect("15 marks"),
+        padding,
+        fills: bytes[15..19].try_into().expect("4 fills"),
+        horizontal: rng.below(3) as u8,
+        vertical: rng.below(3) as u8,
+        line_mode: rng.below(2) as u8,
+        width_priority: rng.below(3) as u8,
+        height_priority: rng.below(3) as u8,
+    }
+}
+
+/// Up to so many lines of up to so many columns.
+pub fn text(rng: &mut Rng, width: usize, lines: usize) -> Vec<u8> {
+    let mut text = Vec::new();
+    for line in 0..rng.between(1, lines) {
+        if line > 0 {
+            text.push(0x0A);
+        }
+        for _ in 0..rng.between(0, width) {
+            text.push(if rng.one_in(8) {
+                rng.between(0x20, 0x7E) as u8
+            } else {
+                rng.between(b'a'.into(), b'z'.into()) as u8
+            });
+        }
+    }
+    text
+}
+
+/// How random trees are made.
+#[derive(Debug, Clone, Copy)]
+pub struct Growth {
+    /// The most columns and lines of a text.
+    pub width: usize,
+    pub lines: usize,
+}
+
+fn leaf(rng: &mut Rng, growth: Growth) -> Tree {
+    if rng.one_in(12) {
+        return rng.pick(&[Tree::Row(Vec::new()), Tree::Column(Vec::new())]);
+    }
+    Tree::Cell(text(rng, growth.width, growth.lines))
+}
+
+fn group(rng: &mut Rng, children: Vec<Tree>) -> Tree {
+    if rng.one_in(2) {
+        Tree::Row(children)
+    } else {
+        Tree::Column(children)
+    }
+}
+
+/// Trees of so many nodes together, each of at most this depth.
+fn forest(rng: &mut Rng, nodes: usize, depth: usize, growth: Growth) -> Vec<Tree> {
+    let mut list = Vec::new();
+    let most = if rng.one_in(3) {
+        1
+    } else {
+        rng.between(1, nodes.max(1))
+    };
+    let mut left = nodes;
+    while left > 0 {
+        let part = if depth == 1 {
+            1
+        } else {
+            rng.between(1, most.min(left))
+        };
+        list.push(tree(rng, part, depth, growth));
+        left -= part;
+    }
+    list
+}
+
+/// A tree of exactly so many nodes and at most this depth, which is 2 or more where there are two nodes.
+pub fn tree(rng: &mut Rng, nodes: usize, depth: usize, growth: Growth) -> Tree {
+    if nodes == 1 {
+        return leaf(rng, growth);
+    }
+    let children = forest(rng, nodes - 1, depth - 1, growth);
+    group(rng, children)
+}
+
+/// A tree of exactly so many nodes and exactly this depth; nodes at least depth.
+pub fn tree_of_depth(rng: &mut Rng, nodes: usize, depth: usize, growth: Growth) -> Tree {
+    if depth == 1 {
+        return leaf(rng, growth);
+    }
+    let deep = rng.between(depth - 1, nodes - 1);
+    let deep = if depth == 2 { 1 } else { deep };
+    let mut children = forest(rng, nodes - 1 - deep, depth - 1, growth);
+    let at = rng.between(0, children.len());
+    children.insert(at, tree_of_depth(rng, deep, depth - 1, growth));
+    group(rng, children)
+}
+
+// Limits
+
+#[derive(Debug, Clone, Copy, PartialEq, Eq)]
+pub enum Limit {
+    Nodes,
+    Depth,
+    Width,
+    Height,
+    Bytes,
+}
+
+pub const LIMITS: [Limit; 5] = [
+    Limit::Nodes,
+    Limit::Depth,
+    Limit::Width,
+    Limit::Height,
+    Limit::Bytes,
+];
+
+/// Row of Columns (or the reverse) of so many nodes, which a sheet has room for.
+fn grid(rng: &mut Rng, nodes: usize) -> Tree {
+    let growth = Growth { width: 3, lines: 1 };
+    let is_row = rng.one_in(2);
+    let groups = if is_row {
+        rng.between(7, 20)
+    } else {
+        rng.between(13, 70)
+    };
+    let mut lists = vec![Vec::new(); groups];
+    for at in 0..nodes - 1 - groups {
+        lists[at % groups].push(leaf(rng, growth));
+    }
+    if is_row {
+        Tree::Row(lists.into_iter().map(Tree::Column).collect())
+    } else {
+        Tree::Column(lists.into_iter().map(Tree::Row).collect())
+    }
+}
+
+/// So many text bytes in lines of this width.
+fn long_text(rng: &mut Rng, bytes: usize, width: usize) -> Vec<u8> {
+    (1..=bytes)
+        .map(|at| {
+            if at % (width + 1) == 0 {
+                0x0A
+            } else {
+                rng.between(b'a'.into(), b'z'.into()) as u8
+            }
+        })
+        .collect()
+}
+
+/// A tree of exactly so many bytes; its texts are long.
+fn tree_of_bytes(rng: &mut Rng, bytes: usize) -> Tree {
+    let cells = rng.between(4, 6);
+    let texts = bytes - 3 - 3 * cells;
+    let width = texts / cells / rng.between(120, 155);
+    let children = (0..cells)
+        .map(|at| {
+            let length = texts / cells + usize::from(at < texts % cells);
+            Tree::Cell(long_text(rng, length, width))
+        })
+        .collect();
+    if rng.one_in(8) {
+        Tree::Column(children)
+    } else {
+        Tree::Row(children)
+    }
+}
+
+/// A tree whose W (or H, for lines) is exactly `target`: a random tree and a Cell beside it or under it that fills up.
+fn tree_of_extent(rng: &mut Rng, settings: &Settings, target: usize, is_width: bool) -> Tree {
+    let growth = Growth { width: 6, lines: 4 };
+    let padding = settings.padding.map(usize::from);
+    let filled = |length: usize| {
+        if is_width {
+            Tree::Cell(vec![b'w'; length])
+        } else {
+            Tree::Cell(vec![0x0A; length])
+        }
+    };
+    // What a Cell has beside `length`: its padding, and the line that no 0A ends.
+    let own = if is_width {
+        padding[0] + padding[1]
+    } else {
+        padding[2] + padding[3] + 1
+    };
+
+    let mut nodes = rng.between(1, 40);
+    loop {
+        let depth = rng.between(2, 8);
+        let part = tree(rng, nodes, depth, growth);
+        let (w, h) = paper::rectangle(&paper::sizes(settings, &part));
+        let extent = if is_width { w } else { h };
+        // Side by side the extents and a separator add up; one under the other the greater counts.
+        let adds = rng.one_in(2);
+        let needed = if adds { extent + 1 + own } else { 2 + own };
+        if extent <= target && needed <= target {
+            let mut children = vec![part];
+            let at = rng.below(2);
+            children.insert(at, filled(target - needed));
+            return if adds == is_width {
+                Tree::Row(children)
+            } else {
+                Tree::Column(children)
+            };
+        }
+        nodes = nodes / 2 + 1;
+    }
+}
+
+/// Settings and a tree that stand exactly so far from a limit.
+pub fn near(rng: &mut Rng, limit: Limit, offset: isize) -> (Settings, Tree) {
+    let at = |limit: usize| limit.checked_add_signed(offset).expect("a small offset");
+    let growth = Growth { width: 3, lines: 2 };
+    let mut settings = settings(rng);
+    let tree = match limit {
+        Limit::Nodes => {
+            let nodes = at(judge::NODES);
+            if rng.one_in(2) {
+                settings.padding = [rng.below(2) as u8, 0, 0, 0];
+                grid(rng, nodes)
+            } else {
+                let depth = rng.between(2, judge::DEPTH);
+                tree(rng, nodes, depth, growth)
+            }
+        }
+        Limit::Depth => {
+            let depth = at(judge::DEPTH);
+            let nodes = rng.between(depth, 3 * depth);
+            tree_of_depth(rng, nodes, depth, growth)
+        }
+        Limit::Width => tree_of_extent(rng, &settings, at(judge::SHEET_WIDTH), true),
+        Limit::Height => tree_of_extent(rng, &settings, at(judge::SHEET_HEIGHT), false),
+        Limit::Bytes => {
+            settings.padding[2..].fill(0);
+            tree_of_bytes(rng, at(judge::TREE_BYTES))
+        }
+    };
+    (settings, tree)
+}
+
+/// Groups of many small leaves beside groups of a few: long split lists, cut in many places.
+fn stack(rng: &mut Rng) -> Tree {
+    let is_row = rng.one_in(2);
+    let most = rng.pick(&[3, 12, 60, 120]);
+    let mut groups = Vec::new();
+    for _ in 0..rng.between(2, 4) {
+        let cells = rng.between(1, most);
+        let growth = if rng.one_in(2) {
+            Growth { width: 2, lines: 1 }
+        } else {
+            Growth { width: 4, lines: 3 }
+        };
+        let leaves = (0..cells).map(|_| leaf(rng, growth)).collect();
+        groups.push(if rng.one_in(6) {
+            leaf(rng, growth)
+        } else if is_row {
+            Tree::Column(leaves)
+        } else {
+            Tree::Row(leaves)
+        });
+    }
+    if is_row {
+        Tree::Row(groups)
+    } else {
+        Tree::Column(groups)
+    }
+}
+
+/// Settings and a tree of ordinary size, with a lean to small ones.
+pub fn table(rng: &mut Rng) -> (Settings, Tree) {
+    let mut settings = settings(rng);
+    if rng.one_in(6) {
+        settings.padding = settings.padding.map(|size| size % 2);
+        return (settings, stack(rng));
+    }
+    let most = rng.pick(&[4, 8, 16, 40, 120]);
+    let nodes = rng.between(1, most);
+    let depth = rng.between(2, judge::DEPTH);
+    let growth = rng.pick(&[
+        Growth { width: 0, lines: 1 },
+        Growth { width: 1, lines: 2 },
+        Growth { width: 5, lines: 1 },
+        Growth { width: 8, lines: 4 },
+    ]);
+    (settings, tree(rng, nodes, depth, growth))
+}
+
+// Damage
+
+/// The bytes with one fault more, as a rule.
+pub fn damaged(rng: &mut Rng, bytes: &[u8]) -> Vec<u8> {
+    let mut bytes = bytes.to_vec();
+    let at = rng.below(bytes.len().max(1));
+    match rng.below(8) {
+        0 if !bytes.is_empty() => bytes[at] ^= 1 << rng.below(8),
+        1 if !bytes.is_empty() => bytes[at] = rng.byte(),
+        2 if !bytes.is_empty() => bytes[at] = bytes[at].wrapping_add(1),
+        3 if !bytes.is_empty() => bytes[at] = bytes[at].wrapping_sub(1),
+        4 if !bytes.is_empty() => {
+            bytes.remove(at);
+        }
+        5 => bytes.truncate(at),
+        6 => {
+            let byte = rng.byte();
+            bytes.push(byte);
+        }
+        _ => {
+            let byte = rng.pick(&[0, 1, 2, 3, 4, 0x0A, 0x1F, 0x20, 0x7E, 0x7F, 0xFF]);
+            bytes.insert(at, byte);
+        }
+    }
+    bytes
+}
+
+/// Short bytes that look like elements, well formed or not.
+pub fn element_like(rng: &mut Rng) -> Vec<u8> {
+    let length = rng.between(0, 24);
+    let bytes = (0..length).map(|_| rng.pick(&[0, 0, 0, 1, 1, 2, 2, 3, 3, 4, 6, 9, b'a', 0x0A]));
+    let mut bytes: Vec<u8> = bytes.collect();
+    if length >= 3 && !rng.one_in(4) {
+        bytes[0] = rng.between(1, 3) as u8;
+        bytes[1] = 0;
+        bytes[2] = (length - 3) as u8;
+    }
+    bytes
+}
+
+// Cases
+
+/// One input for every call, with the lengths of the lent lists.
+#[derive(Debug, Clone, PartialEq, Eq)]
+pub struct Case {
+    pub settings: Vec<u8>,
+    pub tree: Vec<u8>,
+    pub node: usize,
+    /// Entries of the lent size list.
+    pub list: usize,
+    /// Bytes lent to the leaf printer, and to the sheet printer.
+    pub block: usize,
+    pub sheet: usize,
+}
+
+/// A length around what is needed: exact, one short, none, more, or any.
+fn around(rng: &mut Rng, needed: usize) -> usize {
+    match rng.below(6) {
+        0 => needed.saturating_sub(1),
+        1 => 0,
+        2 => needed + rng.between(1, 9),
+        3 => rng.between(0, needed),
+        _ => needed,
+    }
+}
+
+/// A case for these bytes: the node is mostly a leaf, the lengths lie around what is needed.
+pub fn case(rng: &mut Rng, settings: Vec<u8>, tree: Vec<u8>) -> Case {
+    let read = judge::read(&settings, &tree).ok();
+    let nodes = read.as_ref().map_or(1, |read| read.sizes.len());
+    let mut node = match rng.below(12) {
+        0 => nodes,
+        1 => rng.pick(&[511, 512, 65_535, 65_536, usize::MAX]),
+        _ => rng.below(nodes),
+    };
+    if let (Some(read), false) = (&read, rng.one_in(6)) {
+        // On to the next leaf.
+        let leaves = judge::leaves(&read.tree);
+        node = *leaves.iter().find(|&&leaf| leaf >= node).unwrap_or(&node);
+    }
+    let block = judge::leaf_bytes(&settings, &tree, node).unwrap_or(40);
+    let sheet = read.as_ref().map_or(40, judge::Read::sheet_bytes);
+    Case {
+        node,
+        list: around(rng, nodes),
+        block: around(rng, block),
+        sheet: around(rng, sheet.min(70_000)),
+        settings,
+        tree,
+    }
+}
+
+/// A case of any kind: good bytes, bytes near a limit, damaged bytes, noise.
+pub fn any_case(rng: &mut Rng) -> Case {
+    let (settings, tree) = match rng.below(8) {
+        0 => {
+            let limit = rng.pick(&LIMITS);
+            let offset = rng.between(0, 4) as isize - 2;
+            near(rng, limit, offset)
+        }
+        _ => table(rng),
+    };
+    let mut settings = encode_settings(&settings);
+    let mut tree = encode_tree(&tree);
+    match rng.below(10) {
+        0 => settings = damaged(rng, &settings),
+        1..=3 => tree = damaged(rng, &tree),
+        4 => tree = element_like(rng),
+        5 => {
+            settings = damaged(rng, &settings);
+            tree = damaged(rng, &tree);
+        }
+        _ => {}
+    }
+    case(rng, settings, tree)
+}
+
+/// Pieces and a width for the cuts: short lists, full ones, widths around the sums.
+pub fn list(rng: &mut Rng) -> (Vec<usize>, u16) {
+    let count = match rng.below(8) {
+        0 => rng.between(500, judge::PIECES),
+        1 => rng.between(20, 100),
+        _ => rng.between(0, 6),
+    };
+    let most = rng.pick(&[0, 1, 2, 5, 20, 65_535]);
+    let list: Vec<usize> = (0..count).map(|_| rng.between(0, most)).collect();
+    let taken = rng.between(0, count);
+    let sum: usize = list[..taken].iter().sum::<usize>() + rng.pick(&[0, taken, taken + 1]);
+    let width = match rng.below(4) {
+        0 => rng.between(0, 65_535),
+        1 => sum.saturating_sub(1),
+        2 => sum + 1,
+        _ => sum,
+    };
+    (list, width.min(65_535) as u16)
+}

@@ -1,0 +1,301 @@
+//! Document 01's refusals: from arbitrary bytes to the number that its table gives each call. It follows the document's sentences and shares
+//! no code with the crate or the port.
+
+use crate::form::{Settings, Size, Tree};
+use crate::paper;
+
+pub const TREE_BYTES: usize = 32_768;
+pub const NODES: usize = 512;
+pub const DEPTH: usize = 16;
+pub const SHEET_WIDTH: usize = 400;
+pub const SHEET_HEIGHT: usize = 160;
+pub const PIECES: usize = 512;
+
+/// 'Each is hex 20 to 7E.'
+fn is_mark(byte: u8) -> bool {
+    (0x20..=0x7E).contains(&byte)
+}
+
+/// The settings, or 1.
+pub fn read_settings(bytes: &[u8]) -> Result<Settings, u8> {
+    let [0x10, 0, 28, record @ ..] = bytes else {
+        return Err(1);
+    };
+    if record.len() != 28 {
+        return Err(1);
+    }
+
+    let settings = Settings {
+        marks: record[..15].try_into().expect("15 marks"),
+        padding: record[15..19].try_into().expect("4 sizes"),
+        fills: record[19..23].try_into().expect("4 fills"),
+        horizontal: record[23],
+        vertical: record[24],
+        line_mode: record[25],
+        width_priority: record[26],
+        height_priority: record[27],
+    };
+    let is_good = settings.marks.iter().all(|&mark| is_mark(mark))
+        && settings.padding.iter().all(|&size| size <= 16)
+        && settings.fills.iter().all(|&fill| is_mark(fill))
+        && settings.horizontal <= 2
+        && settings.vertical <= 2
+        && settings.line_mode <= 1
+        && settings.width_priority <= 2
+        && settings.height_priority <= 2;
+    if is_good {
+        Ok(settings)
+    } else {
+        Err(1)
+    }
+}
+
+struct Reader<'a> {
+    bytes: &'a [u8],
+    /// The node that comes next.
+    node: usize,
+}
+
+impl Reader<'_> {
+    /// The element that starts at `at` in a container that ends at `end`, and where it ends.
+    fn element(&mut self, at: usize, end: usize, depth: usize) -> Result<(Tree, usize), u8> {
+        let node = self.node;
+        self.node += 1;
+
+        // 2
+        if node == 0 && self.bytes.len() > TREE_BYTES {
+            return Err(2);
+        }
+        if end - at < 3 {
+            return Err(2);
+        }
+        let tag = self.bytes[at];
+        let length = usize::from(self.bytes[at + 1]) * 256 + usize::from(self.bytes[at + 2]);
+        let (start, stop) = (at + 3, at + 3 + length);
+        if !(1..=3).contains(&tag) || stop > end {
+            return Err(2);
+        }
+        if node == 0 && stop != self.bytes.len() {
+            return Err(2);
+        }
+
+        // 5, then 4
+        if depth > DEPTH {
+            return Err(5);
+        }
+        if node >= NODES {
+            return Err(4);
+        }
+
+        // 3
+        if tag == 1 {
+            let text = &self.bytes[start..stop];
+            if text.iter().any(|&byte| !is_mark(byte) && byte != 0x0A) {
+                return Err(3);
+            }
+            return Ok((Tree::Cell(text.to_vec()), stop));
+        }
+
+        let children = self.sequence(start, stop, depth + 1)?;
+        if tag == 2 {
+            Ok((Tree::Row(children), stop))
+        } else {
+            Ok((Tree::Column(children), stop))
+        }
+    }
+
+    fn sequence(&mut self, start: usize, end: usize, depth: usize) -> Result<Vec<Tree>, u8> {
+        let mut children = Vec::new();
+        let mut at = start;
+        while at < end {
+            let (child, stop) = self.element(at, end, depth)?;
+            children.push(child);
+            at = stop;
+        }
+        Ok(children)
+    }
+}
+
+/// The tree, or 2 to 5.
+pub fn read_tree(bytes: &[u8]) -> Result<Tree, u8> {
+    let mut reader = Reader { bytes, node: 0 };
+    let (tree, _) = reader.element(0, bytes.len(), 1)?;
+    Ok(tree)
+}
+
+/// What every call on sizes, leaves or sheets reads first.
+pub struct Read {
+    pub settings: Settings,
+    pub tree: Tree,
+    pub sizes: Vec<Size>,
+}
+
+/// The settings and the tree, or 1 to 5.
+pub fn read(settings: &[u8], tree: &[u8]) -> Result<Read, u8> {
+    let settings = read_settings(settings)?;
+    let tree = read_tree(tree)?;
+    let sizes = paper::sizes(&settings, &tree);
+    Ok(Read {
+        settings,
+        tree,
+        sizes,
+    })
+}
+
+/// A leaf of an accepted tree, as far as the refusals need it.
+struct Place {
+    node: usize,
+    last_row: bool,
+    last_col: bool,
+}
+
+/// The leaves' node numbers, in order.
+pub fn leaves(tree: &Tree) -> Vec<usize> {
+    places(tree).iter().map(|place| place.node).collect()
+}
+
+/// The leaves in node order, each with the two flags that its block's bytes depend on.
+fn places(tree: &Tree) -> Vec<Place> {
+    fn put(tree: &Tree, node: &mut usize, last_row: bool, last_col: bool, list: &mut Vec<Place>) {
+        let number = *node;
+        *node += 1;
+        let children = tree.children();
+        if children.is_empty() {
+            list.push(Place {
+                node: number,
+                last_row,
+                last_col,
+            });
+        }
+        for (i, child) in children.iter().enumerate() {
+            let last = i == children.len() - 1;
+            let (row, col) = match tree {
+                Tree::Row(_) => (last_row, last_col && last),
+                _ => (last_row && last, last_col),
+            };
+            put(child, node, row, col, list);
+        }
+    }
+
+    let mut list = Vec::new();
+    put(tree, &mut 0, true, true, &mut list);
+    list
+}
+
+impl Read {
+    /// 6.
+    fn fits(&self) -> Result<(), u8> {
+        let (w, h) = paper::rectangle(&self.sizes);
+        if w > SHEET_WIDTH || h > SHEET_HEIGHT {
+            return Err(6);
+        }
+        Ok(())
+    }
+
+    /// The leaf that a number names, or 9.
+    fn leaf(&self, node: usize) -> Result<Place, u8> {
+        let mut places = places(&self.tree).into_iter();
+        places.find(|place| place.node == node).ok_or(9)
+    }
+
+    /// The bytes of the sheet: '(W + 1) × H − 1'.
+    pub fn sheet_bytes(&self) -> usize {
+        let (w, h) = paper::rectangle(&self.sizes);
+        (w + 1) * h - 1
+    }
+
+    /// The bytes of a leaf's block: lines of 1 + allotted width columns, one more under last_col; 1 + allotted height of them,
+    /// one more under last_row; joined by 0A. None at allotted width 0.
+    fn block_bytes(&self, leaf: &Place) -> usize {
+        let size = self.sizes[leaf.node];
+        if size.allotted_width == 0 {
+            return 0;
+        }
+        let columns = 1 + size.allotted_width + usize::from(leaf.last_col);
+        let lines = 1 + size.allotted_height + usize::from(leaf.last_row);
+        (columns + 1) * lines - 1
+    }
+}
+
+fn number<T>(result: Result<T, u8>) -> u8 {
+    result.map_or_else(|number| number, |_| 0)
+}
+
+pub fn settings(settings: &[u8]) -> u8 {
+    number(read_settings(settings))
+}
+
+pub fn tree(tree: &[u8]) -> u8 {
+    number(read_tree(tree))
+}
+
+/// The size collector, lent a list of so many entries.
+pub fn sizes(settings: &[u8], tree: &[u8], list: usize) -> u8 {
+    number(read(settings, tree).and_then(|read| {
+        if list < read.sizes.len() {
+            return Err(8);
+        }
+        Ok(())
+    }))
+}
+
+/// The leaf record.
+pub fn leaf_record(settings: &[u8], tree: &[u8], node: usize) -> u8 {
+    number(read(settings, tree).and_then(|read| {
+        read.fits()?;
+        read.leaf(node)
+    }))
+}
+
+/// The leaf printer, lent so many bytes.
+pub fn leaf(settings: &[u8], tree: &[u8], node: usize, output: usize) -> u8 {
+    number(read(settings, tree).and_then(|read| {
+        read.fits()?;
+        let leaf = read.leaf(node)?;
+        if output < read.block_bytes(&leaf) {
+            return Err(8);
+        }
+        Ok(())
+    }))
+}
+
+/// The bytes that the leaf printer needs, where it gets so far.
+pub fn leaf_bytes(settings: &[u8], tree: &[u8], node: usize) -> Option<usize> {
+    let read = read(settings, tree).ok()?;
+    read.fits().ok()?;
+    let leaf = read.leaf(node).ok()?;
+    Some(read.block_bytes(&leaf))
+}
+
+/// The sheet printer, lent so many bytes.
+pub fn sheet(settings: &[u8], tree: &[u8], output: usize) -> u8 {
+    number(read(settings, tree).and_then(|read| {
+        read.fits()?;
+        let mut leaves = leaves(&read.tree).into_iter();
+        if leaves.any(|leaf| read.sizes[leaf].allotted_width == 0) {
+            return Err(7);
+        }
+        if output < read.sheet_bytes() {
+            return Err(8);
+        }
+        Ok(())
+    }))
+}
+
+/// Either cut of a list with so many pieces.
+pub fn cut(count: usize) -> u8 {
+    if count > PIECES {
+        10
+    } else {
+        0
+    }
+}
+
+/// The sharing helper.
+pub fn share(n: usize, index: usize) -> u8 {
+    if n == 0 || index >= n {
+        11
+    } else {
+        0
+    }
+}

@@ -1,0 +1,13 @@
+//! The oracle: what tabled 0.22.0's `PoolTable` answers, what document 01 answers, and inputs to hold them side by side. README says more.
+
+pub mod calls;
+pub mod compare;
+pub mod form;
+pub mod gen;
+pub mod judge;
+pub mod original;
+pub mod paper;
+pub mod sides;
+
+pub use form::{encode_settings, encode_tree, Answer, Flags, Leaf, Settings, Size, Tree};
+pub use original::{answer, cut, cut3};

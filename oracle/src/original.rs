@@ -1,0 +1,245 @@
+//! The original's answers: the tables of crate `original` (as published) and of crate `traced` (with trace lines).
+
+use crate::form::{Answer, Cut, Cut3, Flags, Leaf, Settings, Size, Tree};
+
+/// The same few lines over the types of each of the two builds.
+macro_rules! build {
+    ($name:ident, $krate:ident) => {
+        mod $name {
+            use $krate::grid::config::{
+                AlignmentHorizontal, AlignmentVertical, Borders, CompactMultilineConfig,
+                Formatting, Indent, Sides,
+            };
+            use $krate::grid::dimension::{DimensionPriority, PoolTableDimension};
+            use $krate::tables::{PoolTable, TableValue};
+
+            use crate::form::{Settings, Tree};
+
+            pub fn value(tree: &Tree) -> TableValue {
+                let list = |children: &[Tree]| children.iter().map(value).collect();
+                match tree {
+                    Tree::Cell(text) => {
+                        TableValue::Cell(String::from_utf8(text.clone()).expect("an ASCII text"))
+                    }
+                    Tree::Row(children) => TableValue::Row(list(children)),
+                    Tree::Column(children) => TableValue::Column(list(children)),
+                }
+            }
+
+            fn config(settings: &Settings) -> CompactMultilineConfig {
+                let mark = |at: usize| Some(char::from(settings.marks[at]));
+                let indent =
+                    |at: usize| Indent::new(settings.padding[at].into(), settings.fills[at].into());
+
+                let mut config = CompactMultilineConfig::new();
+                config.set_borders(Borders {
+                    top: mark(0),
+                    bottom: mark(1),
+                    left: mark(2),
+                    right: mark(3),
+                    horizontal: mark(4),
+                    vertical: mark(5),
+                    top_left: mark(6),
+                    top_right: mark(7),
+                    top_intersection: mark(8),
+                    bottom_left: mark(9),
+                    bottom_right: mark(10),
+                    bottom_intersection: mark(11),
+                    left_intersection: mark(12),
+                    right_intersection: mark(13),
+                    intersection: mark(14),
+                });
+                config.set_padding(Sides::new(indent(0), indent(1), indent(2), indent(3)));
+                config.set_alignment_horizontal(match settings.horizontal {
+                    0 => AlignmentHorizontal::Left,
+                    1 => AlignmentHorizontal::Center,
+                    2 => AlignmentHorizontal::Right,
+                    other => panic!("no horizontal alignment {other}"),
+                });
+                config.set_alignment_vertical(match settings.vertical {
+                    0 => AlignmentVertical::Top,
+                    1 => AlignmentVertical::Center,
+                    2 => AlignmentVertical::Bottom,
+                    other => panic!("no vertical alignment {other}"),
+                });
+                config.set_formatting(match settings.line_mode {
+                    0 => Formatting::new(false, false, false),
+                    1 => Formatting::new(false, false, true),
+                    other => panic!("no line mode {other}"),
+                });
+                config
+            }
+
+            fn priority(number: u8) -> DimensionPriority {
+                match number {
+                    0 => DimensionPriority::First,
+                    1 => DimensionPriority::Last,
+                    2 => DimensionPriority::List,
+                    other => panic!("no priority {other}"),
+                }
+            }
+
+            pub fn table(settings: &Settings, tree: &Tree) -> PoolTable {
+                let dimension = PoolTableDimension::new(
+                    priority(settings.width_priority),
+                    priority(settings.height_priority),
+                );
+                let mut table = PoolTable::from(value(tree));
+                let _ = table.with(config(settings)).with(dimension);
+                table
+            }
+        }
+    };
+}
+
+build!(published, tabled);
+build!(instrumented, traced);
+
+/// The sheet of the original as published.
+pub fn sheet(settings: &Settings, tree: &Tree) -> Vec<u8> {
+    published::table(settings, tree).to_string().into_bytes()
+}
+
+/// The sheet of the original as published, with its own defaults and no setting of ours.
+pub fn default_sheet(tree: &Tree) -> Vec<u8> {
+    tabled::tables::PoolTable::from(published::value(tree))
+        .to_string()
+        .into_bytes()
+}
+
+/// An answer of the original and what was seen on the way.
+#[derive(Debug, Clone, PartialEq, Eq)]
+pub struct Seen {
+    pub answer: Answer,
+    /// Joins of blocks of unequal height or width, which the stand-in `Table` had to fill up by an assumption of its own.
+    pub uneven: usize,
+}
+
+/// All that the original says about a table. Panics where the two builds print different sheets, and where the trace contradicts
+/// document 01 on which nodes there are and which flags are always false.
+pub fn seen(settings: &Settings, tree: &Tree) -> Seen {
+    let _ = (traced::trace::take(), traced::table::uneven());
+    let traced_sheet = instrumented::table(settings, tree).to_string().into_bytes();
+    let (trace, uneven) = (traced::trace::take(), traced::table::uneven());
+    let sheet = sheet(settings, tree);
+    assert!(sheet == traced_sheet, "the trace lines change the sheet");
+
+    let count = tree.nodes();
+    let mut naturals = vec![None; count];
+    for (pos, width, height) in trace.naturals {
+        assert_eq!(naturals[pos], None, "node {pos} is measured twice");
+        naturals[pos] = Some((width, height));
+    }
+
+    let mut sizes = vec![None; count];
+    for node in &trace.nodes {
+        let (natural_width, natural_height) = naturals[node.pos].expect("a node is measured");
+        assert_eq!(sizes[node.pos], None, "node {} is met twice", node.pos);
+        assert!(
+            !(node.kv || node.kv_is_first || node.no_bottom),
+            "kv, kv_is_first and no_bottom are always false"
+        );
+        sizes[node.pos] = Some(Size {
+            natural_width,
+            natural_height,
+            allotted_width: node.width,
+            allotted_height: node.height,
+        });
+    }
+
+    let mut nodes = trace.nodes.into_iter();
+    let leaves = trace.blocks.into_iter().map(|(pos, block)| {
+        let node = nodes
+            .find(|node| node.pos == pos)
+            .expect("leaves come in node order");
+        Leaf {
+            node: pos,
+            width: node.width,
+            height: node.height,
+            horizontal: node.intersections_horizontal,
+            vertical: node.intersections_vertical,
+            flags: Flags {
+                first_row: node.is_first_row,
+                last_row: node.is_last_row,
+                first_col: node.is_first_col,
+                last_col: node.is_last_col,
+                no_right: node.no_right,
+                lean_top: node.lean_top,
+                top_left: node.top_left,
+                top_intersection: node.top_intersection,
+            },
+            block: block.into_bytes(),
+        }
+    });
+
+    let answer = Answer {
+        leaves: leaves.collect(),
+        sizes: sizes
+            .into_iter()
+            .map(|size| size.expect("every node is met"))
+            .collect(),
+        sheet,
+    };
+    Seen { answer, uneven }
+}
+
+/// All that the original says about a table.
+pub fn answer(settings: &Settings, tree: &Tree) -> Answer {
+    seen(settings, tree).answer
+}
+
+/// `short_splits3`.
+pub fn cut3(list: &[usize], width: usize) -> Cut3 {
+    let mut left = list.to_vec();
+    let (yes, taken) = traced::tables::short_splits3(&mut left, width);
+    Cut3 { yes, taken, left }
+}
+
+/// `short_splits`, then `squash_splits` on a copy.
+pub fn cut(list: &[usize], width: usize) -> Cut {
+    let mut left = list.to_vec();
+    let positions = traced::tables::short_splits(&mut left, width);
+    let mut squashed = positions.clone();
+    traced::tables::squash_splits(&mut squashed);
+    Cut {
+        positions,
+        squashed,
+        left,
+    }
+}
+
+/// The parts of `n` children, out of a table with so much spare: a Row of empty Cells under a Cell that is wider by it.
+pub fn shares_of_width(spare: usize, n: usize, priority: u8) -> Vec<usize> {
+    let settings = Settings {
+        padding: [0; 4],
+        width_priority: priority,
+        ..Settings::D
+    };
+    let tree = Tree::Column(vec![
+        Tree::Cell(vec![b'x'; n - 1 + spare]),
+        Tree::Row(vec![Tree::cell(""); n]),
+    ]);
+    let sizes = answer(&settings, &tree).sizes;
+    sizes[3..]
+        .iter()
+        .map(|size| size.allotted_width - size.natural_width)
+        .collect()
+}
+
+/// The same by lines: a Column of empty Cells beside a Cell that is higher by the spare.
+pub fn shares_of_height(spare: usize, n: usize, priority: u8) -> Vec<usize> {
+    let settings = Settings {
+        padding: [0; 4],
+        height_priority: priority,
+        ..Settings::D
+    };
+    let tree = Tree::Row(vec![
+        Tree::Cell(vec![b'\n'; 2 * n - 2 + spare]),
+        Tree::Column(vec![Tree::cell(""); n]),
+    ]);
+    let sizes = answer(&settings, &tree).sizes;
+    sizes[3..]
+        .iter()
+        .map(|size| size.allotted_height - size.natural_height)
+        .collect()
+}

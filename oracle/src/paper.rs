@@ -1,0 +1,474 @@
+//! Document 01's words as plain Rust: sizes, sharing, cuts, flags, blocks and the sheet. It follows the document's sentences and shares no
+//! code with the crate or the port, so that the crate and the document can be held side by side by running. The headings are the document's.
+
+use crate::form::{Answer, Cut, Cut3, Flags, Leaf, Settings, Size, Tree};
+
+/// A tree laid out by node number.
+struct Nodes<'a> {
+    trees: Vec<&'a Tree>,
+    /// The children's numbers.
+    children: Vec<Vec<usize>>,
+}
+
+impl<'a> Nodes<'a> {
+    /// 'Nodes are numbered from 0, parent before children, left to right.'
+    fn of(tree: &'a Tree) -> Self {
+        fn put<'a>(nodes: &mut Nodes<'a>, tree: &'a Tree) -> usize {
+            let number = nodes.trees.len();
+            nodes.trees.push(tree);
+            nodes.children.push(Vec::new());
+            for child in tree.children() {
+                let child = put(nodes, child);
+                nodes.children[number].push(child);
+            }
+            number
+        }
+
+        let mut nodes = Nodes {
+            trees: Vec::new(),
+            children: Vec::new(),
+        };
+        put(&mut nodes, tree);
+        nodes
+    }
+
+    /// 'A Row or Column without children is a leaf', as is a Cell.
+    fn is_leaf(&self, node: usize) -> bool {
+        self.children[node].is_empty()
+    }
+
+    fn is_row(&self, node: usize) -> bool {
+        matches!(self.trees[node], Tree::Row(_))
+    }
+
+    /// The text of a leaf: 'Empty Row or Column: as a Cell with empty text.'
+    fn text(&self, node: usize) -> &'a [u8] {
+        match self.trees[node] {
+            Tree::Cell(text) => text,
+            Tree::Row(_) | Tree::Column(_) => &[],
+        }
+    }
+}
+
+// Size records
+
+/// 'Lines are split at each 0A, so a last 0A gives an empty last line.'
+fn lines(text: &[u8]) -> Vec<&[u8]> {
+    text.split(|&byte| byte == 0x0A).collect()
+}
+
+/// 'Width is the longest line.'
+fn width(text: &[u8]) -> usize {
+    lines(text).iter().map(|line| line.len()).max().unwrap_or(0)
+}
+
+/// 'Line count is 0A bytes plus 1.'
+fn count(text: &[u8]) -> usize {
+    text.iter().filter(|&&byte| byte == 0x0A).count() + 1
+}
+
+fn padding(settings: &Settings) -> [usize; 4] {
+    settings.padding.map(usize::from)
+}
+
+/// 'First and Last give it all to that child. List gives spare ÷ n to each, and one more to the first (spare mod n).'
+pub fn share(spare: usize, n: usize, priority: u8, index: usize) -> usize {
+    match priority {
+        0 if index == 0 => spare,
+        1 if index == n - 1 => spare,
+        2 => spare / n + usize::from(index < spare % n),
+        _ => 0,
+    }
+}
+
+/// The four numbers of each node.
+pub fn sizes(settings: &Settings, tree: &Tree) -> Vec<Size> {
+    sizes_of(settings, &Nodes::of(tree))
+}
+
+fn sizes_of(settings: &Settings, nodes: &Nodes) -> Vec<Size> {
+    let [left, right, top, bottom] = padding(settings);
+    let mut sizes = vec![Size::default(); nodes.trees.len()];
+
+    // Children have greater numbers than their parent: natural sizes from the last node back.
+    for node in (0..sizes.len()).rev() {
+        let children: Vec<Size> = nodes.children[node].iter().map(|&c| sizes[c]).collect();
+        let widths = children.iter().map(|size| size.natural_width);
+        let heights = children.iter().map(|size| size.natural_height);
+        let separators = children.len().saturating_sub(1);
+        let (width, height) = if nodes.is_leaf(node) {
+            let text = nodes.text(node);
+            (width(text) + left + right, count(text) + top + bottom)
+        } else if nodes.is_row(node) {
+            (
+                widths.sum::<usize>() + separators,
+                heights.max().unwrap_or(0),
+            )
+        } else {
+            (
+                widths.max().unwrap_or(0),
+                heights.sum::<usize>() + separators,
+            )
+        };
+        sizes[node].natural_width = width;
+        sizes[node].natural_height = height;
+    }
+
+    // 'The root is allotted its natural size.'
+    sizes[0].allotted_width = sizes[0].natural_width;
+    sizes[0].allotted_height = sizes[0].natural_height;
+    for node in 0..sizes.len() {
+        let size = sizes[node];
+        let n = nodes.children[node].len();
+        for (i, &child) in nodes.children[node].iter().enumerate() {
+            if nodes.is_row(node) {
+                let spare = size.allotted_width - size.natural_width;
+                let part = share(spare, n, settings.width_priority, i);
+                sizes[child].allotted_width = sizes[child].natural_width + part;
+                sizes[child].allotted_height = size.allotted_height;
+            } else {
+                let spare = size.allotted_height - size.natural_height;
+                let part = share(spare, n, settings.height_priority, i);
+                sizes[child].allotted_height = sizes[child].natural_height + part;
+                sizes[child].allotted_width = size.allotted_width;
+            }
+        }
+    }
+
+    sizes
+}
+
+// Split lists
+
+/// The walk of both cuts: how many pieces are taken, and the position then. `step` is what a piece adds beside itself.
+fn walk(list: &[usize], width: usize, step: usize) -> (usize, usize) {
+    let mut position = 0;
+    let mut taken = 0;
+    while taken < list.len() && position + list[taken] < width {
+        position += list[taken] + step;
+        taken += 1;
+    }
+    (taken, position)
+}
+
+/// `short_splits3`.
+pub fn cut3(list: &[usize], width: usize) -> Cut3 {
+    let (count, position) = walk(list, width, 1);
+    let mut left = list[count..].to_vec();
+    let mut yes = false;
+    if let Some(first) = left.first_mut() {
+        *first -= width - position;
+        if *first == 0 {
+            left.remove(0);
+            yes = true;
+        } else {
+            *first -= 1;
+        }
+    }
+
+    Cut3 {
+        yes,
+        taken: list[..count].to_vec(),
+        left,
+    }
+}
+
+/// `short_splits`, and `squash_splits`, which 'then adds each entry's index'.
+pub fn cut(list: &[usize], width: usize) -> Cut {
+    let (count, position) = walk(list, width, 0);
+    let mut left = list[count..].to_vec();
+    if let Some(first) = left.first_mut() {
+        *first -= width - position;
+    }
+
+    let positions: Vec<usize> = (1..=count).map(|n| list[..n].iter().sum()).collect();
+    let squashed = positions.iter().enumerate().map(|(i, at)| at + i).collect();
+    Cut {
+        positions,
+        squashed,
+        left,
+    }
+}
+
+// Leaf record
+
+/// 'Root: first and last row and column yes, others no.'
+const ROOT: Flags = Flags {
+    first_row: true,
+    last_row: true,
+    first_col: true,
+    last_col: true,
+    no_right: false,
+    lean_top: false,
+    top_left: false,
+    top_intersection: false,
+};
+
+/// The flags of child i of n.
+fn child_flags(is_row: bool, parent: Flags, i: usize, n: usize, previous: bool) -> Flags {
+    let (first, last) = (i == 0, i == n - 1);
+    let mut flags = parent;
+    if is_row {
+        flags.first_col = parent.first_col && first;
+        flags.last_col = parent.last_col && last;
+        flags.no_right = !flags.last_col;
+        flags.lean_top = !flags.first_col;
+        flags.top_left = parent.top_left && first;
+    } else {
+        flags.first_row = parent.first_row && first;
+        flags.lean_top = parent.lean_top && first;
+        flags.last_row = parent.last_row && last;
+        flags.top_left = parent.top_left || !first;
+    }
+    if !first {
+        flags.top_intersection = previous;
+    }
+    flags
+}
+
+struct Walk<'a> {
+    settings: &'a Settings,
+    nodes: Nodes<'a>,
+    sizes: Vec<Size>,
+    leaves: Vec<Leaf>,
+}
+
+impl Walk<'_> {
+    /// Answers the horizontal and the vertical list that the node gives back.
+    fn node(
+        &mut self,
+        node: usize,
+        flags: Flags,
+        horizontal: Vec<usize>,
+        vertical: Vec<usize>,
+    ) -> (Vec<usize>, Vec<usize>) {
+        let size = self.sizes[node];
+        if self.nodes.is_leaf(node) {
+            let mut leaf = Leaf {
+                node,
+                width: size.allotted_width,
+                height: size.allotted_height,
+                horizontal,
+                vertical,
+                flags,
+                block: Vec::new(),
+            };
+            leaf.block = block(self.settings, &leaf, self.nodes.text(node));
+            self.leaves.push(leaf);
+            return (vec![size.allotted_width], vec![size.allotted_height]);
+        }
+
+        // The list that is cut and joined, and the one that goes from child to child.
+        let is_row = self.nodes.is_row(node);
+        let (mut along, mut across) = if is_row {
+            (horizontal, vertical)
+        } else {
+            (vertical, horizontal)
+        };
+        let mut joined = Vec::new();
+        let mut previous = false;
+        let children = self.nodes.children[node].clone();
+        for (i, &child) in children.iter().enumerate() {
+            let flags = child_flags(is_row, flags, i, children.len(), previous);
+            let size = self.sizes[child];
+            let back;
+            if is_row {
+                let cut = cut3(&along, size.allotted_width);
+                (previous, along) = (cut.yes, cut.left);
+                (back, across) = self.node(child, flags, cut.taken, across);
+            } else {
+                let cut = cut3(&along, size.allotted_height);
+                (previous, along) = (cut.yes, cut.left);
+                (across, back) = self.node(child, flags, across, cut.taken);
+            }
+            joined.extend(back);
+        }
+
+        if is_row {
+            (joined, across)
+        } else {
+            (across, joined)
+        }
+    }
+}
+
+// Block and sheet
+
+/// Before the text: 0 none of the slack, 1 'the floor of half the slack', 2 all.
+fn indent(alignment: u8, slack: usize) -> usize {
+    match alignment {
+        0 => 0,
+        1 => slack / 2,
+        _ => slack,
+    }
+}
+
+fn block(settings: &Settings, leaf: &Leaf, text: &[u8]) -> Vec<u8> {
+    if leaf.width == 0 {
+        return Vec::new();
+    }
+
+    let [top, bottom, left, right, _, _, top_left, top_right, top_intersection, bottom_left, bottom_right, bottom_intersection, left_intersection, right_intersection, intersection] =
+        settings.marks;
+    let [pad_left, pad_right, pad_top, pad_bottom] = padding(settings);
+    let [fill_left, fill_right, fill_top, fill_bottom] = settings.fills;
+    let flags = leaf.flags;
+    let named_columns = cut(&leaf.horizontal, leaf.width).squashed;
+    let named_lines = cut(&leaf.vertical, leaf.height).squashed;
+
+    let top_left_mark = if flags.top_intersection {
+        intersection
+    } else if flags.top_left {
+        left_intersection
+    } else if flags.lean_top {
+        top_intersection
+    } else if flags.first_col && !flags.first_row {
+        left_intersection
+    } else {
+        top_left
+    };
+    let top_right_mark = if flags.first_row {
+        top_right
+    } else {
+        right_intersection
+    };
+    let bottom_left_mark = if flags.first_col {
+        bottom_left
+    } else {
+        bottom_intersection
+    };
+
+    // What stands between the marks, line by line.
+    let mut between: Vec<Vec<u8>> = Vec::new();
+    let slack = leaf.height - pad_top - pad_bottom - count(text);
+    let before = indent(settings.vertical, slack);
+    let plain = |byte: u8| vec![byte; leaf.width];
+    between.extend(vec![plain(b' '); before]);
+    between.extend(vec![plain(fill_top); pad_top]);
+    for line in lines(text) {
+        let room = leaf.width - pad_left - pad_right;
+        let widest = if settings.line_mode == 0 {
+            width(text)
+        } else {
+            line.len()
+        };
+        let mut columns = vec![b' '; leaf.width];
+        let start = pad_left + indent(settings.horizontal, room - widest);
+        columns[..pad_left].fill(fill_left);
+        columns[start..start + line.len()].copy_from_slice(line);
+        columns[leaf.width - pad_right..].fill(fill_right);
+        between.push(columns);
+    }
+    between.extend(vec![plain(fill_bottom); pad_bottom]);
+    between.extend(vec![plain(b' '); slack - before]);
+
+    let mut lines = Vec::new();
+    let mut line = |left: u8, middle: &[u8], right: u8| {
+        let mut line = vec![left];
+        line.extend(middle);
+        if flags.last_col {
+            line.push(right);
+        }
+        lines.push(line);
+    };
+    let top_line: Vec<u8> = (0..leaf.width)
+        .map(|column| {
+            if named_columns.contains(&column) {
+                bottom_intersection
+            } else {
+                top
+            }
+        })
+        .collect();
+    line(top_left_mark, &top_line, top_right_mark);
+    for (i, middle) in between.iter().enumerate() {
+        let mark = if named_lines.contains(&i) {
+            right_intersection
+        } else {
+            left
+        };
+        line(mark, middle, right);
+    }
+    if flags.last_row {
+        line(bottom_left_mark, &plain(bottom), bottom_right);
+    }
+
+    lines.join(&0x0A)
+}
+
+/// Each node's line and column.
+fn starts(nodes: &Nodes, sizes: &[Size]) -> Vec<(usize, usize)> {
+    let mut starts = vec![(0, 0); sizes.len()];
+    for node in 0..sizes.len() {
+        let (mut line, mut column) = starts[node];
+        for &child in &nodes.children[node] {
+            starts[child] = (line, column);
+            if nodes.is_row(node) {
+                column += sizes[child].allotted_width + 1;
+            } else {
+                line += sizes[child].allotted_height + 1;
+            }
+        }
+    }
+    starts
+}
+
+/// W and H.
+pub fn rectangle(sizes: &[Size]) -> (usize, usize) {
+    (sizes[0].natural_width + 2, sizes[0].natural_height + 2)
+}
+
+/// The sheet by placing; nothing where a leaf has width 0. Panics unless each place is covered once.
+fn sheet(nodes: &Nodes, sizes: &[Size], leaves: &[Leaf]) -> Vec<u8> {
+    if leaves.iter().any(|leaf| leaf.width == 0) {
+        return Vec::new();
+    }
+
+    let (w, h) = rectangle(sizes);
+    let starts = starts(nodes, sizes);
+    let mut places = vec![vec![None; w]; h];
+    for leaf in leaves {
+        let (line, column) = starts[leaf.node];
+        for (i, bytes) in lines(&leaf.block).iter().enumerate() {
+            for (j, &byte) in bytes.iter().enumerate() {
+                let place = &mut places[line + i][column + j];
+                assert_eq!(place.replace(byte), None, "a place is covered twice");
+            }
+        }
+    }
+
+    let lines: Vec<Vec<u8>> = places
+        .into_iter()
+        .map(|line| {
+            line.into_iter()
+                .map(|place| place.expect("a place is not covered"))
+                .collect()
+        })
+        .collect();
+    lines.join(&0x0A)
+}
+
+/// All that document 01 says about a table, its limits put aside. The sheet is empty where a leaf has width 0.
+pub fn answer(settings: &Settings, tree: &Tree) -> Answer {
+    let nodes = Nodes::of(tree);
+    let sizes = sizes_of(settings, &nodes);
+    let mut walk = Walk {
+        settings,
+        nodes,
+        sizes,
+        leaves: Vec::new(),
+    };
+    walk.node(0, ROOT, Vec::new(), Vec::new());
+    let Walk {
+        nodes,
+        sizes,
+        leaves,
+        ..
+    } = walk;
+    let sheet = sheet(&nodes, &sizes, &leaves);
+    Answer {
+        sizes,
+        leaves,
+        sheet,
+    }
+}

@@ -1,0 +1,259 @@
+//! Two sides of the calls: the crate and the document. Both refuse as the judge says.
+
+use crate::calls::{
+    Calls, Counted, CutParts, CutPositions, LeafRecord, ReadSettings, Shared, SizeRecord, SplitList,
+};
+use crate::form::{Answer, Cut, Cut3, Flags, Settings, Tree};
+use crate::judge;
+use crate::{original, paper};
+
+/// Where the answers of a side come from; the refusals are the judge's.
+pub trait Answers {
+    fn answer(&self, settings: &Settings, tree: &Tree) -> Answer;
+    fn cut3(&self, list: &[usize], width: usize) -> Cut3;
+    fn cut(&self, list: &[usize], width: usize) -> Cut;
+    fn part(&self, spare: usize, n: usize, priority: u8, index: usize) -> usize;
+}
+
+/// The crate.
+#[derive(Debug, Default)]
+pub struct Crate;
+
+/// The document.
+#[derive(Debug, Default)]
+pub struct Document;
+
+impl Answers for Crate {
+    fn answer(&self, settings: &Settings, tree: &Tree) -> Answer {
+        original::answer(settings, tree)
+    }
+
+    fn cut3(&self, list: &[usize], width: usize) -> Cut3 {
+        original::cut3(list, width)
+    }
+
+    fn cut(&self, list: &[usize], width: usize) -> Cut {
+        original::cut(list, width)
+    }
+
+    /// The crate shares inside its walk only; a table with more spare than this is not built, and the document's rule answers.
+    fn part(&self, spare: usize, n: usize, priority: u8, index: usize) -> usize {
+        if spare > 0xFFFF || n > 1024 {
+            return paper::share(spare, n, priority, index);
+        }
+        original::shares_of_width(spare, n, priority)[index]
+    }
+}
+
+impl Answers for Document {
+    fn answer(&self, settings: &Settings, tree: &Tree) -> Answer {
+        paper::answer(settings, tree)
+    }
+
+    fn cut3(&self, list: &[usize], width: usize) -> Cut3 {
+        paper::cut3(list, width)
+    }
+
+    fn cut(&self, list: &[usize], width: usize) -> Cut {
+        paper::cut(list, width)
+    }
+
+    fn part(&self, spare: usize, n: usize, priority: u8, index: usize) -> usize {
+        paper::share(spare, n, priority, index)
+    }
+}
+
+/// A side made of answers and the judge's refusals. It keeps its last answer: a comparison asks for every node of one table.
+#[derive(Debug, Default)]
+pub struct Side<A> {
+    answers: A,
+    last: Option<(Vec<u8>, Vec<u8>, Answer)>,
+}
+
+/// The crate's answers under the document's refusals.
+pub type Original = Side<Crate>;
+
+/// The document's words.
+pub type Paper = Side<Document>;
+
+impl<A: Answers> Side<A> {
+    /// The answer for bytes that the judge has accepted.
+    fn accepted(&mut self, settings: &[u8], tree: &[u8]) -> &Answer {
+        let is_known = self
+            .last
+            .as_ref()
+            .is_some_and(|(s, t, _)| s == settings && t == tree);
+        if !is_known {
+            let read = (judge::read_settings(settings), judge::read_tree(tree));
+            let (Ok(settings_read), Ok(tree_read)) = read else {
+                panic!("only accepted bytes have an answer");
+            };
+            let answer = self.answers.answer(&settings_read, &tree_read);
+            self.last = Some((settings.to_vec(), tree.to_vec(), answer));
+        }
+        &self.last.as_ref().expect("an answer was kept").2
+    }
+}
+
+fn narrow(number: usize) -> u16 {
+    u16::try_from(number).expect("a size has 16 bits")
+}
+
+/// The bytes at the front of a lent output, and their count.
+fn write(bytes: &[u8], output: &mut [u8]) -> Counted {
+    output[..bytes.len()].copy_from_slice(bytes);
+    Counted {
+        number: 0,
+        count: bytes.len(),
+    }
+}
+
+impl<A: Answers> Calls for Side<A> {
+    fn read_settings(&mut self, settings: &[u8]) -> ReadSettings {
+        match judge::read_settings(settings) {
+            Ok(settings) => ReadSettings {
+                number: 0,
+                settings,
+            },
+            Err(number) => ReadSettings {
+                number,
+                settings: Settings {
+                    marks: [0; 15],
+                    padding: [0; 4],
+                    fills: [0; 4],
+                    horizontal: 0,
+                    vertical: 0,
+                    line_mode: 0,
+                    width_priority: 0,
+                    height_priority: 0,
+                },
+            },
+        }
+    }
+
+    fn read_tree(&mut self, tree: &[u8]) -> Counted {
+        match judge::read_tree(tree) {
+            Ok(tree) => Counted {
+                number: 0,
+                count: tree.nodes(),
+            },
+            Err(number) => Counted { number, count: 0 },
+        }
+    }
+
+    fn sizes(&mut self, settings: &[u8], tree: &[u8], list: &mut [SizeRecord]) -> Counted {
+        let number = judge::sizes(settings, tree, list.len());
+        if number != 0 {
+            return Counted { number, count: 0 };
+        }
+        let sizes = &self.accepted(settings, tree).sizes;
+        for (entry, size) in list.iter_mut().zip(sizes) {
+            *entry = SizeRecord {
+                natural_width: narrow(size.natural_width),
+                natural_height: narrow(size.natural_height),
+                allotted_width: narrow(size.allotted_width),
+                allotted_height: narrow(size.allotted_height),
+            };
+        }
+        Counted {
+            number: 0,
+            count: sizes.len(),
+        }
+    }
+
+    fn leaf_record(&mut self, settings: &[u8], tree: &[u8], node: usize) -> LeafRecord {
+        let number = judge::leaf_record(settings, tree, node);
+        if number != 0 {
+            return LeafRecord {
+                number,
+                node: 0,
+                width: 0,
+                height: 0,
+                horizontal: SplitList::EMPTY,
+                vertical: SplitList::EMPTY,
+                flags: Flags::default(),
+            };
+        }
+        let mut leaves = self.accepted(settings, tree).leaves.iter();
+        let leaf = leaves
+            .find(|leaf| leaf.node == node)
+            .expect("the number names a leaf");
+        LeafRecord {
+            number: 0,
+            node,
+            width: narrow(leaf.width),
+            height: narrow(leaf.height),
+            horizontal: SplitList::new(&leaf.horizontal),
+            vertical: SplitList::new(&leaf.vertical),
+            flags: leaf.flags,
+        }
+    }
+
+    fn leaf(&mut self, settings: &[u8], tree: &[u8], node: usize, output: &mut [u8]) -> Counted {
+        let number = judge::leaf(settings, tree, node, output.len());
+        if number != 0 {
+            return Counted { number, count: 0 };
+        }
+        let mut leaves = self.accepted(settings, tree).leaves.iter();
+        let leaf = leaves
+            .find(|leaf| leaf.node == node)
+            .expect("the number names a leaf");
+        write(&leaf.block, output)
+    }
+
+    fn sheet(&mut self, settings: &[u8], tree: &[u8], output: &mut [u8]) -> Counted {
+        let number = judge::sheet(settings, tree, output.len());
+        if number != 0 {
+            return Counted { number, count: 0 };
+        }
+        write(&self.accepted(settings, tree).sheet, output)
+    }
+
+    fn short_splits3(&mut self, list: &SplitList, width: u16) -> CutParts {
+        let number = judge::cut(list.count);
+        if number != 0 {
+            return CutParts {
+                number,
+                split: false,
+                taken: SplitList::EMPTY,
+                left: SplitList::EMPTY,
+            };
+        }
+        let cut = self.answers.cut3(&list.list(), width.into());
+        CutParts {
+            number: 0,
+            split: cut.yes,
+            taken: SplitList::new(&cut.taken),
+            left: SplitList::new(&cut.left),
+        }
+    }
+
+    fn short_splits(&mut self, list: &SplitList, width: u16) -> CutPositions {
+        let mut answer = CutPositions {
+            number: judge::cut(list.count),
+            positions: [0; judge::PIECES],
+            count: 0,
+            left: SplitList::EMPTY,
+        };
+        if answer.number == 0 {
+            let cut = self.answers.cut(&list.list(), width.into());
+            answer.count = cut.positions.len();
+            answer.left = SplitList::new(&cut.left);
+            for (place, &at) in answer.positions.iter_mut().zip(&cut.positions) {
+                *place = u32::try_from(at).expect("a position has 32 bits");
+            }
+        }
+        answer
+    }
+
+    fn share(&mut self, spare: usize, n: usize, priority: u8, index: usize) -> Shared {
+        let number = judge::share(n, index);
+        if number != 0 {
+            return Shared { number, part: 0 };
+        }
+        Shared {
+            number: 0,
+            part: self.answers.part(spare, n, priority, index),
+        }
+    }
+}

@@ -1,0 +1,273 @@
+//! The crate against document 01, and what the oracle itself rests on. `oracle agree` does more of the first.
+
+use oracle::calls::{
+    Calls, Counted, CutParts, CutPositions, LeafRecord, ReadSettings, Shared, SizeRecord, SplitList,
+};
+use oracle::compare::{Comparison, Difference};
+use oracle::gen::{self, Rng};
+use oracle::sides::{Original, Paper};
+use oracle::{judge, original, paper, Settings, Tree};
+
+fn agree(run: impl Fn(&mut Comparison) -> Result<(), Difference>) {
+    let (mut one, mut other) = (Original::default(), Paper::default());
+    let mut comparison = Comparison::new(&mut one, &mut other);
+    if let Err(difference) = run(&mut comparison) {
+        panic!("{difference}");
+    }
+}
+
+#[test]
+fn small_tables() {
+    agree(|comparison| comparison.small_tables(4, &gen::few_settings()));
+    agree(|comparison| comparison.small_tables(5, &gen::few_settings()[2..4]));
+}
+
+#[test]
+fn two_groups() {
+    agree(|comparison| comparison.two_groups(&gen::few_settings()[2..4]));
+}
+
+#[test]
+fn every_choice() {
+    let padded = Settings {
+        padding: [1, 0, 0, 1],
+        fills: *b"<>^~",
+        ..Settings::M
+    };
+    agree(|comparison| comparison.small_tables(3, &gen::choices(padded)));
+}
+
+#[test]
+fn tables() {
+    agree(|comparison| comparison.tables(&mut Rng::new(11), 150));
+}
+
+#[test]
+fn limits() {
+    agree(|comparison| comparison.limits(&mut Rng::new(12), 3));
+}
+
+#[test]
+fn cases() {
+    agree(|comparison| comparison.cases(&mut Rng::new(13), 1500));
+}
+
+#[test]
+fn lists() {
+    agree(|comparison| comparison.lists(&mut Rng::new(14), 500));
+}
+
+#[test]
+fn shares() {
+    agree(|comparison| comparison.shares(&mut Rng::new(15), 8));
+    for (spare, n) in [(0, 1), (7, 3), (9, 3), (1000, 511), (3, 511)] {
+        for priority in 0..3 {
+            let parts: Vec<usize> = (0..n)
+                .map(|index| paper::share(spare, n, priority, index))
+                .collect();
+            assert_eq!(original::shares_of_width(spare, n, priority), parts);
+            assert_eq!(original::shares_of_height(spare, n, priority), parts);
+            assert_eq!(parts.iter().sum::<usize>(), spare);
+        }
+    }
+}
+
+/// The random cases reach every number of the table in every call that can give it.
+#[test]
+fn every_number_is_reached() {
+    let (mut one, mut other) = (Paper::default(), Paper::default());
+    let mut comparison = Comparison::new(&mut one, &mut other);
+    let run = comparison
+        .cases(&mut Rng::new(1), 4000)
+        .and_then(|()| comparison.lists(&mut Rng::new(1), 10))
+        .and_then(|()| comparison.shares(&mut Rng::new(1), 3));
+    run.expect("a side agrees with itself");
+    let counts = &comparison.counts;
+    for (call, numbers) in [
+        ("settings", &[0, 1][..]),
+        ("tree", &[0, 2, 3, 4, 5]),
+        ("sizes", &[0, 1, 2, 3, 4, 5, 8]),
+        ("leaf record", &[0, 1, 2, 3, 4, 5, 6, 9]),
+        ("leaf", &[0, 1, 2, 3, 4, 5, 6, 8, 9]),
+        ("sheet", &[0, 1, 2, 3, 4, 5, 6, 7, 8]),
+        ("short_splits3", &[0, 10]),
+        ("short_splits3, lent", &[0, 10]),
+        ("short_splits", &[0, 10]),
+        ("share", &[0, 11]),
+    ] {
+        let reached: Vec<u8> = (0..=255).filter(|&n| counts.of(call, n) > 0).collect();
+        assert_eq!(reached, numbers, "{call}");
+    }
+}
+
+/// In a sheet that document 01 accepts, the stand-in `Table` never fills up: it joins blocks of equal height side by side and blocks of
+/// equal width one under the other. Its own assumptions about others therefore never show in an accepted sheet.
+#[test]
+fn accepted_sheets_are_joined_evenly() {
+    let mut even = 0;
+    let mut uneven = 0;
+    let mut look = |settings: &Settings, tree: &Tree| {
+        let seen = original::seen(settings, tree);
+        if seen.answer.leaves.iter().all(|leaf| leaf.width > 0) {
+            assert_eq!(seen.uneven, 0);
+            even += 1;
+        } else if seen.uneven > 0 {
+            uneven += 1;
+        }
+    };
+    for nodes in 1..=4 {
+        for tree in gen::small_trees(nodes, &["", "a", "bcd", "e\nfg"]) {
+            for settings in gen::few_settings() {
+                look(&settings, &tree);
+            }
+        }
+    }
+    let mut rng = Rng::new(16);
+    for _ in 0..500 {
+        let (settings, tree) = gen::table(&mut rng);
+        look(&settings, &tree);
+    }
+    assert!(even > 4000 && uneven > 100, "{even} {uneven}");
+}
+
+/// D is what the crate's own `PoolTable::from` starts with: its `configure_grid`, `Style::ascii` and List priorities.
+#[test]
+fn the_defaults() {
+    for nodes in 1..=4 {
+        for tree in gen::small_trees(nodes, &["", "ab", "c\nd"]) {
+            let sheet = original::sheet(&Settings::D, &tree);
+            assert_eq!(original::default_sheet(&tree), sheet);
+        }
+    }
+    let mut rng = Rng::new(17);
+    for _ in 0..200 {
+        let (_, tree) = gen::table(&mut rng);
+        let sheet = original::sheet(&Settings::D, &tree);
+        assert_eq!(original::default_sheet(&tree), sheet);
+    }
+}
+
+/// 'Horizontal and vertical are never printed.'
+#[test]
+fn two_marks_are_never_printed() {
+    for tree in gen::small_trees(4, &["a", "b\nc"]) {
+        let mut settings = Settings::M;
+        let sheet = original::sheet(&settings, &tree);
+        settings.marks[4..6].copy_from_slice(b"#$");
+        assert_eq!(original::sheet(&settings, &tree), sheet);
+    }
+}
+
+/// A side with one fault.
+struct Faulty {
+    paper: Paper,
+    fault: u8,
+}
+
+const FAULTS: u8 = 14;
+
+impl Calls for Faulty {
+    fn read_settings(&mut self, settings: &[u8]) -> ReadSettings {
+        let mut answer = self.paper.read_settings(settings);
+        if self.fault == 0 && answer.number == 1 {
+            answer.settings.horizontal = 1;
+        }
+        answer
+    }
+
+    fn read_tree(&mut self, tree: &[u8]) -> Counted {
+        let mut answer = self.paper.read_tree(tree);
+        if self.fault == 1 && answer.number == 3 {
+            answer.number = 2;
+        }
+        answer
+    }
+
+    fn sizes(&mut self, settings: &[u8], tree: &[u8], list: &mut [SizeRecord]) -> Counted {
+        let answer = self.paper.sizes(settings, tree, list);
+        match self.fault {
+            // An entry past the count, and one on a refusal.
+            2 if answer.count < list.len() => list[answer.count].natural_width ^= 1,
+            3 if answer.number == 8 && !list.is_empty() => list[0] = SizeRecord::default(),
+            _ => {}
+        }
+        answer
+    }
+
+    fn leaf_record(&mut self, settings: &[u8], tree: &[u8], node: usize) -> LeafRecord {
+        let mut answer = self.paper.leaf_record(settings, tree, node);
+        match self.fault {
+            4 => answer.flags.top_intersection = false,
+            5 => answer.vertical.pieces[511] = 1,
+            6 if answer.number == 9 => answer.node = node,
+            _ => {}
+        }
+        answer
+    }
+
+    fn leaf(&mut self, settings: &[u8], tree: &[u8], node: usize, output: &mut [u8]) -> Counted {
+        let answer = self.paper.leaf(settings, tree, node, output);
+        match self.fault {
+            7 if answer.count > 0 => output[answer.count - 1] = b' ',
+            8 if answer.count < output.len() => output[answer.count] = 0x0A,
+            _ => {}
+        }
+        answer
+    }
+
+    fn sheet(&mut self, settings: &[u8], tree: &[u8], output: &mut [u8]) -> Counted {
+        // Refuses an output that is just long enough.
+        if self.fault == 9 && judge::sheet(settings, tree, output.len().saturating_sub(1)) == 8 {
+            return Counted {
+                number: 8,
+                count: 0,
+            };
+        }
+        self.paper.sheet(settings, tree, output)
+    }
+
+    fn short_splits3(&mut self, list: &SplitList, width: u16) -> CutParts {
+        let mut answer = self.paper.short_splits3(list, width);
+        match self.fault {
+            10 => answer.split = false,
+            11 => answer.left.pieces[511] = list.pieces[511],
+            _ => {}
+        }
+        answer
+    }
+
+    fn short_splits(&mut self, list: &SplitList, width: u16) -> CutPositions {
+        let mut answer = self.paper.short_splits(list, width);
+        if self.fault == 12 {
+            answer.left = list.clone();
+        }
+        answer
+    }
+
+    fn share(&mut self, spare: usize, n: usize, priority: u8, index: usize) -> Shared {
+        // All to the first child under List.
+        let priority = if self.fault == 13 && priority == 2 {
+            0
+        } else {
+            priority
+        };
+        self.paper.share(spare, n, priority, index)
+    }
+}
+
+/// The comparison finds each fault, and nothing without one.
+#[test]
+fn faults_are_found() {
+    for fault in 0..=FAULTS {
+        let paper = Paper::default();
+        let (mut one, mut other) = (Paper::default(), Faulty { paper, fault });
+        let mut comparison = Comparison::new(&mut one, &mut other);
+        let run = comparison
+            .small_tables(3, &[Settings::M])
+            .and_then(|()| comparison.tables(&mut Rng::new(18), 20))
+            .and_then(|()| comparison.cases(&mut Rng::new(18), 300))
+            .and_then(|()| comparison.lists(&mut Rng::new(18), 100))
+            .and_then(|()| comparison.shares(&mut Rng::new(18), 4));
+        assert_eq!(run.is_err(), fault < FAULTS, "fault {fault}");
+    }
+}

@@ -1,0 +1,78 @@
+//! Where the crate goes its own way: README's 'Differences found', each with the smallest input. What it prints for zero-wide leaves rests
+//! on the stand-in `Table`, and document 01 refuses every such sheet.
+
+use oracle::{encode_settings, encode_tree, judge, original, paper, Settings, Tree};
+
+const BARE: Settings = Settings {
+    padding: [0; 4],
+    ..Settings::M
+};
+
+fn sheet(tree: &Tree) -> String {
+    String::from_utf8(original::sheet(&BARE, tree)).unwrap()
+}
+
+fn number(tree: &Tree) -> u8 {
+    judge::sheet(&encode_settings(&BARE), &encode_tree(tree), usize::MAX)
+}
+
+fn rectangle(tree: &Tree) -> (usize, usize) {
+    paper::rectangle(&paper::sizes(&BARE, tree))
+}
+
+#[test]
+fn zero_wide_leaves() {
+    let empty = || Tree::cell("");
+    let a = || Tree::cell("a");
+
+    // The empty text in place of 2 by 3.
+    assert_eq!(sheet(&empty()), "");
+    assert_eq!((rectangle(&empty()), number(&empty())), ((2, 3), 7));
+
+    // An empty Row and an empty Column are the same leaf.
+    assert_eq!(sheet(&Tree::Row(vec![])), "");
+    assert_eq!(sheet(&Tree::Column(vec![])), "");
+
+    // Three columns in place of four: the left edge is missing.
+    let tree = Tree::Row(vec![empty(), a()]);
+    assert_eq!(sheet(&tree), "3-2\n(a)\n6_5");
+    assert_eq!((rectangle(&tree), number(&tree)), ((4, 3), 7));
+
+    // Two columns in place of four: the right edge is missing.
+    let tree = Tree::Row(vec![a(), empty()]);
+    assert_eq!(sheet(&tree), "1-\n(a\n4_");
+    assert_eq!((rectangle(&tree), number(&tree)), ((4, 3), 7));
+
+    // Blocks of unequal height: an empty text of one line stands for a Row of one line and its edge.
+    let tree = Tree::Column(vec![Tree::Row(vec![empty(), empty()]), a()]);
+    assert_eq!(sheet(&tree), "   \n768\n(a)\n4_5");
+    assert_eq!((rectangle(&tree), number(&tree)), ((3, 5), 7));
+
+    // Two lines in place of five.
+    let tree = Tree::Column(vec![empty(), empty()]);
+    assert_eq!(sheet(&tree), "\n");
+    assert_eq!((rectangle(&tree), number(&tree)), ((2, 5), 7));
+}
+
+/// A zero-wide leaf still takes part in the lists and the flags; there the two agree.
+#[test]
+fn zero_wide_records() {
+    let tree = Tree::Column(vec![
+        Tree::Row(vec![Tree::cell(""), Tree::cell("a")]),
+        Tree::Row(vec![Tree::cell("b"), Tree::cell("")]),
+    ]);
+    let answer = original::answer(&BARE, &tree);
+    assert_eq!(answer.leaves, paper::answer(&BARE, &tree).leaves);
+    let sizes: Vec<_> = answer.leaves.iter().map(|leaf| leaf.width).collect();
+    assert_eq!(sizes, [0, 1, 1, 0]);
+}
+
+/// Texts that the crate takes and document 01 refuses. The widths are the stand-in's.
+#[test]
+fn other_texts() {
+    for text in ["\t", "\r", "\u{7f}", "é"] {
+        let tree = Tree::cell(text);
+        assert_eq!(number(&tree), 3);
+        assert_eq!(sheet(&tree), format!("1-2\n({text})\n4_5"));
+    }
+}

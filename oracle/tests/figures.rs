@@ -1,0 +1,148 @@
+//! Document 01's figures, whole: the crate's answers, as published and traced, and the document's.
+
+use oracle::form::{Cut, Cut3};
+use oracle::{encode_settings, encode_tree, judge, original, paper, Settings, Tree};
+
+fn cell(text: &str) -> Tree {
+    Tree::cell(text)
+}
+
+/// The sheet on every side, in lines.
+fn sheet(settings: &Settings, tree: &Tree) -> Vec<String> {
+    let sheet = original::sheet(settings, tree);
+    assert_eq!(original::answer(settings, tree).sheet, sheet);
+    assert_eq!(paper::answer(settings, tree).sheet, sheet);
+    let (settings, tree) = (encode_settings(settings), encode_tree(tree));
+    assert_eq!(judge::sheet(&settings, &tree, sheet.len()), 0);
+    assert_eq!(judge::sheet(&settings, &tree, sheet.len() - 1), 8);
+    let text = String::from_utf8(sheet).unwrap();
+    text.split('\n').map(String::from).collect()
+}
+
+#[test]
+fn f1() {
+    let tree = cell("ab");
+    assert_eq!(encode_tree(&tree), [1, 0, 2, 0x61, 0x62]);
+    assert_eq!(original::sheet(&Settings::D, &tree).len(), 20);
+    let lines = ["+----+", "| ab |", "+----+"];
+    assert_eq!(sheet(&Settings::D, &tree), lines);
+    assert_eq!(original::default_sheet(&tree), lines.join("\n").as_bytes());
+}
+
+#[test]
+fn f2() {
+    let row = Tree::Row(vec![cell("a"), cell("b")]);
+    let tree = Tree::Column(vec![cell("abcdef"), row]);
+    assert_eq!(
+        sheet(&Settings::M, &tree),
+        [
+            "1--------2",
+            "( abcdef )",
+            "7----3---8",
+            "( a  ( b )",
+            "4____6___5"
+        ]
+    );
+
+    // 'Spare 1 goes to `a`.'
+    let sizes = original::answer(&Settings::M, &tree).sizes;
+    let widths: Vec<_> = sizes
+        .iter()
+        .map(|size| (size.natural_width, size.allotted_width))
+        .collect();
+    assert_eq!(widths, [(8, 8), (8, 8), (7, 8), (3, 4), (3, 3)]);
+}
+
+#[test]
+fn f3() {
+    let row = Tree::Row(vec![cell("a"), cell("b")]);
+    let tree = Tree::Column(vec![row, cell("c")]);
+    assert_eq!(
+        sheet(&Settings::M, &tree),
+        [
+            "1---3---2",
+            "( a ( b )",
+            "7---6---8",
+            "( c     )",
+            "4_______5"
+        ]
+    );
+
+    // 'List 3 3, squashed 3 7.'
+    let answer = original::answer(&Settings::M, &tree);
+    let leaf = answer.leaves.last().unwrap();
+    assert_eq!((leaf.node, &leaf.horizontal[..]), (4, &[3, 3][..]));
+    assert_eq!(original::cut(&leaf.horizontal, leaf.width).squashed, [3, 7]);
+}
+
+#[test]
+fn f4() {
+    let row = Tree::Row(vec![cell("a"), cell("b")]);
+    let tree = Tree::Column(vec![row.clone(), row]);
+    assert_eq!(
+        sheet(&Settings::M, &tree),
+        [
+            "1---3---2",
+            "( a ( b )",
+            "7---9---8",
+            "( a ( b )",
+            "4___6___5"
+        ]
+    );
+}
+
+#[test]
+fn f5() {
+    let column = Tree::Column(vec![cell("a"), cell("b")]);
+    let tree = Tree::Row(vec![column, cell("c")]);
+    assert_eq!(
+        sheet(&Settings::M, &tree),
+        [
+            "1---3---2",
+            "( a ( c )",
+            "7---8   )",
+            "( b (   )",
+            "4___6___5"
+        ]
+    );
+}
+
+fn cut3(list: &[usize], width: usize) -> Cut3 {
+    let cut = original::cut3(list, width);
+    assert_eq!(paper::cut3(list, width), cut);
+    cut
+}
+
+fn parts(yes: bool, taken: &[usize], left: &[usize]) -> Cut3 {
+    Cut3 {
+        yes,
+        taken: taken.to_vec(),
+        left: left.to_vec(),
+    }
+}
+
+#[test]
+fn f6_to_f9() {
+    assert_eq!(cut3(&[4, 2], 5), parts(false, &[4], &[1]));
+    assert_eq!(cut3(&[3, 3], 3), parts(true, &[], &[3]));
+    assert_eq!(cut3(&[5], 0), parts(false, &[], &[4]));
+    assert_eq!(cut3(&[0, 5], 0), parts(true, &[], &[5]));
+}
+
+#[test]
+fn the_other_cut() {
+    let cut = original::cut(&[3, 3], 7);
+    let expected = Cut {
+        positions: vec![3, 6],
+        squashed: vec![3, 7],
+        left: vec![],
+    };
+    assert_eq!(cut, expected);
+    let cut = original::cut(&[4, 2], 5);
+    let expected = Cut {
+        positions: vec![4],
+        squashed: vec![4],
+        left: vec![1],
+    };
+    assert_eq!(cut, expected);
+}

@@ -1,0 +1,243 @@
+//! The judge against document 01's table and its order, by hand; and what it accepts against what can be encoded.
+
+use std::collections::HashSet;
+
+use oracle::{encode_settings, encode_tree, judge, Settings, Tree};
+
+fn d() -> Vec<u8> {
+    encode_settings(&Settings::D)
+}
+
+fn bare() -> Vec<u8> {
+    encode_settings(&Settings {
+        padding: [0; 4],
+        ..Settings::D
+    })
+}
+
+/// Elements one inside the other, the last with these contents.
+fn nested(depth: usize, tag: u8, contents: &[u8]) -> Vec<u8> {
+    (1..=depth).rev().fold(contents.to_vec(), |inside, level| {
+        let tag = if level == depth { tag } else { 2 };
+        let length = inside.len() as u16;
+        [&[tag][..], &length.to_be_bytes(), &inside].concat()
+    })
+}
+
+/// A Row of so many empty Cells and then these bytes.
+fn row(cells: usize, rest: &[u8]) -> Vec<u8> {
+    let inside = [&[1, 0, 0].repeat(cells)[..], rest].concat();
+    nested(1, 2, &inside)
+}
+
+#[test]
+fn the_forms() {
+    let bytes = *b"\x10\x00\x1c--||-|+++++++++\x01\x01\x00\x00    \x00\x00\x00\x02\x02";
+    assert_eq!(d(), bytes);
+    assert_eq!(judge::read_settings(&bytes), Ok(Settings::D));
+    let tree = Tree::Column(vec![
+        Tree::Row(vec![Tree::cell("a"), Tree::Row(vec![])]),
+        Tree::cell("b\n"),
+    ]);
+    let bytes = b"\x03\x00\x0f\x02\x00\x07\x01\x00\x01a\x02\x00\x00\x01\x00\x02b\n";
+    assert_eq!(encode_tree(&tree), bytes);
+    assert_eq!(judge::read_tree(bytes), Ok(tree));
+}
+
+#[test]
+fn settings_out_of_form() {
+    for length in 0..31 {
+        assert_eq!(judge::settings(&d()[..length]), 1);
+    }
+    assert_eq!(judge::settings(&d()), 0);
+    assert_eq!(judge::settings(&[&d()[..], &[0]].concat()), 1);
+
+    // Every byte at every place.
+    for at in 0..31 {
+        for byte in 0..=255u8 {
+            let mut bytes = d();
+            bytes[at] = byte;
+            let is_good = match at {
+                0 => byte == 0x10,
+                1 => byte == 0,
+                2 => byte == 28,
+                3..=17 | 22..=25 => (0x20..=0x7E).contains(&byte),
+                18..=21 => byte <= 16,
+                28 => byte <= 1,
+                _ => byte <= 2,
+            };
+            assert_eq!(judge::settings(&bytes), u8::from(!is_good), "{at} {byte}");
+        }
+    }
+}
+
+#[test]
+fn trees_out_of_form() {
+    for (tree, number) in [
+        (&b""[..], 2),
+        (b"\x01", 2),
+        (b"\x01\x00", 2),
+        (b"\x01\x00\x00", 0),
+        (b"\x00\x00\x00", 2),
+        (b"\x04\x00\x00", 2),
+        (b"\x01\x00\x01", 2),
+        (b"\x01\x00\x00a", 2),
+        (b"\x01\x00\x01a", 0),
+        (b"\x01\x01\x00a", 2),
+        (b"\x01\x00\x01\x7e", 0),
+        (b"\x01\x00\x01\x7f", 3),
+        (b"\x01\x00\x01\x1f", 3),
+        (b"\x01\x00\x01\x20", 0),
+        (b"\x01\x00\x01\x0a", 0),
+        (b"\x01\x00\x01\x0d", 3),
+        (b"\x01\x00\x01\x80", 3),
+        (b"\x02\x00\x01\x01", 2),
+        (b"\x02\x00\x02\x01\x00", 2),
+        (b"\x02\x00\x03\x01\x00\x00", 0),
+        // A child past its container's end, though within the input.
+        (b"\x02\x00\x07\x02\x00\x03\x01\x00\x01a", 2),
+        (b"\x02\x00\x07\x02\x00\x04\x01\x00\x01a", 0),
+    ] {
+        assert_eq!(judge::tree(tree), number, "{tree:?}");
+    }
+}
+
+#[test]
+fn the_first_fault_in_node_order() {
+    // A forbidden text before a tag, and behind it.
+    let (text, tag) = (&b"\x01\x00\x01\x07"[..], &b"\x07\x00\x00"[..]);
+    let cell = b"\x01\x00\x00";
+    assert_eq!(judge::tree(&row(0, &[text, tag].concat())), 3);
+    assert_eq!(judge::tree(&row(0, &[tag, text].concat())), 2);
+    assert_eq!(judge::tree(&row(0, &[text, &[1]].concat())), 3);
+    // The root's end and the tree's length come at node 0.
+    assert_eq!(judge::tree(&[&row(0, text)[..], &[0]].concat()), 2);
+    assert_eq!(judge::tree(&nested(1, 1, &[7; 32_765])), 3);
+    assert_eq!(judge::tree(&nested(1, 1, &[7; 32_766])), 2);
+
+    // At one element 2, 5, 4, then 3.
+    assert_eq!(judge::tree(&nested(16, 1, b"")), 0);
+    assert_eq!(judge::tree(&nested(16, 1, b"\x07")), 3);
+    assert_eq!(judge::tree(&nested(17, 1, b"\x07")), 5);
+    assert_eq!(judge::tree(&nested(17, 7, b"")), 2);
+    assert_eq!(judge::tree(&nested(16, 2, b"\x01")), 2);
+    assert_eq!(judge::tree(&nested(16, 3, b"")), 0);
+    assert_eq!(judge::tree(&row(511, b"")), 0);
+    assert_eq!(judge::tree(&row(511, cell)), 4);
+    assert_eq!(judge::tree(&row(511, text)), 4);
+    assert_eq!(judge::tree(&row(511, tag)), 2);
+    assert_eq!(judge::tree(&row(511, b"\x01\x00")), 2);
+    assert_eq!(judge::tree(&row(510, text)), 3);
+    assert_eq!(judge::tree(&row(510, &[text, cell].concat())), 3);
+
+    // Depth 17 and node 513 in one element: 496 Cells, then a chain whose last element is both.
+    let chain = nested(16, 1, b"");
+    let both = row(496, &chain);
+    assert_eq!(judge::tree(&row(495, &nested(15, 1, b""))), 0);
+    assert_eq!(judge::tree(&both), 5);
+    assert_eq!(judge::tree(&row(497, &nested(15, 1, b""))), 4);
+}
+
+#[test]
+fn calls_check_in_table_order() {
+    let cell = |letters: usize| encode_tree(&Tree::Cell(vec![b'a'; letters]));
+    let bad = b"\x01\x00\x01\x07";
+    let (d, bare) = (d(), bare());
+
+    assert_eq!(judge::sizes(b"", bad, 0), 1);
+    assert_eq!(judge::sizes(&d, bad, 0), 3);
+    assert_eq!(judge::sizes(&d, &cell(397), 0), 8);
+    assert_eq!(judge::sizes(&d, &cell(397), 1), 0);
+
+    assert_eq!(judge::leaf_record(b"", bad, 9), 1);
+    assert_eq!(judge::leaf_record(&d, bad, 9), 3);
+    assert_eq!(judge::leaf_record(&d, &cell(397), 9), 6);
+    assert_eq!(judge::leaf_record(&d, &cell(396), 9), 9);
+    assert_eq!(judge::leaf_record(&d, &cell(396), 0), 0);
+
+    assert_eq!(judge::leaf(&d, &cell(397), 9, 0), 6);
+    assert_eq!(judge::leaf(&d, &cell(396), 9, 0), 9);
+    assert_eq!(judge::leaf(&d, &cell(2), 0, 19), 8);
+    assert_eq!(judge::leaf(&d, &cell(2), 0, 20), 0);
+    assert_eq!(judge::leaf(&bare, &cell(0), 0, 0), 0);
+
+    // A zero-wide leaf in a sheet that is too wide; in one that fits; an output that is too short.
+    let with_empty = |letters: usize| {
+        let letters = Tree::Cell(vec![b'a'; letters]);
+        encode_tree(&Tree::Row(vec![Tree::cell(""), letters]))
+    };
+    assert_eq!(judge::sheet(&bare, &with_empty(398), 0), 6);
+    assert_eq!(judge::sheet(&bare, &with_empty(397), 0), 7);
+    assert_eq!(judge::sheet(&d, &cell(2), 19), 8);
+    assert_eq!(judge::sheet(&d, &cell(2), 20), 0);
+    // 'Number names no leaf': the Row itself.
+    assert_eq!(judge::leaf_record(&bare, &with_empty(1), 0), 9);
+    assert_eq!(judge::leaf_record(&bare, &with_empty(1), 1), 0);
+    assert_eq!(judge::leaf_record(&bare, &with_empty(1), 3), 9);
+
+    assert_eq!((judge::cut(512), judge::cut(513)), (0, 10));
+    assert_eq!(judge::share(0, 0), 11);
+    assert_eq!(judge::share(3, 3), 11);
+    assert_eq!(judge::share(3, 2), 0);
+}
+
+/// Every tree of at most so many bytes whose texts hold `a` and 0A.
+fn trees(bytes: usize) -> Vec<Tree> {
+    if bytes < 3 {
+        return Vec::new();
+    }
+    let mut texts = vec![Vec::new()];
+    for at in 0.. {
+        let Some(text) = texts.get(at).cloned() else {
+            break;
+        };
+        if text.len() < bytes - 3 {
+            texts.extend([b'a', 0x0A].map(|byte| [&text[..], &[byte]].concat()));
+        }
+    }
+    let mut list: Vec<Tree> = texts.into_iter().map(Tree::Cell).collect();
+    for forest in forests(bytes - 3) {
+        list.push(Tree::Row(forest.clone()));
+        list.push(Tree::Column(forest));
+    }
+    list
+}
+
+fn forests(bytes: usize) -> Vec<Vec<Tree>> {
+    let mut list = vec![Vec::new()];
+    for first in trees(bytes) {
+        for rest in forests(bytes - first.bytes()) {
+            list.push([&[first.clone()][..], &rest].concat());
+        }
+    }
+    list
+}
+
+/// Of all short byte strings over a few bytes, those accepted are the trees' forms, and reading is the reverse of encoding.
+#[test]
+fn what_is_accepted() {
+    const LENGTH: usize = 7;
+    let trees = trees(LENGTH);
+    let forms: HashSet<Vec<u8>> = trees.iter().map(encode_tree).collect();
+    assert_eq!(forms.len(), trees.len());
+    for tree in &trees {
+        assert_eq!(judge::read_tree(&encode_tree(tree)), Ok(tree.clone()));
+    }
+
+    let alphabet = [0, 1, 2, 3, 4, b'a', 0x0A];
+    let mut accepted = 0;
+    for length in 0..=LENGTH {
+        for number in 0..alphabet.len().pow(length as u32) {
+            let mut number = number;
+            let mut bytes = vec![0; length];
+            for byte in &mut bytes {
+                *byte = alphabet[number % alphabet.len()];
+                number /= alphabet.len();
+            }
+            let is_good = judge::tree(&bytes) == 0;
+            assert_eq!(is_good, forms.contains(&bytes), "{bytes:?}");
+            accepted += usize::from(is_good);
+        }
+    }
+    assert_eq!(accepted, forms.len());
+}
