@@ -17,7 +17,7 @@ use Rattle.block.specs.declared.Flags.{Flags}
 use Rattle.block.specs.Content.{ruled, column, paired}
 use Rattle.block.specs.Block.{Leaf, mark, edge, before, body, topLine, middle, bottomLine, framed, block, tall, wide}
 use Rattle.block.proofs.Every.{Every, Dims, dims-append, dims-replicate, dims-move, dims-cons, dims-paired}
-use Rattle.block.proofs.Text.{before-le, text-dims}
+use Rattle.block.proofs.TextLine.{before-le, text-dims}
 
 -- ---- the body
 
@@ -55,7 +55,7 @@ column-dims (b ∷ l) = dims-cons (column-dims l) refl
 pub left-dims : (ns : List ℕ) (b c n : ℕ) → Dims (column (ruled ns b c 0 n)) n 1
 left-dims ns b c n = dims-move (column-dims (ruled ns b c 0 n)) (length-ruled ns b c 0 n) refl
 
-edges-dims : (h : ℕ) (b : Bool) (m : ℕ) → Dims (replicate h (edge b m)) h (pick b 1 0)
+pub edges-dims : (h : ℕ) (b : Bool) (m : ℕ) → Dims (replicate h (edge b m)) h (pick b 1 0)
 unfolding edge
 edges-dims h b m = dims-replicate h (pick b 1 0) m
 

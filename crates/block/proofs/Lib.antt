@@ -4,7 +4,15 @@ pub mod Every
 pub mod Stores
 pub mod Pasted
 pub mod Feeds
-pub mod Text
+pub mod TextLine
 pub mod Dims
 pub mod Places
 pub mod NoFeed
+pub mod Room
+pub mod Left
+pub mod Crossed
+pub mod Lines
+pub mod Planned
+pub mod Marks
+pub mod Painted
+pub mod Printed

@@ -1,5 +1,5 @@
 -- Lines laid over bytes: one under another, side by side, and what each place holds afterwards. Assumes nothing.
-use mathlib.Core.Path.{_≡_, refl, ap, _∙_}
+use mathlib.Core.Path.{_≡_, refl, sym, ap, _∙_}
 use Prim.Native.Nat.{ℕ, zero, suc, _+_, _*_, _≤_, _<_}
 use native.Mathlib.Omega.{arith}
 use mathlib.Core.List.{List, [], _∷_, _++_}
@@ -8,7 +8,7 @@ use lib.Seq.{sets, length-sets}
 use Rattle.block.specs.Content.{paired}
 use Rattle.block.specs.Paint.{pasted}
 use Rattle.block.proofs.Either.{either}
-use Rattle.block.proofs.Every.{Every, byteAt}
+use Rattle.block.proofs.Every.{Every, Dims, byteAt}
 use Rattle.block.proofs.Stores.{sets-append, sets-sets, getD-before, getD-after, getD-in}
 
 pub length-pasted : (x : List (List ℕ)) (o : List ℕ) (at stride : ℕ) → length (pasted o at stride x) ≡ length o
@@ -42,6 +42,10 @@ pasted-paired (l ∷ x) (m ∷ y) o at w v stride e p q h =
     rw (sets-pasted x m (sets o at l) (at + w) (at + stride) stride (omega (arith, q .0)), d)
     (pasted-paired x y (sets (sets o at l) (at + w) m) (at + stride) w v stride (omega arith) (p .1) (q .1) h
     ∙ ap (λ (k : List ℕ). pasted k (at + stride) stride (paired x y)) (rw (sets-append l m o at, p .0)))
+
+pub pasted-beside : {x y : List (List ℕ)} {h w v : ℕ} (o : List ℕ) (at stride : ℕ) → Dims x h w → Dims y h v → w + v ≤ stride
+    → pasted (pasted o at stride x) (at + w) stride y ≡ pasted o at stride (paired x y)
+pasted-beside {x} {y} {w = w} {v} o at stride d e h = pasted-paired x y o at w v stride (d .lines ∙ sym (e .lines)) (d .columns) (e .columns) h
 
 -- ---- what each place holds
 

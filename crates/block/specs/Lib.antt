@@ -1,3 +1,4 @@
 pub mod Content
 pub mod Block
 pub mod Paint
+pub mod Parts

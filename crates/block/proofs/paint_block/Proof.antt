@@ -1,0 +1,57 @@
+use mathlib.Core.Path.{_≡_}
+use native.Mathlib.Omega.{arith}
+use lib.ListN.{length}
+use borrow.Author.Needs.{needs}
+use Rattle.block.proofs.Painted.{block-apart, top-room, block-next, middle-room, bottom-room, painted-all, painted-open}
+use Rattle.block.proofs.paint_block.Statement.{statement}
+use Rattle.block.proofs.paint_block.Tie as tie
+
+config-borders-requires : tie.Need-config-borders-requires
+config-borders-requires c κs = search needs
+
+print-top-line-requires : tie.Need-print-top-line-requires
+print-top-line-requires c κs =
+    let k = c .before .before .before .before .before .before .before .pre in
+    (k .width-small, k .few-horizontal, search needs, top-room k _ (c .before .before .before .before .config-borders .ensures .0))
+
+add-paint-middle : tie.Need-add-paint-middle
+add-paint-middle c = omega (arith, block-next (c .before .before .before .before .before .before .before .before .before .before .before .pre) _ (c .before .before .before .before .before .before .before .before .config-borders .ensures .0))
+
+paint-middle-requires : tie.Need-paint-middle-requires
+paint-middle-requires c κs =
+    let k = c .before .before .before .before .before .before .before .before .before .before .before .before .before .before .pre in
+    let b = c .before .before .before .before .before .before .before .before .before .before .before .config-borders .ensures .0 in
+    ((k .text-small, k .natural-is, k .fits), ((k .height-small, k .few-vertical, search needs, block-apart k _ b), middle-room k _ b (search needs)))
+
+print-bottom-line-requires : tie.Need-print-bottom-line-requires
+print-bottom-line-requires c κs = bottom-room (c .before .before .before .before .before .before .before .before .before .before .before .before .before .before .before .before .before .before .before .pre) _ (c .before .before .before .before .before .before .before .before .before .before .before .before .before .before .before .before .config-borders .ensures .0) (c .before .if1 .taken) _ (c .before .before .before .before .paint-middle .ensures .end-is) (search needs)
+
+same-length : tie.Need-same-length
+same-length c = search needs
+
+returns : tie.Need-returns
+returns c =
+    let b = c .before .before .before .before .before .before .before .before .before .before .before .before .before .before .before .before .before .before .before .config-borders .ensures in
+    painted-all (c .before .before .before .before .before .before .before .before .before .before .before .before .before .before .before .before .before .before .before .before .before .before .pre) _ (b .0) (b .1) (c .before .before .before .before .before .before .before .before .before .before .before .before .before .before .before .before .before .before .before .before .before .before .args .out .now) _ _ _ (c .before .before .before .before .before .before .before .before .before .before .before .before .before .before .print-top-line .ensures) (c .before .before .before .before .before .before .before .paint-middle .ensures) _ (c .before .before .before .before .if1 .taken) (c .before .before .print-bottom-line .ensures)
+
+same-length-2 : tie.Need-same-length-2
+same-length-2 c = search needs
+
+returns-2 : tie.Need-returns-2
+returns-2 c =
+    let b = c .before .before .before .before .before .before .before .before .before .before .before .before .before .before .before .config-borders .ensures in
+    painted-open (c .before .before .before .before .before .before .before .before .before .before .before .before .before .before .before .before .before .before .pre) _ (b .0) (b .1) (c .before .before .before .before .before .before .before .before .before .before .before .before .before .before .before .before .before .before .args .out .now) _ _ _ (c .before .before .before .before .before .before .before .before .before .before .print-top-line .ensures) (c .before .before .before .paint-middle .ensures) (c .if1 .left)
+
+pub paint-block-spec : {M : Type 1} → statement M
+paint-block-spec =
+    tie.close
+    (tie.spec
+    config-borders-requires
+    print-top-line-requires
+    add-paint-middle
+    paint-middle-requires
+    print-bottom-line-requires
+    same-length
+    returns
+    same-length-2
+    returns-2)

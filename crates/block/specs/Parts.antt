@@ -1,0 +1,65 @@
+-- What the painter's parts write.
+use Prim.Native.Nat.{ℕ, suc, _+_, _-_, _*_}
+use mathlib.Core.List.{List, [], _∷_, _++_}
+use lib.ListN.{getD, set, replicate}
+use lib.Dec.{ltb, eqb}
+use Rattle.common.specs.Choice.{pick}
+use Rattle.settings.specs.declared.Settings.{Settings}
+use Rattle.splits.specs.Splits.{named}
+use Rattle.sizes.specs.declared.Size.{Size}
+use Rattle.block.specs.declared.Flags.{Flags}
+use Rattle.block.specs.declared.body.Plan.{Plan}
+use Rattle.block.specs.declared.borders.Borders.{Borders}
+use Rattle.block.specs.Content.{ruled, column, paired}
+use Rattle.block.specs.Block.{topLeft, topRight, bottomLeft, edge, before, body}
+
+-- of n places, `step` apart from `at` on, those named become b
+unfoldable pub crossed : List ℕ → ℕ → ℕ → ℕ → List ℕ → ℕ → List ℕ
+crossed o at step n [] b = o
+crossed o at step n (k ∷ ks) b = crossed (pick (ltb k n) (set o (at + k * step) b) o) at step n ks b
+
+-- the bytes before the first 0A, or all
+unfoldable pub firstLine : List ℕ → ℕ
+firstLine [] = 0
+firstLine (b ∷ t) = pick (eqb b 10) 0 (suc (firstLine t))
+
+-- how a text of natural size n lies in the size z
+unfoldable pub planOf : Settings → Size → Size → Plan
+unfolding before
+planOf s n z = record {
+  above = before (s .vertical) (z .height - n .height);
+  below = z .height - n .height - before (s .vertical) (z .height - n .height);
+  inner = z .width - s .left - s .right;
+  widest = n .width - s .left - s .right;
+}
+
+-- the marks of a leaf: `config_borders`
+unfoldable pub bordersOf : Settings → Flags → Borders
+unfolding topLeft topRight bottomLeft
+bordersOf s f = record {
+  marks = set (set (set (s .marks) 6 (topLeft s f)) 7 (topRight s f)) 9 (bottomLeft s f);
+  right = f .«last_col»;
+  bottom = f .«last_row»;
+}
+
+-- the top line over w columns and the list ps, the left and the right marks of n lines, the bottom line
+unfoldable pub topOf : Borders → ℕ → List ℕ → List ℕ
+unfolding ruled named edge
+topOf b w ps = getD (b .marks) 6 0 ∷ (ruled (named w ps) (getD (b .marks) 11 0) (getD (b .marks) 0 0) 0 w ++ edge (b .right) (getD (b .marks) 7 0))
+
+unfoldable pub leftOf : Borders → ℕ → List ℕ → List (List ℕ)
+unfolding ruled named column
+leftOf b n ps = column (ruled (named n ps) (getD (b .marks) 13 0) (getD (b .marks) 2 0) 0 n)
+
+unfoldable pub rightOf : Borders → ℕ → List (List ℕ)
+unfolding edge
+rightOf b n = replicate n (edge (b .right) (getD (b .marks) 3 0))
+
+unfoldable pub bottomOf : Borders → ℕ → List ℕ
+unfolding edge
+bottomOf b w = getD (b .marks) 9 0 ∷ (replicate w (getD (b .marks) 1 0) ++ edge (b .right) (getD (b .marks) 10 0))
+
+-- the lines between them
+unfoldable pub middleOf : Settings → List ℕ → Size → Borders → List ℕ → List (List ℕ)
+unfolding leftOf rightOf body paired
+middleOf s t z b ps = paired (leftOf b (z .height) ps) (paired (body s t z) (rightOf b (z .height)))

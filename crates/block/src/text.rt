@@ -1,0 +1,100 @@
+// A leaf's text, line by line.
+ghost use mathlib.Core.Path.{_≡_};
+ghost use Prim.Native.Nat.{_+_, _*_, _-_, _<_, _≤_};
+ghost use mathlib.Core.List.{map};
+ghost use lib.ListN.{length, drop};
+ghost use lib.Seq.{sets};
+ghost use Rattle.common.specs.Choice.{pick};
+ghost use Rattle.sizes.specs.Text.{lines, textWidth, textHeight};
+ghost use Rattle.block.specs.Block.{before, indent, textLine};
+ghost use Rattle.block.specs.Paint.{pasted, Room, Wrote};
+ghost use Rattle.block.specs.Parts.{firstLine};
+use crate::bytes;
+use settings::Alignment;
+use settings::Settings;
+
+// Where the line that starts at `from` ends.
+fn line_end(text: &[u8], from: usize) -> usize
+    requires { ⌜ from ≤ length (now text) ⌝ }
+    ensures { λ r. ⌜ r ≡ from + firstLine (drop from (now (text .entry))) ⌝ }
+{
+    let mut i = from;
+    while i < text.len() {
+        if text[i] == 10 {
+            return i;
+        }
+        i += 1;
+    }
+    i
+}
+
+// The part of the space that stands before the text (`indent_left`, `indent_top`).
+pub fn indent_start(al: Alignment, available: usize, real: usize) -> usize
+    requires { ⌜ real ≤ available ⌝ }
+    ensures { λ r. ⌜ r ≡ before al (available - real) ⌝ }
+    ensures within { λ r. ⌜ r + real ≤ available ⌝ }
+{
+    let slack = available - real;
+    match al {
+        Alignment::Start => 0,
+        Alignment::Center => slack / 2,
+        Alignment::End => slack,
+    }
+}
+
+// The width that a line is indented by: its own in line mode 1 (`allow_lines_alignment`), else the widest line's.
+fn line_width(line_mode: bool, own: usize, widest: usize) -> usize
+    ensures { λ r. ⌜ r ≡ pick «line_mode» own widest ⌝ }
+{
+    if line_mode { own } else { widest }
+}
+
+// The spaces before a line.
+fn line_indent(s: Settings, inner: usize, widest: usize, line: &[u8]) -> usize
+    requires { ⌜ (length (now line) ≤ widest) × (widest ≤ inner) ⌝ }
+    ensures { λ r. ⌜ r ≡ indent s inner widest (now (line .entry)) ⌝ }
+    ensures within { λ r. ⌜ r + length (now (line .entry)) ≤ inner ⌝ }
+{
+    let w = line_width(s.line_mode, line.len(), widest);
+    let al = s.horizontal;
+    indent_start(al, inner, w)
+}
+
+// One line of the text, with its padding and indent.
+fn text_line(out: &mut [u8], at: usize, s: Settings, inner: usize, widest: usize, line: &[u8])
+    requires { ⌜ (length (now line) ≤ widest) × (widest ≤ inner) × (at + (s .left + inner + s .right) ≤ length (now out)) ⌝ }
+    ensures { λ _. ⌜ now (out .exit) ≡ sets (now (out .entry)) at (textLine s inner widest (now (line .entry))) ⌝ }
+{
+    let left = line_indent(s, inner, widest, line);
+    let right = inner - line.len() - left;
+    let p = bytes::fill(out, at, s.left, s.fills[0]);
+    let q = bytes::fill(out, p, left, 32);
+    let r = bytes::copy(out, q, line);
+    let t = bytes::fill(out, r, right, 32);
+    bytes::fill(out, t, s.right, s.fills[1]);
+}
+
+// All lines of the text, one under another.
+pub fn text_lines(
+    out: &mut [u8],
+    at: usize,
+    stride: usize,
+    s: Settings,
+    inner: usize,
+    widest: usize,
+    text: &[u8],
+) -> usize
+    requires { ⌜ (length (now text) < 65536) × (widest ≡ textWidth (now text)) × (widest ≤ inner) ⌝ }
+    requires { ⌜ Room at stride (textHeight (now text)) (s .left + inner + s .right) (length (now out)) ⌝ }
+    ensures { λ r. ⌜ Wrote r (at + textHeight (now (text .entry)) * stride) (now (out .exit)) (pasted (now (out .entry)) at stride (map (textLine s inner widest) (lines (now (text .entry))))) ⌝ }
+{
+    let mut p = at;
+    let mut from = 0;
+    while from <= text.len() {
+        let end = line_end(text, from);
+        text_line(out, p, s, inner, widest, &text[from..end]);
+        p += stride;
+        from = end + 1;
+    }
+    p
+}
