@@ -1,14 +1,14 @@
 -- Settings that were read are within 01's ranges. Assumes nothing.
 use mathlib.Core.Path.{_≡_, refl, sym, _∙_, ap}
 use mathlib.Core.Bool.{Bool, true, false}
-use mathlib.Core.List.{List, [], _∷_, _++_}
-use Prim.Native.Nat.{ℕ, suc, _+_, _≤_, _<_}
+use mathlib.Core.List.{List, _++_}
+use Prim.Native.Nat.{ℕ, _+_, _≤_, _<_}
 use native.Mathlib.Omega.{arith}
-use lib.ListN.{length, getD, take, drop, replicate, length-drop, length-replicate, List·getD-append, getD-replicate}
+use lib.ListN.{getD, take, drop, replicate, length-drop, length-replicate, List·getD-append, getD-replicate}
 use lib.Seq.{getD-take, getD-drop, length-take-le}
 use Rattle.common.specs.Choice.{pick}
 use Rattle.settings.specs.declared.Settings.{Settings}
-use Rattle.settings.specs.Reading.{low, high, within, settingsOf, Parsed, refused, read, readSettings, Printable, Ranges}
+use Rattle.settings.specs.Reading.{low, high, within, settingsOf, refused, read, readSettings, Printable, Ranges}
 use Rattle.settings.proofs.Within.{within-length, within-at}
 
 -- the number at k + i where n equal ones stand from k on

@@ -1,14 +1,14 @@
 -- The defaults of 01, "Settings record": marks `--||-|+++++++++`, padding 1 1 0 0, fills space, then 0 0 0 2 2.
 use mathlib.Core.Path.{_≡_, refl}
 use Prim.Native.Nat.{ℕ}
-use mathlib.Core.Bool.{Bool, true, false}
+use mathlib.Core.Bool.{false}
 use mathlib.Core.List.{List, [], _∷_, _++_}
 use lib.ListN.{replicate}
 use Rattle.common.specs.Choice.{pick}
 use Rattle.settings.specs.declared.Settings.{Settings}
 use Rattle.settings.specs.declared.Alignment.{Alignment}
 use Rattle.settings.specs.declared.Priority.{Priority}
-use Rattle.settings.specs.Reading.{Parsed, read, readSettings, within}
+use Rattle.settings.specs.Reading.{read, readSettings}
 
 abbrev pub defaults : Settings
 defaults = record {

@@ -2,5 +2,4 @@
 pub mod Fronts
 mod Steps
 pub mod Sound
-pub mod Refusals
 pub mod Complete

@@ -1,17 +1,16 @@
 -- What one step of the reading definitions comes to, in the terms of the functions' answers.
-use mathlib.Core.Path.{_≡_, refl, sym, _∙_, ap}
+use mathlib.Core.Path.{_≡_, refl, sym, _∙_}
 use Prim.Native.Nat.{ℕ, zero, suc, _+_, _-_, _<_, _≤_}
 use native.Mathlib.Omega.{arith}
 use mathlib.Core.List.{List, [], _∷_}
 use mathlib.Core.Bool.{Bool, true, false}
 use lib.ListN.{length, take, drop, length-drop, drop-of-length-le}
 use lib.Seq.{drop-drop}
-use lib.Dec.{eqb}
 use native.Mathlib.Nat.{add-sub-cancel-left}
 use borrow.Rule.Slice.PartAt.{part-count, part-to-end}
 use borrow.Author.Tests.{eq-eqb, ne-eqb, lt-ltb, le-ltb}
-use Rattle.tree.specs.Tree.{Tree, Trees, cell, none}
-use Rattle.tree.specs.Reading.{isText, headerOf, ReadOne, ReadAll, readElement, readSequence, groupRead, moreRead, cellRead, stepOf, sequenceOf, answerOf, readTree}
+use Rattle.tree.specs.Tree.{Tree}
+use Rattle.tree.specs.Reading.{isText, headerOf, ReadOne, ReadAll, readElement, readSequence, groupRead, moreRead, stepOf, sequenceOf, answerOf, readTree}
 use Rattle.tree.specs.Bytes.{lengthAt}
 use Rattle.common.specs.Choice.{pick}
 use Rattle.tree.specs.declared.Header.the-variants.{Fault, Element}

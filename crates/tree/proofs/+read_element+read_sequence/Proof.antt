@@ -1,8 +1,10 @@
+-- The two readers call each other. The measure of an element is its bytes, that of a sequence one more; a sequence's loop reads one element a turn.
+-- Assumes nothing.
 use borrow.Author.Needs.{needs}
 use native.Mathlib.Omega.{arith}
 use native.Mathlib.Nat.{le-of-eq}
-use mathlib.Core.Path.{_≡_, sym, ap, _∙_}
-use Rattle.tree.specs.Reading.{headerOf, sequenceOf}
+use mathlib.Core.Path.{_≡_, sym, _∙_}
+use Rattle.tree.specs.Reading.{headerOf}
 use Rattle.tree.specs.declared.Header.the-variants.{Element}
 use Rattle.tree.proofs.Steps.{element-fault, element-cell, element-group, fuelled, part-length, Left, begins, stops, faulty, turned, ends-in}
 use mathlib.Core.List.{List}
