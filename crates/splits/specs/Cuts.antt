@@ -1,16 +1,15 @@
 -- What the cuts answer: the definitions over lists of numbers, with the numbers of document 01.
 use Prim.Native.Nat.{ℕ, _+_, _≤_, _<_}
 use mathlib.Core.Path.{_≡_}
-use mathlib.Core.Bool.{Bool, true, false}
+use mathlib.Core.Bool.{false}
 use mathlib.Core.List.{List, []}
 use lib.Dec.{leb}
-use lib.ListN.{length, take, drop, getD}
+use lib.ListN.{take, drop, getD}
 use Rattle.common.specs.Choice.{pick}
 use Rattle.splits.specs.declared.SplitList.{SplitList}
 use Rattle.splits.specs.declared.CutParts.{CutParts}
 use Rattle.splits.specs.declared.ShortParts.{ShortParts}
 use Rattle.splits.specs.declared.Positions.{Positions}
-use Rattle.splits.specs.declared.CutAnswer.{CutAnswer}
 use Rattle.splits.specs.declared.Kept.{Kept}
 use Rattle.splits.specs.declared.cut.Taken.{Taken}
 use Rattle.splits.specs.declared.short.Listed.{Listed}

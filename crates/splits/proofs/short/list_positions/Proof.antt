@@ -4,7 +4,7 @@ use native.Mathlib.Omega.{arith}
 use borrow.Author.Needs.{needs}
 use mir.Val.{Fits}
 use mir.Syntax.{w16}
-use lib.ListN.{length, take, getD}
+use lib.ListN.{length, getD}
 use Rattle.splits.proofs.Reach.{Goes, goes-first, goes-on, goes-stops, Tells, tells-first, tells-on, tells-stops}
 use Rattle.splits.proofs.short.list_positions.Statement.{statement}
 use Rattle.splits.proofs.short.list_positions.Tie as tie
