@@ -12,10 +12,10 @@ use lib.Dec.{ltb}
 use borrow.Author.Tests.{lt-ltb, le-ltb, eq-eqb, ne-eqb}
 use Rattle.common.specs.Choice.{pick}
 use Rattle.splits.proofs.Named.{namedFrom}
+use Rattle.sizes.proofs.Either.{either}
 use Rattle.block.specs.Content.{mem, ruled, column}
 use Rattle.block.specs.Paint.{pasted}
 use Rattle.block.specs.Parts.{crossed}
-use Rattle.block.proofs.Either.{either, same?}
 use Rattle.block.proofs.Stores.{sets-append, sets-sets}
 use Rattle.block.proofs.Pasted.{sets-pasted}
 use Rattle.block.proofs.Dims.{length-ruled}
@@ -56,6 +56,10 @@ module _ (l : List ℕ) (at step n b : ℕ) (o : List ℕ) (pos i : ℕ) where
     cross-out k j = rw (next k) (crossed-out o at step n b (pos + p + i) _ j)
 
 -- ---- crossings of equal marks are ruled marks
+
+-- the same or not
+same? {ℓ} : {X : Type ℓ} (a b : ℕ) → (a ≡ b → X) → ((a ≡ b → ⊥) → X) → X
+same? a b f g = either a b (λ h. either b a (λ k. f (omega arith)) (λ k. g (λ e. omega arith))) (λ h. g (λ e. omega arith))
 
 length-crossed : (ks l : List ℕ) (n b : ℕ) → length (crossed l 0 1 n ks b) ≡ length l
 unfolding crossed

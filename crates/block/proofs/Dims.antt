@@ -9,14 +9,13 @@ use lib.ListN.{length, replicate, length-append, length-replicate}
 use borrow.Author.Tests.{ne-eqb}
 use Rattle.common.specs.Choice.{pick}
 use Rattle.settings.specs.declared.Settings.{Settings}
-use Rattle.splits.specs.Splits.{named}
 use Rattle.sizes.specs.declared.Size.{Size}
-use Rattle.sizes.specs.Text.{lines, textWidth, textHeight}
+use Rattle.sizes.specs.Text.{lines, textHeight}
 use Rattle.sizes.specs.Sizes.{sep, Fits, leafSize}
 use Rattle.block.specs.declared.Flags.{Flags}
-use Rattle.block.specs.Content.{ruled, column, paired}
+use Rattle.block.specs.Content.{ruled, column}
 use Rattle.block.specs.Block.{Leaf, mark, edge, before, body, topLine, middle, bottomLine, framed, block, tall, wide}
-use Rattle.block.proofs.Every.{Every, Dims, dims-append, dims-replicate, dims-move, dims-cons, dims-paired}
+use Rattle.block.proofs.Every.{Dims, dims-append, dims-replicate, dims-move, dims-cons, dims-paired}
 use Rattle.block.proofs.TextLine.{before-le, text-dims}
 
 -- ---- the body

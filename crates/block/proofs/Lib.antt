@@ -1,5 +1,4 @@
 -- What the proofs of several functions, and the layers above, use.
-pub mod Either
 pub mod Every
 pub mod Stores
 pub mod Pasted
@@ -11,8 +10,7 @@ pub mod NoFeed
 pub mod Room
 pub mod Left
 pub mod Crossed
-pub mod Lines
 pub mod Planned
-pub mod Marks
+pub mod Corners
 pub mod Painted
 pub mod Printed

@@ -1,23 +1,24 @@
 -- The block from its parts: the room of each, and that together they are the block. Assumes nothing.
-use mathlib.Core.Path.{_≡_, refl, sym, ap, _∙_}
-use Prim.Native.Nat.{ℕ, suc, _+_, _*_, _≤_, _<_}
+use mathlib.Core.Path.{_≡_, sym, ap, _∙_}
+use Prim.Native.Nat.{ℕ, _+_, _*_, _≤_, _<_}
 use native.Mathlib.Omega.{arith}
 use mathlib.Core.Bool.{Bool, true, false}
 use mathlib.Core.List.{List, [], _∷_, _++_, append-nil}
-use lib.ListN.{length, take}
+use lib.ListN.{length}
 use lib.Seq.{sets}
 use Rattle.common.specs.Choice.{pick}
 use Rattle.settings.specs.declared.Settings.{Settings}
 use Rattle.splits.specs.declared.SplitList.{SplitList}
+use Rattle.splits.specs.Lists.{listOf}
 use Rattle.sizes.specs.declared.Size.{Size}
 use Rattle.block.specs.declared.Flags.{Flags}
 use Rattle.block.specs.declared.borders.Borders.{Borders}
 use Rattle.block.specs.Block.{topLine, middle, bottomLine, framed, block, tall, wide}
-use Rattle.block.specs.Paint.{pasted, Room, Wrote, leafOf, Paintable}
+use Rattle.block.specs.Paint.{pasted, Room, Wrote, leafWith, Paintable}
 use Rattle.block.specs.Parts.{bordersOf, topOf, middleOf, bottomOf}
 use Rattle.block.proofs.Dims.{tall-is, wide-is, middle-dims, block-framed}
 use Rattle.block.proofs.Left.{then-pasted, pasted-first}
-use Rattle.block.proofs.Marks.{top-is, middle-is, bottom-is}
+use Rattle.block.proofs.Corners.{top-is, middle-is, bottom-is}
 use Rattle.block.proofs.Places.{paintable-fits}
 
 module _ {s : Settings} {t : List ℕ} {n z : Size} {f : Flags} {h v : SplitList} {base stride len : ℕ} (k : Paintable s t n z f h v base stride len) (b : Borders) (is : b ≡ bordersOf s f) where
@@ -57,38 +58,38 @@ module _ {s : Settings} {t : List ℕ} {n z : Size} {f : Flags} {h v : SplitList
   -- ---- the parts
 
   module _ (long : length (s .marks) ≡ 15) (o o₁ o₂ : List ℕ) (next : ℕ)
-      (e₁ : o₁ ≡ sets o base (topOf b (z .width) (take (h .count) (h .pieces))))
-      (w : Wrote next (base + stride + z .height * stride) o₂ (pasted o₁ (base + stride) stride (middleOf s t z b (take (v .count) (v .pieces))))) where
-    first : o₁ ≡ sets o base (topLine s (leafOf t z f h v))
-    first = e₁ ∙ rw (is, top-is s (leafOf t z f h v) long)
+      (e₁ : o₁ ≡ sets o base (topOf b (z .width) (listOf h)))
+      (w : Wrote next (base + stride + z .height * stride) o₂ (pasted o₁ (base + stride) stride (middleOf s t z b (listOf v)))) where
+    first : o₁ ≡ sets o base (topLine s (leafWith t z f h v))
+    first = e₁ ∙ rw (is, top-is s (leafWith t z f h v) long)
 
-    then : Wrote next (base + stride + z .height * stride) o₂ (pasted o₁ (base + stride) stride (middle s (leafOf t z f h v)))
-    then = record { end-is = w .end-is; out-is = w .out-is ∙ rw (is, middle-is s (leafOf t z f h v) long) }
+    then : Wrote next (base + stride + z .height * stride) o₂ (pasted o₁ (base + stride) stride (middle s (leafWith t z f h v)))
+    then = record { end-is = w .end-is; out-is = w .out-is ∙ rw (is, middle-is s (leafWith t z f h v) long) }
 
     whole : (last : Bool) → b .bottom ≡ last
-        → pasted o base stride (block s (leafOf t z f h v))
-        ≡ pasted o base stride (topLine s (leafOf t z f h v) ∷ (middle s (leafOf t z f h v) ++ pick last (bottomLine s (leafOf t z f h v) ∷ []) []))
+        → pasted o base stride (block s (leafWith t z f h v))
+        ≡ pasted o base stride (topLine s (leafWith t z f h v) ∷ (middle s (leafWith t z f h v) ++ pick last (bottomLine s (leafWith t z f h v) ∷ []) []))
     unfolding framed
     whole last l =
-        let c = leafOf t z f h v in
+        let c = leafWith t z f h v in
         ap (pasted o base stride)
         (block-framed s c (λ e. omega (arith, k .some-width))
         ∙ ap (λ (x : Bool). topLine s c ∷ (middle s c ++ pick x (bottomLine s c ∷ []) [])) (sym bottom-side ∙ l))
 
     -- with a bottom line
-    pub painted-all : (o₃ : List ℕ) → b .bottom ≡ true → o₃ ≡ sets o₂ next (bottomOf b (z .width)) → o₃ ≡ pasted o base stride (block s (leafOf t z f h v))
+    pub painted-all : (o₃ : List ℕ) → b .bottom ≡ true → o₃ ≡ sets o₂ next (bottomOf b (z .width)) → o₃ ≡ pasted o base stride (block s (leafWith t z f h v))
     unfolding pasted
     painted-all o₃ l e₃ =
-        let c = leafOf t z f h v in
+        let c = leafWith t z f h v in
         let e : o₃ ≡ sets o₂ next (bottomLine s c) = e₃ ∙ rw (is, bottom-is s c long) in
         then-pasted (middle s c) (bottomLine s c ∷ []) o₁ o₂ o₃ (base + stride) next stride (z .height) (middle-dims s c (paintable-fits k) .lines) then e
         ∙ pasted-first (topLine s c) (middle s c ++ (bottomLine s c ∷ [])) o o₁ base stride first
         ∙ sym (whole true l)
 
     -- without one
-    pub painted-open : b .bottom ≡ false → o₂ ≡ pasted o base stride (block s (leafOf t z f h v))
+    pub painted-open : b .bottom ≡ false → o₂ ≡ pasted o base stride (block s (leafWith t z f h v))
     painted-open l =
-        let c = leafOf t z f h v in
+        let c = leafWith t z f h v in
         then .out-is
         ∙ pasted-first (topLine s c) (middle s c) o o₁ base stride first
         ∙ sym (whole false l ∙ rw append-nil)

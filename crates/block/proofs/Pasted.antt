@@ -5,9 +5,9 @@ use native.Mathlib.Omega.{arith}
 use mathlib.Core.List.{List, [], _∷_, _++_}
 use lib.ListN.{length, getD}
 use lib.Seq.{sets, length-sets}
+use Rattle.sizes.proofs.Either.{either}
 use Rattle.block.specs.Content.{paired}
 use Rattle.block.specs.Paint.{pasted}
-use Rattle.block.proofs.Either.{either}
 use Rattle.block.proofs.Every.{Every, Dims, byteAt}
 use Rattle.block.proofs.Stores.{sets-append, sets-sets, getD-before, getD-after, getD-in}
 

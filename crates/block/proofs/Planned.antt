@@ -9,11 +9,11 @@ use Rattle.sizes.specs.declared.Size.{Size}
 use Rattle.sizes.specs.Text.{lines, textWidth, textHeight}
 use Rattle.sizes.specs.Sizes.{Fits, leafSize}
 use Rattle.block.specs.declared.body.Plan.{Plan}
-use Rattle.block.specs.Block.{before, textLine, body}
+use Rattle.block.specs.Block.{textLine, body}
 use Rattle.block.specs.Paint.{Room}
 use Rattle.block.specs.Parts.{planOf}
 use Rattle.block.proofs.TextLine.{before-le}
-use Rattle.block.proofs.Room.{room-first, room-then, room-in}
+use Rattle.block.proofs.Room.{room-first, room-then}
 
 pub natural-wide : (s : Settings) (t : List ℕ) (n : Size) → n ≡ leafSize s t → s .left + s .right ≤ n .width
 unfolding leafSize

@@ -1,5 +1,5 @@
 -- The leaf printer: the block over bytes of 0A, from the first byte on. Assumes nothing.
-use mathlib.Core.Path.{_≡_, refl, _∙_}
+use mathlib.Core.Path.{_≡_, _∙_}
 use Prim.Native.Nat.{ℕ, suc, _+_, _-_, _*_, _≤_, _<_}
 use native.Mathlib.Omega.{arith}
 use mathlib.Core.List.{List, _++_}
@@ -11,8 +11,8 @@ use Rattle.sizes.specs.declared.Size.{Size}
 use Rattle.block.specs.declared.Flags.{Flags}
 use Rattle.block.specs.Content.{feeds}
 use Rattle.block.specs.Block.{block, tall, wide}
-use Rattle.block.specs.Paint.{pasted, leafOf, Paintable, Printed}
-use Rattle.block.proofs.Every.{Every, Dims}
+use Rattle.block.specs.Paint.{pasted, leafWith, Paintable, Printed}
+use Rattle.block.proofs.Every.{Dims}
 use Rattle.block.proofs.Dims.{tall-is}
 use Rattle.block.proofs.Feeds.{feeds-length, pasted-feeds}
 use Rattle.block.proofs.Places.{paintable-dims}
@@ -58,10 +58,10 @@ module _ {s : Settings} {t : List ℕ} {n z : Size} {f : Flags} {h v : SplitList
   pub leaf-paint : {len′ : ℕ} → len′ ≡ len → Paintable s t n z f h v 0 (w + 1) len′
   leaf-paint l = rw (l, ew) k
 
-  pub leaf-printed : (o o₁ o₂ : List ℕ) → len ≡ length o → o₁ ≡ sets o 0 (replicate (a * (w + 1) - 1) 10) → o₂ ≡ pasted o₁ 0 (w + 1) (block s (leafOf t z f h v))
-      → Printed (block s (leafOf t z f h v)) (a * (w + 1) - 1) o o₂
+  pub leaf-printed : (o o₁ o₂ : List ℕ) → len ≡ length o → o₁ ≡ sets o 0 (replicate (a * (w + 1) - 1) 10) → o₂ ≡ pasted o₁ 0 (w + 1) (block s (leafWith t z f h v))
+      → Printed (block s (leafWith t z f h v)) (a * (w + 1) - 1) o o₂
   leaf-printed o o₁ o₂ l e₁ e₂ =
-      let x = block s (leafOf t z f h v) in
+      let x = block s (leafWith t z f h v) in
       let d : Dims x a w = rw (ew, ea) (paintable-dims k) in
       let low = leaf-low in
       let few = leaf-fill in

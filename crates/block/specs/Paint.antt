@@ -2,10 +2,11 @@
 use mathlib.Core.Path.{_≡_}
 use Prim.Native.Nat.{ℕ, _+_, _*_, _≤_, _<_}
 use mathlib.Core.List.{List, [], _∷_, _++_}
-use lib.ListN.{length, take, drop}
+use lib.ListN.{length, drop}
 use lib.Seq.{sets}
 use Rattle.settings.specs.declared.Settings.{Settings}
 use Rattle.splits.specs.declared.SplitList.{SplitList}
+use Rattle.splits.specs.Lists.{listOf}
 use Rattle.sizes.specs.declared.Size.{Size}
 use Rattle.sizes.specs.Sizes.{Fits, leafSize}
 use Rattle.block.specs.declared.Flags.{Flags}
@@ -28,8 +29,8 @@ pub record Wrote (r end : ℕ) (after is : List ℕ) : Type 0 where
   pub out-is : after ≡ is
 
 -- the leaf of a text, its size, flags and split lists
-abbrev pub leafOf : List ℕ → Size → Flags → SplitList → SplitList → Leaf
-leafOf t z f h v = record { text = t; size = z; horizontal = take (h .count) (h .pieces); vertical = take (v .count) (v .pieces); flags = f }
+abbrev pub leafWith : List ℕ → Size → Flags → SplitList → SplitList → Leaf
+leafWith t z f h v = record { text = t; size = z; horizontal = listOf h; vertical = listOf v; flags = f }
 
 -- what `paint_block` asks: the natural size n of the text t, an allotted size z that holds it, and room for the block
 pub record Paintable (s : Settings) (t : List ℕ) (n z : Size) (f : Flags) (h v : SplitList) (base stride len : ℕ) : Type 0 where

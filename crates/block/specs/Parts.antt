@@ -1,8 +1,8 @@
 -- What the painter's parts write.
-use Prim.Native.Nat.{ℕ, suc, _+_, _-_, _*_}
+use Prim.Native.Nat.{ℕ, _+_, _-_, _*_}
 use mathlib.Core.List.{List, [], _∷_, _++_}
 use lib.ListN.{getD, set, replicate}
-use lib.Dec.{ltb, eqb}
+use lib.Dec.{ltb}
 use Rattle.common.specs.Choice.{pick}
 use Rattle.settings.specs.declared.Settings.{Settings}
 use Rattle.splits.specs.Splits.{named}
@@ -17,11 +17,6 @@ use Rattle.block.specs.Block.{topLeft, topRight, bottomLeft, edge, befor
 unfoldable pub crossed : List ℕ → ℕ → ℕ → ℕ → List ℕ → ℕ → List ℕ
 crossed o at step n [] b = o
 crossed o at step n (k ∷ ks) b = crossed (pick (ltb k n) (set o (at + k * step) b) o) at step n ks b
-
--- the bytes before the first 0A, or all
-unfoldable pub firstLine : List ℕ → ℕ
-firstLine [] = 0
-firstLine (b ∷ t) = pick (eqb b 10) 0 (suc (firstLine t))
 
 -- how a text of natural size n lies in the size z
 unfoldable pub planOf : Settings → Size → Size → Plan

@@ -2,6 +2,7 @@
 pub mod body;
 pub mod borders;
 pub mod bytes;
+pub mod marks;
 pub mod text;
 
 ghost use mathlib.Core.Path.{_≡_};
@@ -10,7 +11,7 @@ ghost use lib.ListN.{length, take};
 ghost use Rattle.common.specs.Choice as choice;
 ghost use Rattle.sizes.specs.Sizes.{Fits, leafSize};
 ghost use Rattle.block.specs.Block.{block, tall, wide};
-ghost use Rattle.block.specs.Paint.{pasted, Room, Wrote, leafOf, Paintable, Printed};
+ghost use Rattle.block.specs.Paint.{pasted, Room, Wrote, leafWith, Paintable, Printed};
 ghost use Rattle.block.specs.Parts.{middleOf};
 use borders::Borders;
 use settings::Settings;
@@ -69,7 +70,7 @@ pub fn paint_block(
     vertical: SplitList,
 )
     requires { ⌜ Paintable s (now text) natural size f horizontal vertical base stride (length (now out)) ⌝ }
-    ensures { λ _. ⌜ now (out .exit) ≡ pasted (now (out .entry)) base stride (block s (leafOf (now (text .entry)) size f horizontal vertical)) ⌝ }
+    ensures { λ _. ⌜ now (out .exit) ≡ pasted (now (out .entry)) base stride (block s (leafWith (now (text .entry)) size f horizontal vertical)) ⌝ }
 {
     let b = borders::config_borders(s, f);
     let w = size.width;
@@ -130,7 +131,7 @@ pub fn print_leaf(
     vertical: SplitList,
 ) -> usize
     requires { ⌜ Paintable s (now text) natural size f horizontal vertical 0 (wide s size f + 1) (length (now out)) ⌝ }
-    ensures { λ r. ⌜ Printed (block s (leafOf (now (text .entry)) size f horizontal vertical)) r (now (out .entry)) (now (out .exit)) ⌝ }
+    ensures { λ r. ⌜ Printed (block s (leafWith (now (text .entry)) size f horizontal vertical)) r (now (out .entry)) (now (out .exit)) ⌝ }
 {
     let w = block_wide(s, size, f);
     let h = block_tall(s, size, f);

@@ -2,31 +2,15 @@
 ghost use mathlib.Core.Path.{_≡_};
 ghost use Prim.Native.Nat.{_+_, _*_, _-_, _<_, _≤_};
 ghost use mathlib.Core.List.{map};
-ghost use lib.ListN.{length, drop};
+ghost use lib.ListN.{length};
 ghost use lib.Seq.{sets};
 ghost use Rattle.common.specs.Choice.{pick};
 ghost use Rattle.sizes.specs.Text.{lines, textWidth, textHeight};
 ghost use Rattle.block.specs.Block.{before, indent, textLine};
 ghost use Rattle.block.specs.Paint.{pasted, Room, Wrote};
-ghost use Rattle.block.specs.Parts.{firstLine};
 use crate::bytes;
 use settings::Alignment;
 use settings::Settings;
-
-// Where the line that starts at `from` ends.
-fn line_end(text: &[u8], from: usize) -> usize
-    requires { ⌜ from ≤ length (now text) ⌝ }
-    ensures { λ r. ⌜ r ≡ from + firstLine (drop from (now (text .entry))) ⌝ }
-{
-    let mut i = from;
-    while i < text.len() {
-        if text[i] == 10 {
-            return i;
-        }
-        i += 1;
-    }
-    i
-}
 
 // The part of the space that stands before the text (`indent_left`, `indent_top`).
 pub fn indent_start(al: Alignment, available: usize, real: usize) -> usize
@@ -91,7 +75,7 @@ pub fn text_lines(
     let mut p = at;
     let mut from = 0;
     while from <= text.len() {
-        let end = line_end(text, from);
+        let end = sizes::text::line_end(text, from);
         text_line(out, p, s, inner, widest, &text[from..end]);
         p += stride;
         from = end + 1;

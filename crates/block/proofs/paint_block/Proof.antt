@@ -1,6 +1,4 @@
-use mathlib.Core.Path.{_≡_}
 use native.Mathlib.Omega.{arith}
-use lib.ListN.{length}
 use borrow.Author.Needs.{needs}
 use Rattle.block.proofs.Painted.{block-apart, top-room, block-next, middle-room, bottom-room, painted-all, painted-open}
 use Rattle.block.proofs.paint_block.Statement.{statement}

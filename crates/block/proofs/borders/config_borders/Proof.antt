@@ -1,4 +1,3 @@
-use mathlib.Core.Path.{refl}
 use borrow.Author.Needs.{needs}
 use Rattle.block.specs.Block.{topLeft, topRight, bottomLeft}
 use Rattle.block.specs.Parts.{bordersOf}

@@ -14,6 +14,7 @@ use Rattle.block.proofs.bytes.copy.Tie as tie
 copy-step : (l s : List ℕ) (at i : ℕ) → i < length s → sets l (at + i) (drop i s) ≡ sets (set l (at + i) (getD s i 0)) (at + (i + 1)) (drop (i + 1) s)
 copy-step l s at i h = let e : at + (i + 1) ≡ suc (at + i) = omega arith in rw (drop-cons s i 0 h, e, add-one)
 
+-- the stores still to come, from byte i of the line on, make the whole
 abbrev Inv-loop : tie.InvT-loop
 Inv-loop out₀ at line n i₀ out i = (i ≤ n) × ((n ≡ length line) × ((length out ≡ length out₀) × (sets out₀ at line ≡ sets out (at + i) (drop i line))))
 

@@ -1,5 +1,5 @@
 use mathlib.Core.Path.{_≡_, refl, sym, _∙_}
-use Prim.Native.Nat.{_+_, _-_, _≤_}
+use Prim.Native.Nat.{_-_, _≤_}
 use native.Mathlib.Omega.{arith}
 use mathlib.Core.Logic.{⊎-elim}
 use lib.ListN.{length, take, drop, getD, length-set}
@@ -13,6 +13,7 @@ use Rattle.block.proofs.Crossed.{cross-end, cross-stop, cross-in, cross
 use Rattle.block.proofs.bytes.cross.Statement.{statement}
 use Rattle.block.proofs.bytes.cross.Tie as tie
 
+-- the places still to come, named by the pieces from i on, make the whole
 abbrev Inv-loop : tie.InvT-loop
 Inv-loop out₀ at step n pieces count byte pos₀ i₀ out pos i = (i ≤ count) × (pos ≤ n) × (length out ≡ length out₀) × (crossed out₀ at step n (named n (take count pieces)) byte ≡ crossed out at step n (namedFrom n pos i (drop i (take count pieces))) byte)
 

@@ -14,6 +14,7 @@ use Rattle.block.proofs.bytes.fill.Tie as tie
 fill-step : (l : List ℕ) (i end b : ℕ) → i < end → sets l i (replicate (end - i) b) ≡ sets (set l i b) (i + 1) (replicate (end - (i + 1)) b)
 fill-step l i end b h = let e : end - i ≡ suc (end - (i + 1)) = omega arith in rw (e, add-one)
 
+-- the stores still to come, from i to `end`, make the whole
 abbrev Inv-loop : tie.InvT-loop
 Inv-loop out₀ at n byte end i₀ out i = (i ≤ end) × ((end ≡ at + n) × ((length out ≡ length out₀) × (sets out₀ at (replicate n byte) ≡ sets out i (replicate (end - i) byte))))
 

@@ -1,4 +1,4 @@
-use Prim.Native.Nat.{ℕ, _+_, _-_, _*_, _≤_}
+use Prim.Native.Nat.{_+_, _-_, _*_, _≤_}
 use native.Mathlib.Nat.{sub-zero}
 use native.Mathlib.Omega.{arith}
 use lib.ListN.{length, replicate, length-replicate}
@@ -8,6 +8,7 @@ use Rattle.block.proofs.Left.{Left, left-start, left-step, left-done, l
 use Rattle.block.proofs.bytes.rows.Statement.{statement}
 use Rattle.block.proofs.bytes.rows.Tie as tie
 
+-- the lines still to come make the whole
 abbrev Inv-loop : tie.InvT-loop
 Inv-loop out₀ at stride n w byte p₀ i₀ out p i = (i ≤ n) × Left (pasted out₀ at stride (replicate n (replicate w byte))) (length out₀) (at + n * stride) out p stride w (replicate (n - i) (replicate w byte))
 

@@ -1,4 +1,4 @@
-use Prim.Native.Nat.{ℕ, _+_, _-_, _*_, _≤_}
+use Prim.Native.Nat.{_+_, _-_, _*_, _≤_}
 use native.Mathlib.Nat.{sub-zero}
 use native.Mathlib.Omega.{arith}
 use mathlib.Core.List.{[], _∷_}
@@ -9,6 +9,7 @@ use Rattle.block.proofs.Left.{Left, left-start, left-step, left-done, l
 use Rattle.block.proofs.bytes.stack.Statement.{statement}
 use Rattle.block.proofs.bytes.stack.Tie as tie
 
+-- the lines still to come make the whole
 abbrev Inv-loop : tie.InvT-loop
 Inv-loop out₀ at stride n byte p₀ i₀ out p i = (i ≤ n) × Left (pasted out₀ at stride (replicate n (byte ∷ []))) (length out₀) (at + n * stride) out p stride 1 (replicate (n - i) (byte ∷ []))
 

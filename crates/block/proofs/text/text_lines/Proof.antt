@@ -1,20 +1,20 @@
-use mathlib.Core.Path.{_≡_, _∙_}
+use mathlib.Core.Path.{_∙_}
 use Prim.Native.Nat.{_+_, _-_, _*_, _≤_}
 use native.Mathlib.Omega.{arith}
-use mathlib.Core.List.{List, _∷_, map}
-use lib.ListN.{length, take, drop, length-map}
-use lib.Seq.{length-take-le}
+use mathlib.Core.List.{map}
+use lib.ListN.{length, length-map}
 use borrow.Author.Needs.{needs}
 use Rattle.sizes.specs.Text.{lines, textHeight}
+use Rattle.sizes.proofs.Lines.{rest, rest-none, rest-next, line-from, line-in}
 use Rattle.block.specs.Block.{textLine}
 use Rattle.block.specs.Paint.{pasted}
 use Rattle.block.proofs.Every.{Every}
 use Rattle.block.proofs.TextLine.{lines-width, lines-height}
-use Rattle.block.proofs.Lines.{rest, rest-all, rest-none, line-from, line-in, line-next}
 use Rattle.block.proofs.Left.{Left, left-start, left-step, left-done, left-room, left-next}
 use Rattle.block.proofs.text.text_lines.Statement.{statement}
 use Rattle.block.proofs.text.text_lines.Tie as tie
 
+-- the lines still to come, those of the text from `from` on, make the whole; none is wider than the widest
 abbrev Inv-loop : tie.InvT-loop
 Inv-loop out₀ at stride s inner widest text p₀ from₀ out p from =
     (from ≤ length text + 1)
@@ -25,10 +25,11 @@ abbrev μ-loop : tie.MeasureT-loop
 μ-loop out₀ at stride s inner widest text p₀ from₀ out p from = length text + 1 - from
 
 loop-holds : tie.Need-loop-holds Inv-loop μ-loop
+unfolding rest
 loop-holds c =
     let a = c .before .before .args in
     let t = a .text .now in
-    rw (rest-all t) (omega arith, rw (c .before .before .pre .0 .1) (lines-width t), left-start _ _ _ _ _ _ (length-map (lines t) (textLine (a .s) (a .inner) (a .widest)) ∙ lines-height t) (c .before .before .pre .1))
+    (omega arith, rw (c .before .before .pre .0 .1) (lines-width t), left-start _ _ _ _ _ _ (length-map (lines t) (textLine (a .s) (a .inner) (a .widest)) ∙ lines-height t) (c .before .before .pre .1))
 
 line-end-requires : tie.Need-line-end-requires Inv-loop μ-loop
 line-end-requires c κs = search needs
@@ -46,14 +47,14 @@ text-line-requires : tie.Need-text-line-requires Inv-loop μ-loop
 text-line-requires c κs =
     let a = c .before .before .before .before .before .before .before .args in
     let k = c .before .before .before .before .loop in
-    let next = line-next (a .text .now) (k .from) (omega arith) (c .before .before .line-end .result) (c .before .before .line-end .ensures) in
+    let next = rest-next (a .text .now) (k .from) (omega arith) (c .before .before .line-end .result) (c .before .before .line-end .ensures) in
     ((rw next at (k .inv .1)) .0, c .before .before .before .before .before .before .before .pre .0 .2, omega (arith, left-room (rw next at (k .inv .2))))
 
 add-p : tie.Need-add-p Inv-loop μ-loop
 add-p c =
     let a = c .before .before .before .before .before .before .before .before .before .before .args in
     let k = c .before .before .before .before .before .before .before .loop in
-    let next = line-next (a .text .now) (k .from) (omega arith) (c .before .before .before .before .before .line-end .result) (c .before .before .before .before .before .line-end .ensures) in
+    let next = rest-next (a .text .now) (k .from) (omega arith) (c .before .before .before .before .before .line-end .result) (c .before .before .before .before .before .line-end .ensures) in
     omega (arith, left-next (rw next at (k .inv .2)))
 
 add-from : tie.Need-add-from Inv-loop μ-loop
@@ -66,7 +67,7 @@ loop-again : tie.Need-loop-again Inv-loop μ-loop
 loop-again c =
     let a = c .before .before .before .before .before .before .before .before .before .before .args in
     let k = c .before .before .before .before .before .before .before .loop in
-    let next = line-next (a .text .now) (k .from) (omega arith) (c .before .before .before .before .before .line-end .result) (c .before .before .before .before .before .line-end .ensures) in
+    let next = rest-next (a .text .now) (k .from) (omega arith) (c .before .before .before .before .before .line-end .result) (c .before .before .before .before .before .line-end .ensures) in
     (omega (arith, line-in _ _ (omega arith) _ (c .before .before .before .before .before .line-end .ensures)), (rw next at (k .inv .1)) .1, rw (c .before .before .text-line .ensures) (left-step _ _ (rw next at (k .inv .2))))
 
 same-length : tie.Need-same-length Inv-loop μ-loop

@@ -1,17 +1,13 @@
 -- The marks of a leaf: with its corners in the altered copy, the parts that the painter writes are the block's. Assumes nothing.
-use mathlib.Core.Path.{_≡_, refl, _∙_}
+use mathlib.Core.Path.{_≡_, _∙_}
 use mathlib.Core.Logic.{_≢_}
 use Prim.Native.Nat.{ℕ}
 use native.Mathlib.Omega.{arith}
-use mathlib.Core.List.{List, _∷_, _++_}
-use lib.ListN.{length, getD, set, replicate, length-set}
+use mathlib.Core.List.{List}
+use lib.ListN.{length, getD, set, length-set}
 use lib.Seq.{getD-set-same, getD-set-other}
 use Rattle.settings.specs.declared.Settings.{Settings}
-use Rattle.splits.specs.Splits.{named}
-use Rattle.block.specs.declared.Flags.{Flags}
-use Rattle.block.specs.declared.borders.Borders.{Borders}
-use Rattle.block.specs.Content.{ruled, column, paired}
-use Rattle.block.specs.Block.{Leaf, mark, topLeft, topRight, bottomLeft, edge, body, topLine, middle, bottomLine}
+use Rattle.block.specs.Block.{Leaf, mark, topLeft, topRight, bottomLeft, topLine, middle, bottomLine}
 use Rattle.block.specs.Parts.{bordersOf, topOf, leftOf, rightOf, bottomOf, middleOf}
 
 -- ---- the altered copy
