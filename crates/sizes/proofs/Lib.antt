@@ -18,3 +18,5 @@ pub mod Naturals
 pub mod Counts
 pub mod Held
 pub mod Allotted
+pub mod Cores
+pub mod Inputs

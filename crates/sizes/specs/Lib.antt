@@ -4,3 +4,5 @@ pub mod Measuring
 pub mod Sharing
 pub mod Collecting
 pub mod Allotting
+pub mod Input
+pub mod Core
