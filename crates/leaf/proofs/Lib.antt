@@ -6,3 +6,14 @@ pub mod Numbered
 pub mod Entries
 pub mod Named
 pub mod Narrow
+pub mod Outcome
+mod Steps
+mod Turns
+mod Nodes
+mod Held
+mod Visits
+mod Seek
+mod Roots
+pub mod Given
+pub mod Calls
+pub mod Prints

@@ -1,1 +1,4 @@
 pub mod Walk
+pub mod Visiting
+pub mod Answers
+pub mod Walking

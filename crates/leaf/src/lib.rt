@@ -1,1 +1,167 @@
-// The walk over the tree: flags, split lists and starts of the leaves.
+// The walk over the tree: flags, split lists and starts of the leaves; the leaf record and the leaf printer.
+pub mod context;
+pub mod root;
+pub mod visit;
+pub mod walk;
+
+use block::Flags;
+use settings::Settings;
+use sizes::Core;
+use sizes::Size;
+use splits::SplitList;
+use visit::Found;
+use visit::Job;
+use visit::Purpose;
+ghost use mathlib.Core.Path.{_≡_};
+ghost use Prim.Native.Nat.{_<_};
+ghost use Rattle.sizes.specs.Input.{inputOf};
+ghost use Rattle.leaf.specs.Answers.{noRecord, foundRecord, leafRecordOf, foundWritten, leafPrintOf, largeOf};
+
+// A leaf's record: node, allotted size, both split lists as handed to the leaf, eight flags; or a refusal with 0 or no elsewhere.
+pub struct LeafRecord {
+    pub number: u8,
+    pub node: usize,
+    pub size: Size,
+    pub horizontal: SplitList,
+    pub vertical: SplitList,
+    pub flags: Flags,
+}
+
+// A printer's answer: the bytes written, or a refusal.
+pub struct Written {
+    pub number: u8,
+    pub count: usize,
+}
+
+// Whether the sheet has over 400 columns or over 160 lines.
+pub fn is_large(core: Core) -> bool
+    ensures { λ r. ⌜ r ≡ largeOf core ⌝ }
+{
+    let widths = core.natural_widths;
+    let heights = core.natural_heights;
+    if 400 < common::wide16(widths[0]) + 2 {
+        return true;
+    }
+    160 < common::wide16(heights[0]) + 2
+}
+
+fn no_record(number: u8) -> LeafRecord
+    ensures { λ r. ⌜ r ≡ noRecord number ⌝ }
+{
+    let h = splits::no_pieces();
+    let v = splits::no_pieces();
+    let flags = root::no_flags();
+    let size = Size {
+        width: 0,
+        height: 0,
+    };
+    LeafRecord {
+        number: number,
+        node: 0,
+        size: size,
+        horizontal: h,
+        vertical: v,
+        flags: flags,
+    }
+}
+
+// The record that the walk kept; 9 where the number names no leaf.
+fn record_of(found: Found) -> LeafRecord
+    ensures { λ r. ⌜ r ≡ foundRecord found ⌝ }
+{
+    if found.hit {
+        let size = found.size;
+        let h = found.horizontal;
+        let v = found.vertical;
+        let flags = found.flags;
+        return LeafRecord {
+            number: 0,
+            node: found.node,
+            size: size,
+            horizontal: h,
+            vertical: v,
+            flags: flags,
+        };
+    }
+    no_record(9)
+}
+
+// The bytes of the block that the walk printed; 9 where the number names no leaf, 8 where the output is too short.
+fn written_of(s: Settings, found: Found, len: usize) -> Written
+    requires { ⌜ (found .size .width < 65536) × (found .size .height < 65536) ⌝ }
+    ensures { λ r. ⌜ r ≡ foundWritten s found len ⌝ }
+{
+    if found.hit {
+        let size = found.size;
+        let flags = found.flags;
+        let n = visit::block_bytes(s, size, flags);
+        if len < n {
+            return Written {
+                number: 8,
+                count: 0,
+            };
+        }
+        return Written {
+            number: 0,
+            count: n,
+        };
+    }
+    Written {
+        number: 9,
+        count: 0,
+    }
+}
+
+// The record of the leaf with that number.
+pub fn leaf_record(settings: &[u8], tree: &[u8], node: usize) -> LeafRecord
+    ensures { λ r. ⌜ r ≡ leafRecordOf (inputOf (now (settings .entry)) (now (tree .entry))) node ⌝ }
+{
+    let m = sizes::measure_tree(settings, tree);
+    if m.number != 0 {
+        return no_record(m.number);
+    }
+    let core = m.core;
+    if is_large(core) {
+        return no_record(6);
+    }
+    let s = m.settings;
+    let job = Job {
+        purpose: Purpose::Record,
+        settings: s,
+        wanted: node,
+        stride: 0,
+    };
+    let mut nothing = [0u8; 1];
+    let found = root::walk_core(tree, core, job, &mut nothing);
+    record_of(found)
+}
+
+// The block of the leaf with that number, its lines joined by 0A, at the start of the output.
+pub fn print_leaf(settings: &[u8], tree: &[u8], node: usize, out: &mut [u8]) -> Written
+    ensures { λ r. ⌜ r ≡ leafPrintOf (inputOf (now (settings .entry)) (now (tree .entry))) node (now (out .entry)) .answer ⌝ }
+    ensures shown { λ _. ⌜ now (out .exit) ≡ leafPrintOf (inputOf (now (settings .entry)) (now (tree .entry))) node (now (out .entry)) .out ⌝ }
+{
+    let m = sizes::measure_tree(settings, tree);
+    if m.number != 0 {
+        return Written {
+            number: m.number,
+            count: 0,
+        };
+    }
+    let core = m.core;
+    if is_large(core) {
+        return Written {
+            number: 6,
+            count: 0,
+        };
+    }
+    let s = m.settings;
+    let job = Job {
+        purpose: Purpose::Block,
+        settings: s,
+        wanted: node,
+        stride: 0,
+    };
+    let found = root::walk_core(tree, core, job, out);
+    written_of(s, found, out.len())
+}

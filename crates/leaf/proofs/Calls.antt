@@ -1,0 +1,121 @@
+-- What the public calls answer, from the sizes that were measured and the walk. Assumes nothing.
+use mathlib.Core.Path.{_≡_, refl, sym, ap, _∙_}
+use Prim.Native.Nat.{ℕ, _+_, _-_, _*_, _≤_, _<_}
+use native.Mathlib.Omega.{arith}
+use mathlib.Core.Bool.{Bool, true, false}
+use mathlib.Core.List.{List, [], _∷_, _++_, map}
+use mathlib.Core.Option.{Option, some, none}
+use lib.ListN.{length, getD, replicate}
+use lib.Dec.{ltb}
+use Rattle.common.specs.Choice.{pick}
+use Rattle.settings.specs.declared.Settings.{Settings}
+use Rattle.tree.specs.Tree.{Tree, cell, group}
+use Rattle.sizes.specs.declared.Core.{Core}
+use Rattle.sizes.specs.declared.Measured.{Measured}
+use Rattle.sizes.specs.Sizes.{sep, natural, Sizes, sizes, treeSizes}
+use Rattle.sizes.specs.Input.{Input, refused, given, inputOf}
+use Rattle.sizes.specs.Core.{coreOf, measuredOf}
+use Rattle.block.proofs.Every.{Every, every-map}
+use Rattle.leaf.specs.declared.LeafRecord.{LeafRecord}
+use Rattle.leaf.specs.declared.visit.Purpose.{Purpose}
+use Rattle.leaf.specs.declared.visit.Job.{Job}
+use Rattle.leaf.specs.declared.visit.Found.{Found}
+use Rattle.leaf.specs.Walk.{Placed, leafOf, leaves, W, H}
+use Rattle.leaf.specs.Visiting.{keepAll, showAll, Asks}
+use Rattle.leaf.specs.Walking.{coreLists, noFound, ReadyTree, WalksTree}
+use Rattle.leaf.specs.Answers.{tooLarge, numbered, noRecord, recordOf, recordFound, foundRecord, leafRecordOf, largeOf}
+use Rattle.leaf.proofs.Fit.{LeafFits, leaves-fit}
+use Rattle.leaf.proofs.Named.{leaves-rise}
+use Rattle.leaf.proofs.Given.{Takes, takes, Accepts, accepts, refuses}
+use Rattle.leaf.proofs.Held.{lists-held}
+use Rattle.leaf.proofs.Seek.{keptOf, keep-numbered}
+
+-- ---- the sheet's size, by the root's numbers
+
+root-first : (f : Sizes → ℕ) (s : Settings) (t : Tree) (r : List ℕ) → getD (map f (treeSizes s t) ++ r) 0 0 ≡ f (record { natural = natural s t; allotted = natural s t })
+unfolding treeSizes sizes
+root-first f s (cell t) r = refl
+root-first f s (group a ts) r = refl
+
+pub large-is : (s : Settings) (t : Tree) (c : Core) → c ≡ coreOf s t → largeOf c ≡ tooLarge s t
+unfolding coreOf tooLarge sep
+large-is s t c e =
+    rw (e, root-first (λ z. z .natural .width) s t (replicate (512 - length (map (λ z. z .natural .width) (treeSizes s t))) 0), root-first (λ z. z .natural .height) s t (replicate (512 - length (map (λ z. z .natural .height) (treeSizes s t))) 0))
+
+-- ---- the walk of an accepted input can start
+
+pub tree-ready : (job : Job) (ts : List ℕ) (t : Tree) (c : Core) (len : ℕ) → Takes ts (job .settings) t → c ≡ coreOf (job .settings) t → Every (Asks job len) (leaves (job .settings) t) → ReadyTree job ts (coreLists c) len
+unfolding coreOf treeSizes
+tree-ready job ts t c len k e a = record {
+  tree = t;
+  is = k .got .is;
+  short = omega (arith, k .got .short);
+  sizes = rw e (lists-held (job .settings) t (natural (job .settings) t) _ _ _ _ _ refl refl refl refl);
+  few = k .got .few;
+  asks = a;
+}
+
+-- a walk that is not for the sheet asks only what every leaf has
+pub leaves-ask : (job : Job) (t : Tree) (len : ℕ) → (job .purpose ≡ Purpose.Sheet → ⊥) → Every (Asks job len) (leaves (job .settings) t)
+leaves-ask job t len n = every-map (LeafFits (job .settings)) (Asks job len) (λ l f. record { fits = f; in-sheet = λ e. absurd (n e) }) (leaves (job .settings) t) (leaves-fit (job .settings) t)
+
+-- ---- the leaf record
+
+found-record : (x : Option Placed) → foundRecord (keptOf noFound x) ≡ recordFound x
+found-record none = refl
+found-record (some l) = refl
+
+pub record-found : (job : Job) (t : Tree) (f : Found) → f ≡ keepAll job noFound (leaves (job .settings) t) → foundRecord f ≡ recordFound (numbered (job .wanted) (leaves (job .settings) t))
+record-found job t f e = rw (e, keep-numbered job noFound 0 (leaves (job .settings) t) (leaves-rise (job .settings) t)) (found-record (numbered (job .wanted) (leaves (job .settings) t)))
+
+module _ (bs ts : List ℕ) (n : ℕ) where
+  pub record-refused : (m : Measured) → m ≡ measuredOf (inputOf bs ts) → (m .number ≡ 0 → ⊥) → leafRecordOf (inputOf bs ts) n ≡ noRecord (m .number)
+  unfolding leafRecordOf
+  record-refused m e h = rw (refuses bs ts m e h)
+
+  module _ (s : Settings) (t : Tree) (i : inputOf bs ts ≡ given s t) where
+    pub record-large : tooLarge s t ≡ true → leafRecordOf (inputOf bs ts) n ≡ noRecord 6
+    unfolding leafRecordOf
+    record-large h = rw (i, h)
+
+    pub record-within : tooLarge s t ≡ false → leafRecordOf (inputOf bs ts) n ≡ recordFound (numbered n (leaves s t))
+    unfolding leafRecordOf
+    record-within h = rw (i, h)
+
+-- ---- as the calls have it: m is what was measured
+
+abbrev pub jobOf : Measured → Purpose → ℕ → Job
+jobOf m p n = record { purpose = p; settings = m .settings; wanted = n; stride = 0 }
+
+module _ (bs ts : List ℕ) (m : Measured) (me : m ≡ measuredOf (inputOf bs ts)) (h : m .number ≡ 0) where
+  pub call : Accepts bs ts m
+  call = accepts bs ts m me h
+
+  pub call-takes : Takes ts (m .settings) (call .tree)
+  call-takes = takes bs ts (m .settings) (call .tree) (call .input)
+
+  pub call-large : (b c : Bool) → b ≡ largeOf (m .core) → b ≡ c → tooLarge (m .settings) (call .tree) ≡ c
+  call-large b c e f = sym (large-is (m .settings) (call .tree) (m .core) (call .core)) ∙ sym e ∙ f
+
+  pub call-ready : (p : Purpose) (n len : ℕ) → (p ≡ Purpose.Sheet → ⊥) → ReadyTree (jobOf m p n) ts (coreLists (m .core)) len
+  call-ready p n len k = tree-ready (jobOf m p n) ts (call .tree) (m .core) len call-takes (call .core) (leaves-ask (jobOf m p n) (call .tree) len k)
+
+  pub call-walks : (p : Purpose) (n len : ℕ) (k : p ≡ Purpose.Sheet → ⊥) (f : Found) (o₀ o : List ℕ)
+      → WalksTree (jobOf m p n) (leaves (m .settings) (call-ready p n len k .tree)) f o₀ o → WalksTree (jobOf m p n) (leaves (m .settings) (call .tree)) f o₀ o
+  unfolding call-ready tree-ready
+  call-walks p n len k f o₀ o w = w
+
+  -- the leaf record
+  pub record-answers : (n len : ℕ) (k : Purpose.Record ≡ Purpose.Sheet → ⊥) (f : Found) (o₀ o : List ℕ)
+      → WalksTree (jobOf m Purpose.Record n) (leaves (m .settings) (call-ready Purpose.Record n len k .tree)) f o₀ o → (b : Bool) → b ≡ largeOf (m .core) → b ≡ false
+      → foundRecord f ≡ leafRecordOf (inputOf bs ts) n
+  record-answers n len k f o₀ o w b e g =
+      record-found (jobOf m Purpose.Record n) (call .tree) f (call-walks Purpose.Record n len k f o₀ o w .found)
+      ∙ sym (record-within bs ts n (m .settings) (call .tree) (call .input) (call-large b false e g))
+
+-- no record's or block's walk is the sheet's
+pub record-no-sheet : Purpose.Record ≡ Purpose.Sheet → ⊥
+record-no-sheet e = let z : _≡_ {A = ℕ} 0 1 = cc in omega arith
+
+pub block-no-sheet : Purpose.Block ≡ Purpose.Sheet → ⊥
+block-no-sheet e = let z : _≡_ {A = ℕ} 0 1 = cc in omega arith

@@ -1,0 +1,137 @@
+-- What the leaf printer answers, from the walk. Assumes nothing.
+use mathlib.Core.Path.{_≡_, refl, sym, ap, _∙_}
+use Prim.Native.Nat.{ℕ, zero, suc, _+_, _-_, _*_, _≤_, _<_}
+use native.Mathlib.Omega.{arith}
+use mathlib.Core.Bool.{Bool, true, false}
+use mathlib.Core.List.{List, [], _∷_, _++_}
+use mathlib.Core.Option.{Option, some, none}
+use lib.ListN.{length, drop, getElem?}
+use lib.Dec.{ltb, eqb}
+use borrow.Author.Tests.{eqb-true, eqb-false, ne-eqb}
+use Rattle.common.specs.Choice.{pick}
+use Rattle.settings.specs.declared.Settings.{Settings}
+use Rattle.tree.specs.Tree.{Tree}
+use Rattle.sizes.specs.declared.Measured.{Measured}
+use Rattle.sizes.specs.declared.Size.{Size}
+use Rattle.sizes.specs.Sizes.{sep, Fits, leafSize, treeSizes}
+use Rattle.sizes.specs.Input.{given, inputOf}
+use Rattle.sizes.specs.Core.{measuredOf}
+use Rattle.sizes.proofs.Nodes.{subtrees}
+use Rattle.sizes.proofs.Limits.{Small, read-limits, sizes-small}
+use Rattle.block.specs.declared.Flags.{Flags}
+use Rattle.block.specs.Content.{feeds}
+use Rattle.block.specs.Block.{Leaf, block, tall, wide}
+use Rattle.block.proofs.Every.{Every, every-map}
+use Rattle.block.proofs.Dims.{block-dims}
+use Rattle.block.proofs.Feeds.{feeds-length}
+use Rattle.leaf.specs.declared.Written.{Written}
+use Rattle.leaf.specs.declared.visit.Purpose.{Purpose}
+use Rattle.leaf.specs.declared.visit.Found.{Found}
+use Rattle.leaf.specs.Walk.{Placed, leafOf, leaves}
+use Rattle.leaf.specs.Visiting.{printed, blockBytes}
+use Rattle.leaf.specs.Walking.{noFound, WalksTree}
+use Rattle.leaf.specs.Answers.{tooLarge, numbered, Prints, noPrint, printTo, printFound, foundWritten, leafPrintOf, largeOf}
+use Rattle.leaf.proofs.Fit.{LeafFits, leaves-fit}
+use Rattle.leaf.proofs.Entries.{Listed, numbered-listed}
+use Rattle.leaf.proofs.Named.{leaves-numbered, leaves-rise}
+use Rattle.leaf.proofs.Given.{Takes, refuses}
+use Rattle.leaf.proofs.Calls.{jobOf, call, call-takes, call-large, call-ready, call-walks, block-no-sheet}
+use Rattle.leaf.proofs.Seek.{keptOf, keep-numbered, shownOf, show-numbered}
+
+-- ---- the bytes of a block
+
+nonzero : (s : Settings) (l : Leaf) → Fits (leafSize s (l .text)) (l .size) → (l .size .width ≡ 0 → ⊥) → length (feeds (block s l)) ≡ tall s (l .size) (l .flags) * (wide s (l .size) (l .flags) + 1) - 1
+unfolding tall sep
+nonzero s l f n = omega (arith, feeds-length (block s l) (block-dims s l f n) (omega arith))
+
+bytes-case : (s : Settings) (l : Leaf) (b : Bool) → eqb (l .size .width) 0 ≡ b → Fits (leafSize s (l .text)) (l .size) → length (feeds (block s l)) ≡ blockBytes s (l .size) (l .flags)
+unfolding block blockBytes feeds
+bytes-case s l true e f = rw e refl
+bytes-case s l false e f = nonzero s l f (eqb-false (l .size .width) 0 e) ∙ rw e refl
+
+pub block-bytes : (s : Settings) (l : Leaf) → Fits (leafSize s (l .text)) (l .size) → length (feeds (block s l)) ≡ blockBytes s (l .size) (l .flags)
+block-bytes s l f = bytes-case s l (eqb (l .size .width) 0) refl f
+
+-- ---- a fact of every leaf is one of the wanted leaf
+
+numbered-case : (P : Placed → Type 0) (n : ℕ) (l m : Placed) (ls : List Placed) (b : Bool) → P l → Every P ls → (numbered n ls ≡ some m → P m) → pick b (some l) (numbered n ls) ≡ some m → P m
+numbered-case P n l m ls true h k ih e = let z : l ≡ m = cc in rw z at h
+numbered-case P n l m ls false h k ih e = ih e
+
+pub numbered-every : (P : Placed → Type 0) (n : ℕ) (m : Placed) (ls : List Placed) → Every P ls → numbered n ls ≡ some m → P m
+unfolding numbered
+numbered-every P n m [] k e = let z : _≡_ {A = ℕ} 0 1 = cc in absurd (omega arith)
+numbered-every P n m (l ∷ ls) k e = numbered-case P n l m ls (eqb (l .at .node) n) (k .0) (k .1) (numbered-every P n m ls (k .1)) e
+
+abbrev SmallLeaf : Placed → Type 0
+SmallLeaf l = (l .at .size .width < 65536) × (l .at .size .height < 65536)
+
+leaves-small : (ts : List ℕ) (s : Settings) (t : Tree) → Takes ts s t → Every SmallLeaf (leaves s t)
+leaves-small ts s t k =
+    every-map (Listed s 0 (subtrees t) (treeSizes s t)) SmallLeaf
+    (λ l e. let y = sizes-small s t (read-limits s (k .ranges) (k .got)) _ _ (e .sizes-are) in (y .width, y .height))
+    (leaves s t) (numbered-listed (leaves-numbered s t))
+
+-- ---- what the walk kept and showed is the printer's answer
+
+kept-small : (s : Settings) (n : ℕ) (ls : List Placed) (x : Option Placed) → numbered n ls ≡ x → Every SmallLeaf ls → (keptOf noFound x .size .width < 65536) × (keptOf noFound x .size .height < 65536)
+kept-small s n ls none e k = (omega arith, omega arith)
+kept-small s n ls (some l) e k = numbered-every SmallLeaf n l ls k e
+
+abbrev Answers : Written → List ℕ → Prints → Type 0
+Answers r o p = (r ≡ p .answer) × (o ≡ p .out)
+
+to-case : (b : Bool) (bytes o : List ℕ) → Answers (pick b (record { number = 8; count = 0 }) (record { number = 0; count = length bytes })) (pick b o (bytes ++ drop (length bytes) o))
+    (pick b (noPrint 8 o) (record { answer = record { number = 0; count = length bytes }; out = bytes ++ drop (length bytes) o }))
+to-case true bytes o = (refl, refl)
+to-case false bytes o = (refl, refl)
+
+found-prints : (s : Settings) (n : ℕ) (o : List ℕ) (ls : List Placed) (x : Option Placed) → numbered n ls ≡ x → Every (LeafFits s) ls → Answers (foundWritten s (keptOf noFound x) (length o)) (shownOf s o x) (printFound s o x)
+unfolding printed
+found-prints s n o ls none e k = (refl, refl)
+found-prints s n o ls (some l) e k =
+    let f = numbered-every (LeafFits s) n l ls k e in
+    rw (← block-bytes s (leafOf l) f) (to-case (ltb (length o) (length (feeds (block s (leafOf l))))) (feeds (block s (leafOf l))) o)
+
+-- ---- as the printer has it
+
+-- a refusal writes nothing
+pub refusal : {k : ℕ} {o : List ℕ} {p : Prints} → p ≡ noPrint k o → Answers (record { number = k; count = 0 }) o p
+refusal e = (ap (λ (p : Prints). p .answer) (sym e), ap (λ (p : Prints). p .out) (sym e))
+
+module _ (bs ts : List ℕ) (n : ℕ) (o : List ℕ) (m : Measured) (me : m ≡ measuredOf (inputOf bs ts)) where
+  pub print-refused : (m .number ≡ 0 → ⊥) → leafPrintOf (inputOf bs ts) n o ≡ noPrint (m .number) o
+  unfolding leafPrintOf
+  print-refused h = rw (refuses bs ts m me h)
+
+  module _ (h : m .number ≡ 0) (b : Bool) (be : b ≡ largeOf (m .core)) where
+    pub print-large : b ≡ true → leafPrintOf (inputOf bs ts) n o ≡ noPrint 6 o
+    unfolding leafPrintOf
+    print-large g = rw (call bs ts m me h .input, call-large bs ts m me h b true be g)
+
+    print-within : b ≡ false → leafPrintOf (inputOf bs ts) n o ≡ printFound (m .settings) o (numbered n (leaves (m .settings) (call bs ts m me h .tree)))
+    unfolding leafPrintOf
+    print-within g = rw (call bs ts m me h .input, call-large bs ts m me h b false be g)
+
+    module _ (len : ℕ) (f : Found) (o₁ : List ℕ)
+        (w : WalksTree (jobOf m Purpose.Block n) (leaves (m .settings) (call-ready bs ts m me h Purpose.Block n len block-no-sheet .tree)) f o o₁) where
+      ls : List Placed
+      ls = leaves (m .settings) (call bs ts m me h .tree)
+
+      found-is : f ≡ keptOf noFound (numbered n ls)
+      unfolding ls
+      found-is = call-walks bs ts m me h Purpose.Block n len block-no-sheet f o o₁ w .found ∙ keep-numbered (jobOf m Purpose.Block n) noFound 0 ls (leaves-rise (m .settings) (call bs ts m me h .tree))
+
+      pub found-small : (f .size .width < 65536) × (f .size .height < 65536)
+      unfolding ls
+      found-small = rw found-is (kept-small (m .settings) n ls (numbered n ls) refl (leaves-small ts (m .settings) (call bs ts m me h .tree) (call-takes bs ts m me h)))
+
+      out-is : o₁ ≡ shownOf (m .settings) o (numbered n ls)
+      unfolding ls
+      out-is = call-walks bs ts m me h Purpose.Block n len block-no-sheet f o o₁ w .out ∙ show-numbered (m .settings) n o 0 ls (leaves-rise (m .settings) (call bs ts m me h .tree))
+
+      pub print-answers : b ≡ false → (r : Written) (len₁ : ℕ) → len₁ ≡ length o → r ≡ foundWritten (m .settings) f len₁ → Answers r o₁ (leafPrintOf (inputOf bs ts) n o)
+      unfolding ls
+      print-answers g r len₁ le re =
+          let k = found-prints (m .settings) n o ls (numbered n ls) refl (leaves-fit (m .settings) (call bs ts m me h .tree)) in
+          rw (print-within g) (re ∙ rw (found-is, le) (k .0), out-is ∙ k .1)

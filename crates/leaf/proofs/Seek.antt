@@ -1,0 +1,75 @@
+-- The record that the walk's fold keeps is that of the leaf with the wanted number: leaves' numbers rise. Assumes nothing.
+use mathlib.Core.Path.{_≡_, refl, sym, ap, _∙_}
+use Prim.Native.Nat.{ℕ, suc, _≤_, _<_}
+use native.Mathlib.Omega.{arith}
+use mathlib.Core.Bool.{Bool, true, false}
+use mathlib.Core.List.{List, [], _∷_}
+use Rattle.settings.specs.declared.Settings.{Settings}
+use mathlib.Core.Option.{Option, some, none}
+use lib.Dec.{eqb}
+use borrow.Author.Tests.{ne-eqb, eqb-true}
+use Rattle.common.specs.Choice.{pick}
+use Rattle.leaf.specs.declared.visit.Job.{Job}
+use Rattle.leaf.specs.declared.visit.Found.{Found}
+use Rattle.block.specs.Block.{block}
+use Rattle.leaf.specs.declared.visit.Purpose.{Purpose}
+use Rattle.leaf.specs.Walk.{Placed, leafOf}
+use Rattle.leaf.specs.Visiting.{ctxOf, foundOf, keeps, keepAll, printed, shows, showAll}
+use Rattle.leaf.specs.Answers.{numbered}
+use Rattle.leaf.proofs.Entries.{Rising}
+
+-- the record of a leaf, or what was kept before
+abbrev pub keptOf : Found → Option Placed → Found
+keptOf f none = f
+keptOf f (some l) = foundOf (ctxOf (l .at)) (l .at .size)
+
+-- no leaf after the wanted number's is the wanted one
+keep-above : (job : Job) (f : Found) (b : ℕ) (ls : List Placed) → Rising b ls → job .wanted < b → keepAll job f ls ≡ f
+unfolding keepAll
+keep-above job f b [] r h = refl
+keep-above job f b (l ∷ ls) r h =
+    rw (ne-eqb (l .at .node) (job .wanted) (λ e. omega (arith, r))) (keep-above job f (suc (l .at .node)) ls (r .1) (omega (arith, r)))
+
+keep-case : (job : Job) (f : Found) (b : ℕ) (l : Placed) (ls : List Placed) (x : Bool) → eqb (l .at .node) (job .wanted) ≡ x → Rising b (l ∷ ls) → keepAll job f ls ≡ keptOf f (numbered (job .wanted) ls)
+    → keepAll job (pick x (foundOf (ctxOf (l .at)) (l .at .size)) f) ls ≡ keptOf f (pick x (some l) (numbered (job .wanted) ls))
+keep-case job f b l ls true e r ih = let w = eqb-true (l .at .node) (job .wanted) e in keep-above job (foundOf (ctxOf (l .at)) (l .at .size)) (suc (l .at .node)) ls (r .1) (omega arith)
+keep-case job f b l ls false e r ih = ih
+
+pub keep-numbered : (job : Job) (f : Found) (b : ℕ) (ls : List Placed) → Rising b ls → keepAll job f ls ≡ keptOf f (numbered (job .wanted) ls)
+unfolding keepAll numbered
+keep-numbered job f b [] r = refl
+keep-numbered job f b (l ∷ ls) r = keep-case job f b l ls (eqb (l .at .node) (job .wanted)) refl r (keep-numbered job f (suc (l .at .node)) ls (r .1))
+
+-- ---- what the leaves show, by the walk's purpose
+
+abbrev recordJob : Settings → ℕ → Job
+recordJob s n = record { purpose = Purpose.Record; settings = s; wanted = n; stride = 0 }
+
+abbrev blockJob : Settings → ℕ → Job
+blockJob s n = record { purpose = Purpose.Block; settings = s; wanted = n; stride = 0 }
+
+-- a record's walk shows nothing
+pub show-none : (s : Settings) (n : ℕ) (o : List ℕ) (ls : List Placed) → showAll (recordJob s n) o ls ≡ o
+unfolding showAll
+show-none s n o [] = refl
+show-none s n o (l ∷ ls) = show-none s n o ls
+
+-- the wanted leaf's block, where there is one
+abbrev pub shownOf : Settings → List ℕ → Option Placed → List ℕ
+shownOf s o none = o
+shownOf s o (some l) = printed o (block s (leafOf l))
+
+show-above : (s : Settings) (n : ℕ) (o : List ℕ) (b : ℕ) (ls : List Placed) → Rising b ls → n < b → showAll (blockJob s n) o ls ≡ o
+unfolding showAll
+show-above s n o b [] r h = refl
+show-above s n o b (l ∷ ls) r h = rw (ne-eqb (l .at .node) n (λ e. omega (arith, r))) (show-above s n o (suc (l .at .node)) ls (r .1) (omega (arith, r)))
+
+show-case : (s : Settings) (n : ℕ) (o : List ℕ) (b : ℕ) (l : Placed) (ls : List Placed) (x : Bool) → eqb (l .at .node) n ≡ x → Rising b (l ∷ ls) → showAll (blockJob s n) o ls ≡ shownOf s o (numbered n ls)
+    → showAll (blockJob s n) (pick x (printed o (block s (leafOf l))) o) ls ≡ shownOf s o (pick x (some l) (numbered n ls))
+show-case s n o b l ls true e r ih = let w = eqb-true (l .at .node) n e in show-above s n (printed o (block s (leafOf l))) (suc (l .at .node)) ls (r .1) (omega arith)
+show-case s n o b l ls false e r ih = ih
+
+pub show-numbered : (s : Settings) (n : ℕ) (o : List ℕ) (b : ℕ) (ls : List Placed) → Rising b ls → showAll (blockJob s n) o ls ≡ shownOf s o (numbered n ls)
+unfolding showAll numbered
+show-numbered s n o b [] r = refl
+show-numbered s n o b (l ∷ ls) r = show-case s n o b l ls (eqb (l .at .node) n) refl r (show-numbered s n o (suc (l .at .node)) ls (r .1))

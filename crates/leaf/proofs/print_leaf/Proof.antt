@@ -1,0 +1,48 @@
+use borrow.Author.Needs.{needs}
+use Rattle.leaf.proofs.Prints.{refusal, print-refused, print-large, found-small, print-answers}
+use Rattle.leaf.proofs.Calls.{call-ready, block-no-sheet}
+use Rattle.leaf.proofs.print_leaf.Statement.{statement}
+use Rattle.leaf.proofs.print_leaf.Tie as tie
+use Rattle.leaf.proofs.print_leaf.Reads as reads
+use Rattle.leaf.proofs.print_leaf.Lts as lts
+use Rattle.leaf.proofs.is_large.Reads as is-large-reads
+use Rattle.leaf.proofs.root.walk_core.Reads as walk-core-reads
+use Rattle.leaf.proofs.written_of.Reads as written-of-reads
+use Rattle.sizes.proofs.measure_tree.Reads as measure-tree-reads
+
+measure-tree-requires : tie.Need-measure-tree-requires
+measure-tree-requires c κs = search needs
+
+returns : tie.Need-returns
+returns c = refusal (print-refused _ _ _ _ _ (c .before .before .measure-tree .ensures) (c .if1 .taken))
+
+is-large-requires : tie.Need-is-large-requires
+is-large-requires c κs = search needs
+
+returns-2 : tie.Need-returns-2
+returns-2 c = refusal (print-large _ _ _ _ _ (c .before .before .before .before .before .measure-tree .ensures) (c .before .before .before .if1 .left) _ (c .before .is-large .ensures) (c .if2 .taken))
+
+walk-core-requires : tie.Need-walk-core-requires
+walk-core-requires c κs = call-ready _ _ _ (c .before .before .before .before .before .before .before .measure-tree .ensures) (c .before .before .before .before .before .if1 .left) _ _ _ block-no-sheet
+
+written-of-requires : tie.Need-written-of-requires
+written-of-requires c κs = let e = c .before .before .before .before .before .before .before .before .before .before .measure-tree .ensures in let h = c .before .before .before .before .before .before .before .before .if1 .left in found-small _ _ _ _ _ e h _ (c .before .before .before .before .before .before .is-large .ensures) _ _ _ (c .before .before .walk-core .ensures (call-ready _ _ _ e h _ _ _ block-no-sheet))
+
+same-length : tie.Need-same-length
+same-length c = search needs
+
+returns-3 : tie.Need-returns-3
+returns-3 c = let e = c .before .before .before .before .before .before .before .before .before .before .before .measure-tree .ensures in let h = c .before .before .before .before .before .before .before .before .before .if1 .left in print-answers _ _ _ _ _ e h _ (c .before .before .before .before .before .before .before .is-large .ensures) _ _ _ (c .before .before .before .walk-core .ensures (call-ready _ _ _ e h _ _ _ block-no-sheet)) (c .before .before .before .before .before .before .if2 .left) _ _ (search needs) (c .written-of .ensures)
+
+pub print-leaf-spec : {M : Type 1} → statement M
+print-leaf-spec =
+    tie.close
+    (tie.spec
+    measure-tree-requires
+    returns
+    is-large-requires
+    returns-2
+    walk-core-requires
+    written-of-requires
+    same-length
+    returns-3)

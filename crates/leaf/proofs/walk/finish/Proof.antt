@@ -1,0 +1,13 @@
+use Rattle.leaf.proofs.walk.finish.Statement.{statement}
+use Rattle.leaf.proofs.walk.finish.Tie as tie
+use Rattle.leaf.proofs.walk.finish.Reads as reads
+use Rattle.leaf.proofs.walk.finish.Lts as lts
+
+returns : tie.Need-returns
+returns c = rw (c .if1 .taken)
+
+returns-2 : tie.Need-returns-2
+returns-2 c = rw (c .if1 .left)
+
+pub finish-spec : {M : Type 1} → statement M
+finish-spec = tie.close (tie.spec returns returns-2)

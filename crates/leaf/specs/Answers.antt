@@ -1,0 +1,103 @@
+-- The leaf record and the leaf printer (document 01, "Leaf record", "Block and sheet" and the table of numbers): the whole answer for every input.
+use Prim.Native.Nat.{ℕ, _+_}
+use mathlib.Core.Bool.{Bool, true, false}
+use mathlib.Core.List.{List, [], _∷_, _++_}
+use mathlib.Core.Option.{Option, some, none}
+use lib.ListN.{length, drop, getD}
+use lib.Dec.{ltb, eqb}
+use Rattle.common.specs.Choice.{pick}
+use Rattle.settings.specs.declared.Settings.{Settings}
+use Rattle.tree.specs.Tree.{Tree}
+use Rattle.splits.specs.Lists.{splitList}
+use Rattle.sizes.specs.declared.Core.{Core}
+use Rattle.sizes.specs.Input.{Input, refused, given}
+use Rattle.block.specs.declared.Flags.{Flags}
+use Rattle.block.specs.Content.{feeds}
+use Rattle.block.specs.Block.{block}
+use Rattle.leaf.specs.declared.LeafRecord.{LeafRecord}
+use Rattle.leaf.specs.declared.Written.{Written}
+use Rattle.leaf.specs.declared.visit.Found.{Found}
+use Rattle.leaf.specs.Walk.{Placed, leafOf, leaves, W, H}
+use Rattle.leaf.specs.Visiting.{blockBytes}
+
+-- W over 400 or H over 160
+unfoldable pub tooLarge : Settings → Tree → Bool
+unfolding W H
+tooLarge s t = pick (ltb 400 (W s t)) true (ltb 160 (H s t))
+
+-- the leaf with that node number
+unfoldable pub numbered : ℕ → List Placed → Option Placed
+numbered n [] = none
+numbered n (l ∷ ls) = pick (eqb (l .at .node) n) (some l) (numbered n ls)
+
+-- ---- the leaf record
+
+abbrev pub noFlags : Flags
+noFlags = record {
+  «first_row» = false;
+  «last_row» = false;
+  «first_col» = false;
+  «last_col» = false;
+  «no_right» = false;
+  «lean_top» = false;
+  «top_left» = false;
+  «top_intersection» = false;
+}
+
+-- a refusal: its number, and 0 or no in every other field
+abbrev pub noRecord : ℕ → LeafRecord
+noRecord k = record { number = k; node = 0; size = record { width = 0; height = 0 }; horizontal = splitList []; vertical = splitList []; flags = noFlags }
+
+abbrev pub recordOf : Placed → LeafRecord
+recordOf l = record { number = 0; node = l .at .node; size = l .at .size; horizontal = splitList (l .at .horizontal); vertical = splitList (l .at .vertical); flags = l .at .flags }
+
+-- 9 where the number names no leaf
+abbrev pub recordFound : Option Placed → LeafRecord
+recordFound none = noRecord 9
+recordFound (some l) = recordOf l
+
+unfoldable pub leafRecordOf : Input → ℕ → LeafRecord
+unfolding tooLarge numbered leaves
+leafRecordOf (refused k) n = noRecord k
+leafRecordOf (given s t) n = pick (tooLarge s t) (noRecord 6) (recordFound (numbered n (leaves s t)))
+
+-- ---- printers
+
+-- a printer's answer, and what the lent output then holds
+pub record Prints : Type 0 where
+  pub answer : Written
+  pub out : List ℕ
+
+-- a refusal writes nothing
+abbrev pub noPrint : ℕ → List ℕ → Prints
+noPrint k o = record { answer = record { number = k; count = 0 }; out = o }
+
+-- 8 where the output is shorter than the bytes; the bytes past them stay
+abbrev pub printTo : List ℕ → List ℕ → Prints
+printTo bytes o = pick (ltb (length o) (length bytes)) (noPrint 8 o) (record { answer = record { number = 0; count = length bytes }; out = bytes ++ drop (length bytes) o })
+
+abbrev pub printFound : Settings → List ℕ → Option Placed → Prints
+printFound s o none = noPrint 9 o
+printFound s o (some l) = printTo (feeds (block s (leafOf l))) o
+
+unfoldable pub leafPrintOf : Input → ℕ → List ℕ → Prints
+unfolding tooLarge numbered leaves feeds block
+leafPrintOf (refused k) n o = noPrint k o
+leafPrintOf (given s t) n o = pick (tooLarge s t) (noPrint 6 o) (printFound s o (numbered n (leaves s t)))
+
+-- ---- what the code asks of the sizes that were measured
+
+-- W over 400 or H over 160, by the root's numbers
+abbrev pub largeOf : Core → Bool
+largeOf c = pick (ltb 400 (getD (c .«natural_widths») 0 0 + 2)) true (ltb 160 (getD (c .«natural_heights») 0 0 + 2))
+
+-- the record that a walk kept, as the answer
+abbrev pub foundRecord : Found → LeafRecord
+foundRecord f = pick (f .hit) (record { number = 0; node = f .node; size = f .size; horizontal = f .horizontal; vertical = f .vertical; flags = f .flags }) (noRecord 9)
+
+-- what is answered for the leaf that a block's walk kept, with an output of len bytes
+abbrev pub foundWritten : Settings → Found → ℕ → Written
+foundWritten s f len =
+    pick (f .hit)
+    (pick (ltb len (blockBytes s (f .size) (f .flags))) (record { number = 8; count = 0 }) (record { number = 0; count = blockBytes s (f .size) (f .flags) }))
+    (record { number = 9; count = 0 })

@@ -1,0 +1,104 @@
+-- What a walk does at its leaves, as a fold over them in node order.
+use mathlib.Core.Path.{_≡_}
+use Prim.Native.Nat.{ℕ, _+_, _*_, _-_, _≤_, _<_}
+use mathlib.Core.Bool.{Bool, true, false}
+use mathlib.Core.List.{List, [], _∷_, _++_}
+use lib.ListN.{length, drop}
+use lib.Dec.{eqb, ltb}
+use Rattle.common.specs.Choice.{pick}
+use Rattle.settings.specs.declared.Settings.{Settings}
+use Rattle.splits.specs.Lists.{listOf, splitList}
+use Rattle.sizes.specs.declared.Size.{Size}
+use Rattle.sizes.specs.Sizes.{Fits, leafSize}
+use Rattle.block.specs.declared.Flags.{Flags}
+use Rattle.block.specs.Content.{feeds}
+use Rattle.block.specs.Block.{block, tall, wide}
+use Rattle.block.specs.Paint.{pasted, Room}
+use Rattle.leaf.specs.declared.context.Spot.{Spot}
+use Rattle.leaf.specs.declared.context.Ctx.{Ctx}
+use Rattle.leaf.specs.declared.visit.Purpose.{Purpose}
+use Rattle.leaf.specs.declared.visit.Job.{Job}
+use Rattle.leaf.specs.declared.visit.Found.{Found}
+use Rattle.leaf.specs.Walk.{Context, Placed, leafOf}
+
+-- ---- contexts as the code has them
+
+abbrev pub spotOf : Context → Spot
+spotOf c = record { line = c .line; column = c .column; flags = c .flags }
+
+abbrev pub ctxOf : Context → Ctx
+ctxOf c = record { node = c .node; spot = spotOf c; horizontal = splitList (c .horizontal); vertical = splitList (c .vertical) }
+
+-- the leaf with that text, in that context, of that size
+abbrev pub placedOf : List ℕ → Ctx → Size → Placed
+placedOf t x z = record {
+  text = t;
+  at = record { node = x .node; line = x .spot .line; column = x .spot .column; size = z; horizontal = listOf (x .horizontal); vertical = listOf (x .vertical); flags = x .spot .flags };
+}
+
+-- ---- the record of the wanted leaf
+
+abbrev pub foundOf : Ctx → Size → Found
+foundOf x z = record { hit = true; node = x .node; size = z; horizontal = x .horizontal; vertical = x .vertical; flags = x .spot .flags }
+
+unfoldable pub keeps : Job → Found → Placed → Found
+keeps job f l = pick (eqb (l .at .node) (job .wanted)) (foundOf (ctxOf (l .at)) (l .at .size)) f
+
+unfoldable pub keepAll : Job → Found → List Placed → Found
+unfolding keeps
+keepAll job f [] = f
+keepAll job f (l ∷ ls) = keepAll job (keeps job f l) ls
+
+-- ---- the output
+
+-- the lines joined by 0A at the start of the bytes, where they fit; the bytes past them stay
+unfoldable pub printed : List ℕ → List (List ℕ) → List ℕ
+unfolding feeds
+printed o x = pick (ltb (length o) (length (feeds x))) o (feeds x ++ drop (length (feeds x)) o)
+
+unfoldable pub shows : Job → List ℕ → Placed → List ℕ
+unfolding printed pasted block
+shows job o l = elim (job .purpose) [
+  | Purpose.Record ↦ o
+  | Purpose.Block ↦ pick (eqb (l .at .node) (job .wanted)) (printed o (block (job .settings) (leafOf l))) o
+  | Purpose.Sheet ↦ pasted o (l .at .line * job .stride + l .at .column) (job .stride) (block (job .settings) (leafOf l))
+]
+
+unfoldable pub showAll : Job → List ℕ → List Placed → List ℕ
+unfolding shows
+showAll job o [] = o
+showAll job o (l ∷ ls) = showAll job (shows job o l) ls
+
+-- ---- what a leaf must have for it
+
+-- its block lies in the sheet's bytes
+pub record InSheet (s : Settings) (stride len : ℕ) (l : Placed) : Type 0 where
+  pub some : 0 < l .at .size .width
+  pub apart : wide s (l .at .size) (l .at .flags) ≤ stride
+  pub room : Room (l .at .line * stride + l .at .column) stride (tall s (l .at .size) (l .at .flags)) (wide s (l .at .size) (l .at .flags)) len
+
+pub record Asks (job : Job) (len : ℕ) (l : Placed) : Type 0 where
+  pub fits : Fits (leafSize (job .settings) (l .text)) (l .at .size)
+  pub in-sheet : job .purpose ≡ Purpose.Sheet → InSheet (job .settings) (job .stride) len l
+
+-- what a leaf's printing is handed: its natural size n, its allotted size z
+pub record Printable (s : Settings) (t : List ℕ) (n z : Size) (x : Ctx) : Type 0 where
+  pub text-small : length t < 65536
+  pub width-small : z .width < 65536
+  pub height-small : z .height < 65536
+  pub few-h : x .horizontal .count ≤ 512
+  pub few-v : x .vertical .count ≤ 512
+  pub natural : n ≡ leafSize s t
+  pub fits : Fits n z
+
+-- what `visit` is handed
+pub record Visitable (job : Job) (t : List ℕ) (n z : Size) (x : Ctx) (len : ℕ) : Type 0 where
+  pub prints : Printable (job .settings) t n z x
+  pub whole-h : x .horizontal ≡ splitList (listOf (x .horizontal))
+  pub whole-v : x .vertical ≡ splitList (listOf (x .vertical))
+  pub in-sheet : job .purpose ≡ Purpose.Sheet → InSheet (job .settings) (job .stride) len (placedOf t x z)
+
+-- the bytes of a block of that size: (columns + 1) × lines − 1, none for width 0
+unfoldable pub blockBytes : Settings → Size → Flags → ℕ
+unfolding tall wide
+blockBytes s z f = pick (eqb (z .width) 0) 0 (tall s z f * (wide s z f + 1) - 1)

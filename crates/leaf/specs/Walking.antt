@@ -1,0 +1,209 @@
+-- What the functions of the walk ask and give.
+use mathlib.Core.Path.{_≡_}
+use Prim.Native.Nat.{ℕ, suc, _+_, _*_, _≤_, _<_}
+use mathlib.Core.Bool.{Bool, true, false}
+use mathlib.Core.List.{List, [], _∷_, _++_}
+use lib.ListN.{length, getD}
+use lib.Dec.{eqb}
+use Rattle.common.specs.Choice.{pick}
+use Rattle.settings.specs.declared.Settings.{Settings}
+use Rattle.tree.specs.Tree.{Axis, across, down, Tree, Trees, cell, group, none, more, count, nodes, nodes*}
+use Rattle.tree.specs.Bytes.{Is, Are, lengthAt, axisOf}
+use Rattle.splits.specs.declared.SplitList.{SplitList}
+use Rattle.splits.specs.Lists.{listOf, splitList}
+use Rattle.splits.specs.Splits.{shortSplits3}
+use Rattle.sizes.specs.declared.Size.{Size}
+use Rattle.sizes.specs.declared.Core.{Core}
+use Rattle.sizes.specs.Sizes.{natural, allot, spareOf, childSize}
+use Rattle.block.proofs.Every.{Every}
+use Rattle.leaf.specs.declared.context.Spot.{Spot}
+use Rattle.leaf.specs.declared.context.Ctx.{Ctx}
+use Rattle.leaf.specs.declared.visit.Job.{Job}
+use Rattle.leaf.specs.declared.visit.Found.{Found}
+use Rattle.leaf.specs.declared.walk.Answer.{Answer}
+use Rattle.leaf.specs.declared.walk.Going.{Going}
+use Rattle.leaf.specs.declared.walk.Planned.{Planned}
+use Rattle.leaf.specs.Walk.{Context, Placed, Walked, childFlags, rootFlags, alongList, besideList, walk, children, leaves}
+use Rattle.leaf.specs.Answers.{noFlags}
+use Rattle.leaf.specs.Visiting.{ctxOf, placedOf, keeps, keepAll, shows, showAll, Asks, Visitable}
+
+-- ---- the functions outside the cycle
+
+-- a child's start and flags
+abbrev pub childSpot : Bool → Spot → ℕ → Bool → Bool → Bool → Spot
+childSpot true b offset first last old = record { line = b .line; column = b .column + offset; flags = childFlags across (b .flags) first last old }
+childSpot false b offset first last old = record { line = b .line + offset; column = b .column; flags = childFlags down (b .flags) first last old }
+
+abbrev pub childCtx : Bool → ℕ → Spot → SplitList → SplitList → Ctx
+childCtx true n p taken handed = record { node = n; spot = p; horizontal = taken; vertical = handed }
+childCtx false n p taken handed = record { node = n; spot = p; horizontal = handed; vertical = taken }
+
+-- the child at g's node, of that extent along the axis, whose element takes `used` bytes, in a group that starts at b
+abbrev pub planOf : Going → Spot → Bool → Bool → ℕ → ℕ → Planned
+planOf g b a last e used = record {
+  used = used;
+  offset = g .offset + e + 1;
+  child = childCtx a (g .node) (childSpot a b (g .offset) (g .first) last (g .old)) (splitList (shortSplits3 (listOf (g .cut)) e .taken)) (g .handed);
+  split = shortSplits3 (listOf (g .cut)) e .split;
+  left = splitList (shortSplits3 (listOf (g .cut)) e .left);
+}
+
+abbrev pub extentAt : Bool → List ℕ → List ℕ → ℕ → ℕ
+extentAt true ws hs n = getD ws n 0
+extentAt false ws hs n = getD hs n 0
+
+-- a child is the last where its element ends the part
+abbrev pub lookOf : List ℕ → List ℕ → List ℕ → Going → Spot → Bool → Planned
+lookOf s ws hs g b a = planOf g b a (eqb (3 + lengthAt s) (length s)) (extentAt a ws hs (g .node)) (3 + lengthAt s)
+
+abbrev pub startOf : Ctx → Bool → Found → Going
+startOf x a f = record { node = x .node + 1; offset = 0; first = true; old = false; cut = pick a (x .horizontal) (x .vertical); handed = pick a (x .vertical) (x .horizontal); joined = splitList []; found = f }
+
+abbrev pub advanceOf : Going → Planned → Answer → Bool → Going
+advanceOf g p r a = record {
+  node = r .next;
+  offset = p .offset;
+  first = false;
+  old = p .split;
+  cut = p .left;
+  handed = pick a (r .vertical) (r .horizontal);
+  joined = splitList (listOf (g .joined) ++ listOf (pick a (r .horizontal) (r .vertical)));
+  found = r .found;
+}
+
+abbrev pub finishOf : Going → Bool → Answer
+finishOf g a = record { next = g .node; horizontal = pick a (g .joined) (g .handed); vertical = pick a (g .handed) (g .joined); found = g .found }
+
+-- a leaf gives back its width and its height as lists of one piece
+abbrev pub leafAnswer : ℕ → Size → Found → Answer
+leafAnswer node z f = record { next = node + 1; horizontal = splitList (z .width ∷ []); vertical = splitList (z .height ∷ []); found = f }
+
+-- ---- the definition's outcome as the code answers it
+
+abbrev pub answerOf : Job → Found → ℕ → Walked → Answer
+answerOf job f next w = record { next = next; horizontal = splitList (w .horizontal); vertical = splitList (w .vertical); found = keepAll job f (w .leaves) }
+
+-- the answer, and what the output holds, which was o₀
+pub record Walks (job : Job) (f : Found) (next : ℕ) (w : Walked) (r : Answer) (o₀ o : List ℕ) : Type 0 where
+  pub answer : r ≡ answerOf job f next w
+  pub out : o ≡ showAll job o₀ (w .leaves)
+
+-- ---- the sizes in the lent lists
+
+-- four numbers a node: natural width and height, allotted width and height
+pub record Lists : Type 0 where
+  pub nw : List ℕ
+  pub nh : List ℕ
+  pub ws : List ℕ
+  pub hs : List ℕ
+
+abbrev pub listsOf : List ℕ → List ℕ → List ℕ → List ℕ → Lists
+listsOf nw nh ws hs = record { nw = nw; nh = nh; ws = ws; hs = hs }
+
+abbrev pub coreLists : Core → Lists
+coreLists c = record { nw = c .«natural_widths»; nh = c .«natural_heights»; ws = c .widths; hs = c .heights }
+
+-- the size that stands at a node in a list of widths and a list of heights
+abbrev pub sizeIn : List ℕ → List ℕ → ℕ → Size
+sizeIn ws hs i = record { width = getD ws i 0; height = getD hs i 0 }
+
+pub record Here (n z : Size) (node : ℕ) (ls : Lists) : Type 0 where
+  pub in-nw : node < length (ls .nw)
+  pub in-nh : node < length (ls .nh)
+  pub in-w : node < length (ls .ws)
+  pub in-h : node < length (ls .hs)
+  pub natural-width : getD (ls .nw) node 0 ≡ n .width
+  pub natural-height : getD (ls .nh) node 0 ≡ n .height
+  pub width : getD (ls .ws) node 0 ≡ z .width
+  pub height : getD (ls .hs) node 0 ≡ z .height
+
+-- the lists hold the sizes of the tree's nodes, from `node` on, where the tree is allotted z
+unfoldable mutual
+  pub Allotted : Settings → Tree → Size → ℕ → Lists → Type 0
+  Allotted s (cell t) z node ls = Here (natural s (cell t)) z node ls
+  Allotted s (group a ts) z node ls = Here (natural s (group a ts)) z node ls × AllottedIn s ts a z (spareOf s a ts z) (count ts) 0 (suc node) ls
+
+  pub AllottedIn : Settings → Trees → Axis → Size → ℕ → ℕ → ℕ → ℕ → Lists → Type 0
+  AllottedIn s none a z spare n i node ls = Unit {0}
+  AllottedIn s (more t ts) a z spare n i node ls = Allotted s t (childSize a z (allot s a spare n i t)) node ls × AllottedIn s ts a z spare n (suc i) (node + nodes t) ls
+
+-- ---- a leaf
+
+-- its sizes stand in the lists, and it can be visited
+pub record LeafReady (job : Job) (t : List ℕ) (ls : Lists) (x : Ctx) (len : ℕ) : Type 0 where
+  pub low : x .node < 512
+  pub in-nw : x .node < length (ls .nw)
+  pub in-nh : x .node < length (ls .nh)
+  pub in-w : x .node < length (ls .ws)
+  pub in-h : x .node < length (ls .hs)
+  pub visits : (sizeIn (ls .ws) (ls .hs) (x .node) .width < 65536) × (sizeIn (ls .ws) (ls .hs) (x .node) .height < 65536)
+      → Visitable job t (sizeIn (ls .nw) (ls .nh) (x .node)) (sizeIn (ls .ws) (ls .hs) (x .node)) x len
+
+-- what a leaf of that text and size gives back, and what the output then holds
+pub record Leaves (job : Job) (t : List ℕ) (z : Size) (x : Ctx) (f : Found) (r : Answer) (o₀ o : List ℕ) : Type 0 where
+  pub answer : r ≡ leafAnswer (x .node) z (keeps job f (placedOf t x z))
+  pub out : o ≡ shows job o₀ (placedOf t x z)
+
+-- ---- the two functions of the cycle
+
+-- the walk over all children of a group
+abbrev pub grouped : Settings → Axis → Trees → Context → Walked
+grouped s a ts c = children s ts a c (spareOf s a ts (c .size)) (count ts) 0 false (suc (c .node)) 0 (alongList a (c .horizontal) (c .vertical)) (besideList a (c .horizontal) (c .vertical))
+
+-- s begins with a tree, whose sizes stand in the lists; x is its context; its leaves can be visited
+pub record Ready (job : Job) (s : List ℕ) (ls : Lists) (x : Ctx) (len : ℕ) : Type 0 where
+  pub tree : Tree
+  pub at : Context
+  pub is : Is tree s
+  pub short : length s < 65536
+  pub ctx : x ≡ ctxOf at
+  pub sizes : Allotted (job .settings) tree (at .size) (at .node) ls
+  pub few-h : length (at .horizontal) ≤ 512
+  pub few-v : length (at .vertical) ≤ 512
+  pub room : at .node + nodes tree ≤ 512
+  pub low-line : at .line ≤ 65537 * at .node
+  pub low-column : at .column ≤ 65537 * at .node
+  pub asks : Every (Asks job len) (walk (job .settings) tree at .leaves)
+
+-- s has the children of a group along the axis
+pub record ReadyIn (job : Job) (s : List ℕ) (ls : Lists) (a : Bool) (x : Ctx) (len : ℕ) : Type 0 where
+  pub trees : Trees
+  pub at : Context
+  pub are : Are trees s
+  pub short : length s < 65536
+  pub ctx : x ≡ ctxOf at
+  pub sizes : AllottedIn (job .settings) trees (axisOf a) (at .size) (spareOf (job .settings) (axisOf a) trees (at .size)) (count trees) 0 (suc (at .node)) ls
+  pub few-h : length (at .horizontal) ≤ 512
+  pub few-v : length (at .vertical) ≤ 512
+  pub room : suc (at .node) + nodes* trees ≤ 512
+  pub low-line : at .line ≤ 65537 * at .node
+  pub low-column : at .column ≤ 65537 * at .node
+  pub asks : Every (Asks job len) (grouped (job .settings) (axisOf a) trees at .leaves)
+
+abbrev pub walked : {job : Job} {s : List ℕ} {ls : Lists} {x : Ctx} {len : ℕ} → Ready job s ls x len → Walked
+walked {job = job} q = walk (job .settings) (q .tree) (q .at)
+
+abbrev pub walkedIn : {job : Job} {s : List ℕ} {ls : Lists} {a : Bool} {x : Ctx} {len : ℕ} → ReadyIn job s ls a x len → Walked
+walkedIn {job = job} {a = a} q = grouped (job .settings) (axisOf a) (q .trees) (q .at)
+
+-- ---- the whole tree
+
+-- s is a tree's bytes, whose sizes stand in the lists, and whose leaves can be visited
+pub record ReadyTree (job : Job) (s : List ℕ) (ls : Lists) (len : ℕ) : Type 0 where
+  pub tree : Tree
+  pub is : Is tree s
+  pub short : length s < 65536
+  pub sizes : Allotted (job .settings) tree (natural (job .settings) tree) 0 ls
+  pub few : nodes tree ≤ 512
+  pub asks : Every (Asks job len) (leaves (job .settings) tree)
+
+abbrev pub rootCtx : Ctx
+rootCtx = record { node = 0; spot = record { line = 0; column = 0; flags = rootFlags }; horizontal = splitList []; vertical = splitList [] }
+
+abbrev pub noFound : Found
+noFound = record { hit = false; node = 0; size = record { width = 0; height = 0 }; horizontal = splitList []; vertical = splitList []; flags = noFlags }
+
+-- the record that was kept, and what the output holds, which was o₀
+pub record WalksTree (job : Job) (ls : List Placed) (r : Found) (o₀ o : List ℕ) : Type 0 where
+  pub found : r ≡ keepAll job noFound ls
+  pub out : o ≡ showAll job o₀ ls

@@ -1,0 +1,106 @@
+// What a node is handed: its number, its start, its flags and both split lists.
+use block::Flags;
+use splits::SplitList;
+ghost use mathlib.Core.Path.{_≡_};
+ghost use Prim.Native.Nat.{_+_, _<_};
+ghost use Rattle.tree.specs.Tree.{across, down};
+ghost use Rattle.leaf.specs.Walk.{childFlags};
+ghost use Rattle.leaf.specs.Walking.{childSpot, childCtx};
+
+// Where a node starts, and with which flags.
+pub struct Spot {
+    pub line: usize,
+    pub column: usize,
+    pub flags: Flags,
+}
+
+// `PrintContext`; the size stands in the lists of sizes.
+pub struct Ctx {
+    pub node: usize,
+    pub spot: Spot,
+    pub horizontal: SplitList,
+    pub vertical: SplitList,
+}
+
+// The flags of a Row's child.
+fn row_flags(f: Flags, first: bool, last: bool, old: bool) -> Flags
+    ensures { λ r. ⌜ r ≡ childFlags across f first last old ⌝ }
+{
+    let first_col = common::both(f.first_col, first);
+    let last_col = common::both(f.last_col, last);
+    let top_left = common::both(f.top_left, first);
+    let top_intersection = common::pick(first, f.top_intersection, old);
+    Flags {
+        first_row: f.first_row,
+        last_row: f.last_row,
+        first_col: first_col,
+        last_col: last_col,
+        no_right: !last_col,
+        lean_top: !first_col,
+        top_left: top_left,
+        top_intersection: top_intersection,
+    }
+}
+
+// The flags of a Column's child.
+fn column_flags(f: Flags, first: bool, last: bool, old: bool) -> Flags
+    ensures { λ r. ⌜ r ≡ childFlags down f first last old ⌝ }
+{
+    let first_row = common::both(f.first_row, first);
+    let last_row = common::both(f.last_row, last);
+    let lean_top = common::both(f.lean_top, first);
+    let top_left = common::pick(first, f.top_left, true);
+    let top_intersection = common::pick(first, f.top_intersection, old);
+    Flags {
+        first_row: first_row,
+        last_row: last_row,
+        first_col: f.first_col,
+        last_col: f.last_col,
+        no_right: f.no_right,
+        lean_top: lean_top,
+        top_left: top_left,
+        top_intersection: top_intersection,
+    }
+}
+
+// The child's start and flags, at this offset along the axis.
+pub fn child_spot(across: bool, b: Spot, offset: usize, first: bool, last: bool, old: bool) -> Spot
+    requires { ⌜ (b .line + offset < 4294967296) × (b .column + offset < 4294967296) ⌝ }
+    ensures { λ r. ⌜ r ≡ childSpot across b offset first last old ⌝ }
+{
+    let f = b.flags;
+    if across {
+        let flags = row_flags(f, first, last, old);
+        return Spot {
+            line: b.line,
+            column: b.column + offset,
+            flags: flags,
+        };
+    }
+    let flags = column_flags(f, first, last, old);
+    Spot {
+        line: b.line + offset,
+        column: b.column,
+        flags: flags,
+    }
+}
+
+// The child's context: the pieces taken lie along the axis, the list handed on beside it.
+pub fn child_ctx(across: bool, node: usize, spot: Spot, taken: SplitList, handed: SplitList) -> Ctx
+    ensures { λ r. ⌜ r ≡ childCtx across node spot taken handed ⌝ }
+{
+    if across {
+        return Ctx {
+            node: node,
+            spot: spot,
+            horizontal: taken,
+            vertical: handed,
+        };
+    }
+    Ctx {
+        node: node,
+        spot: spot,
+        horizontal: handed,
+        vertical: taken,
+    }
+}

@@ -1,0 +1,126 @@
+// The walk from the root.
+use crate::context::Ctx;
+use crate::context::Spot;
+use crate::visit::Found;
+use crate::visit::Job;
+use crate::walk;
+use block::Flags;
+use sizes::Core;
+use sizes::Size;
+ghost use mathlib.Core.Path.{_≡_};
+ghost use lib.ListN.{length};
+ghost use Rattle.leaf.specs.Answers.{noFlags};
+ghost use Rattle.leaf.specs.Walk.{leaves};
+ghost use Rattle.leaf.specs.Walking.{listsOf, coreLists, rootCtx, noFound, ReadyTree, WalksTree};
+
+fn root_ctx() -> Ctx
+    ensures { λ r. ⌜ r ≡ rootCtx ⌝ }
+{
+    let flags = Flags {
+        first_row: true,
+        last_row: true,
+        first_col: true,
+        last_col: true,
+        no_right: false,
+        lean_top: false,
+        top_left: false,
+        top_intersection: false,
+    };
+    let spot = Spot {
+        line: 0,
+        column: 0,
+        flags: flags,
+    };
+    let h = splits::no_pieces();
+    let v = splits::no_pieces();
+    Ctx {
+        node: 0,
+        spot: spot,
+        horizontal: h,
+        vertical: v,
+    }
+}
+
+pub fn no_flags() -> Flags
+    ensures { λ r. ⌜ r ≡ noFlags ⌝ }
+{
+    Flags {
+        first_row: false,
+        last_row: false,
+        first_col: false,
+        last_col: false,
+        no_right: false,
+        lean_top: false,
+        top_left: false,
+        top_intersection: false,
+    }
+}
+
+fn no_found() -> Found
+    ensures { λ r. ⌜ r ≡ noFound ⌝ }
+{
+    let flags = no_flags();
+    let h = splits::no_pieces();
+    let v = splits::no_pieces();
+    let size = Size {
+        width: 0,
+        height: 0,
+    };
+    Found {
+        hit: false,
+        node: 0,
+        size: size,
+        horizontal: h,
+        vertical: v,
+        flags: flags,
+    }
+}
+
+// `build_table`: the leaves of the tree are visited in node order; the answer is the wanted leaf's record, if it was met.
+pub fn walk_tree(
+    tree: &[u8],
+    natural_widths: &[u16],
+    natural_heights: &[u16],
+    widths: &[u16],
+    heights: &[u16],
+    job: Job,
+    out: &mut [u8],
+) -> Found
+    requires { ⌜ ReadyTree job (now tree) (listsOf (now «natural_widths») (now «natural_heights») (now widths) (now heights)) (length (now out)) ⌝ }
+    ensures { λ r. ⌜ ((q : ReadyTree job (now (tree .entry)) (listsOf (now («natural_widths» .entry)) (now («natural_heights» .entry)) (now (widths .entry)) (now (heights .entry))) (length (now (out .entry)))) → WalksTree job (leaves (job .settings) (q .tree)) r (now (out .entry)) (now (out .exit))) ⌝ }
+{
+    let x = root_ctx();
+    let nothing = no_found();
+    let r = walk::walk_node(
+        tree,
+        natural_widths,
+        natural_heights,
+        widths,
+        heights,
+        job,
+        x,
+        nothing,
+        out,
+    );
+    r.found
+}
+
+// The same, with the sizes that were measured.
+pub fn walk_core(tree: &[u8], core: Core, job: Job, out: &mut [u8]) -> Found
+    requires { ⌜ ReadyTree job (now tree) (coreLists core) (length (now out)) ⌝ }
+    ensures { λ r. ⌜ ((q : ReadyTree job (now (tree .entry)) (coreLists core) (length (now (out .entry)))) → WalksTree job (leaves (job .settings) (q .tree)) r (now (out .entry)) (now (out .exit))) ⌝ }
+{
+    let natural_widths = core.natural_widths;
+    let natural_heights = core.natural_heights;
+    let widths = core.widths;
+    let heights = core.heights;
+    walk_tree(
+        tree,
+        &natural_widths,
+        &natural_heights,
+        &widths,
+        &heights,
+        job,
+        out,
+    )
+}
