@@ -32,7 +32,7 @@ use Rattle.leaf.proofs.Seek.{keptOf, keep-numbered}
 
 -- ---- the sheet's size, by the root's numbers
 
-root-first : (f : Sizes → ℕ) (s : Settings) (t : Tree) (r : List ℕ) → getD (map f (treeSizes s t) ++ r) 0 0 ≡ f (record { natural = natural s t; allotted = natural s t })
+pub root-first : (f : Sizes → ℕ) (s : Settings) (t : Tree) (r : List ℕ) → getD (map f (treeSizes s t) ++ r) 0 0 ≡ f (record { natural = natural s t; allotted = natural s t })
 unfolding treeSizes sizes
 root-first f s (cell t) r = refl
 root-first f s (group a ts) r = refl
@@ -44,7 +44,7 @@ large-is s t c e =
 
 -- ---- the walk of an accepted input can start
 
-pub tree-ready : (job : Job) (ts : List ℕ) (t : Tree) (c : Core) (len : ℕ) → Takes ts (job .settings) t → c ≡ coreOf (job .settings) t → Every (Asks job len) (leaves (job .settings) t) → ReadyTree job ts (coreLists c) len
+unfoldable pub tree-ready : (job : Job) (ts : List ℕ) (t : Tree) (c : Core) (len : ℕ) → Takes ts (job .settings) t → c ≡ coreOf (job .settings) t → Every (Asks job len) (leaves (job .settings) t) → ReadyTree job ts (coreLists c) len
 unfolding coreOf treeSizes
 tree-ready job ts t c len k e a = record {
   tree = t;

@@ -5,3 +5,5 @@ pub mod Bytes
 pub mod Parted
 pub mod Demand3
 pub mod Painted
+pub mod Planned
+pub mod Printed
