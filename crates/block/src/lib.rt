@@ -1,9 +1,9 @@
 // The block of one leaf: its marks, padding and text.
-pub mod body;
-pub mod borders;
+mod body;
+mod borders;
 pub mod bytes;
-pub mod marks;
-pub mod text;
+mod marks;
+mod text;
 
 ghost use mathlib.Core.Path.{_≡_};
 ghost use Prim.Native.Nat.{_+_, _*_, _<_, _≤_};
