@@ -15,7 +15,7 @@ use Rattle.tree.specs.Tree.{Tree, nodes}
 use Rattle.sizes.specs.declared.Core.{Core}
 use Rattle.sizes.specs.declared.Measured.{Measured}
 use Rattle.sizes.specs.Sizes.{sep}
-use Rattle.sizes.specs.Input.{given, inputOf}
+use Rattle.sizes.specs.Input.{Input, refused, given, inputOf}
 use Rattle.sizes.specs.Core.{coreOf, measuredOf}
 use Rattle.block.specs.Paint.{pasted, Room}
 use Rattle.block.specs.Block.{block}
@@ -173,3 +173,19 @@ module _ (bs ts : List ℕ) (o : List ℕ) (m : Measured) (me : m ≡ measuredOf
         sheet-answers len le f o₁ o₂ oe w =
             let e : sheetOf (inputOf bs ts) o ≡ whole = sheet-is ∙ rw (passed .first, passed .second, passed .third) in
             (rw (e, count-is), sheet-shown len le f o₁ o₂ oe w ∙ rw e)
+
+-- ---- no more bytes are written than were lent
+
+pick-within : (b : Bool) (p q : Prints) (m : ℕ) → p .answer .count ≤ m → (b ≡ false → q .answer .count ≤ m) → pick b p q .answer .count ≤ m
+pick-within true p q m h k = h
+pick-within false p q m h k = k refl
+
+to-within : (bytes o : List ℕ) → printTo bytes o .answer .count ≤ length o
+to-within bytes o = pick-within (ltb (length o) (length bytes)) (noPrint 8 o) _ (length o) (omega arith) (λ e. ltb-false (length o) (length bytes) e)
+
+pub sheet-within : (i : Input) (o : List ℕ) → sheetOf i o .answer .count ≤ length o
+unfolding sheetOf
+sheet-within (refused k) o = omega arith
+sheet-within (given s t) o =
+    pick-within (tooLarge s t) (noPrint 6 o) _ (length o) (omega arith)
+    (λ e. pick-within (narrow (leaves s t)) (noPrint 7 o) (printTo (sheet s t) o) (length o) (omega arith) (λ f. to-within (sheet s t) o))

@@ -1,0 +1,66 @@
+#!/usr/bin/env python3
+"""Writes the example inputs: the settings record, then the tree, as document 01 has them.
+
+A tree is a text (a Cell), row(..) or column(..).
+"""
+import os
+
+MARKS = b"--||-|+++++++++"
+
+
+def settings(marks=MARKS, padding=(1, 1, 0, 0), fills=b"    ", horizontal=0, vertical=0, line_mode=0, width=2, height=2):
+    body = marks + bytes(padding) + fills + bytes([horizontal, vertical, line_mode, width, height])
+    assert len(body) == 28
+    return b"\x10" + len(body).to_bytes(2, "big") + body
+
+
+def element(tag, contents):
+    return bytes([tag]) + len(contents).to_bytes(2, "big") + contents
+
+
+def cell(text):
+    return element(1, text.encode("ascii"))
+
+
+def encode(item):
+    return cell(item) if isinstance(item, str) else item
+
+
+def row(*items):
+    return element(2, b"".join(encode(i) for i in items))
+
+
+def column(*items):
+    return element(3, b"".join(encode(i) for i in items))
+
+
+def leg(number, name, position, height, speed, remark):
+    return row(number, column(name, position), column(row("height", height), row("speed", speed)), remark)
+
+
+FLIGHT = column(
+    row("Survey 17, reservoir north bank", column("pilot: A. Orosz", "drone: K-2"), "29 May"),
+    row(
+        column(
+            leg("1", "Home pad", "47.2101 N 19.0402 E", "0 m", "0 m/s", "take off\nhold 10 s"),
+            leg("2", "Dam, west end", "47.2124 N 19.0417 E", "40 m", "6 m/s", "camera on"),
+            leg("3", "Spillway", "47.2133 N 19.0451 E", "25 m", "3 m/s", "two passes,\none each way"),
+            leg("4", "Home pad", "47.2101 N 19.0402 E", "0 m", "2 m/s", "land"),
+        ),
+        column("Wind\n4 m/s NW", "Battery\nleave 30 %", "Keep clear of\nthe mast"),
+    ),
+    "Checked by: ______________________",
+)
+
+EXAMPLES = {
+    "flight": (settings(), FLIGHT),
+    "centred": (settings(marks=b"=_()hv/\\T[]*<>#", padding=(2, 2, 1, 1), fills=b".. .", horizontal=1, vertical=1, line_mode=1), FLIGHT),
+    "figure2": (settings(marks=b"-_()hv123456789"), column("abcdef", row("a", "b"))),
+    "refused": (settings(padding=(0, 0, 0, 0)), row("leg 1", "")),
+}
+
+if __name__ == "__main__":
+    here = os.path.dirname(os.path.abspath(__file__))
+    for name, (s, t) in EXAMPLES.items():
+        with open(os.path.join(here, name + ".legs"), "wb") as f:
+            f.write(s + t)
