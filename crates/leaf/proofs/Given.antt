@@ -40,7 +40,7 @@ low-case bs ts k Parsed.refused r re e = let z : 1 ≡ k = cc in omega arith
 low-case bs ts k (Parsed.read s) (ReadOne.refused j) re e = let z : j ≡ k = cc in omega (arith, tree-refusal ts j re)
 low-case bs ts k (Parsed.read s) (ReadOne.one t size n) re e = let z : _≡_ {A = ℕ} 0 1 = cc in absurd (omega arith)
 
-refusal-low : (bs ts : List ℕ) (k : ℕ) → inputOf bs ts ≡ refused k → 1 ≤ k
+pub refusal-low : (bs ts : List ℕ) (k : ℕ) → inputOf bs ts ≡ refused k → 1 ≤ k
 unfolding inputOf
 refusal-low bs ts k e = low-case bs ts k (readSettings bs) (readTree ts) refl e
 

@@ -12,7 +12,7 @@ mod Turns
 mod Nodes
 mod Held
 mod Visits
-mod Seek
+pub mod Seek
 mod Roots
 pub mod Given
 pub mod Calls

@@ -32,7 +32,7 @@ leaves-rise s t = numbered-rising (leaves-numbered s t)
 
 -- ---- no two leaves have one number
 
-rising-from : (b : ℕ) (fs : List Placed) (i : ℕ) (f : Placed) → Rising b fs → getElem? fs i ≡ some f → b ≤ f .at .node
+pub rising-from : (b : ℕ) (fs : List Placed) (i : ℕ) (f : Placed) → Rising b fs → getElem? fs i ≡ some f → b ≤ f .at .node
 rising-from b [] i f r e = elem-none i f e
 rising-from b (g ∷ fs) zero f r e = let z : g ≡ f = cc in rw (← z) (r .0)
 rising-from b (g ∷ fs) (suc i) f r e = omega (arith, r .0, rising-from (suc (g .at .node)) fs i f (r .1) e)

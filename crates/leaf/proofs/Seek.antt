@@ -1,22 +1,26 @@
 -- The record that the walk's fold keeps is that of the leaf with the wanted number: leaves' numbers rise. Assumes nothing.
 use mathlib.Core.Path.{_≡_, refl, sym, ap, _∙_}
-use Prim.Native.Nat.{ℕ, suc, _≤_, _<_}
+use Prim.Native.Nat.{ℕ, zero, suc, _≤_, _<_}
 use native.Mathlib.Omega.{arith}
 use mathlib.Core.Bool.{Bool, true, false}
 use mathlib.Core.List.{List, [], _∷_}
 use Rattle.settings.specs.declared.Settings.{Settings}
 use mathlib.Core.Option.{Option, some, none}
+use lib.ListN.{getElem?}
 use lib.Dec.{eqb}
-use borrow.Author.Tests.{ne-eqb, eqb-true}
+use borrow.Author.Tests.{eq-eqb, ne-eqb, eqb-true}
 use Rattle.common.specs.Choice.{pick}
 use Rattle.leaf.specs.declared.visit.Job.{Job}
 use Rattle.leaf.specs.declared.visit.Found.{Found}
+use Rattle.tree.specs.Tree.{Tree}
+use Rattle.sizes.proofs.Elems.{elem-none}
 use Rattle.block.specs.Block.{block}
 use Rattle.leaf.specs.declared.visit.Purpose.{Purpose}
-use Rattle.leaf.specs.Walk.{Placed, leafOf}
+use Rattle.leaf.specs.Walk.{Placed, leafOf, leaves}
 use Rattle.leaf.specs.Visiting.{ctxOf, foundOf, keeps, keepAll, printed, shows, showAll}
 use Rattle.leaf.specs.Answers.{numbered}
 use Rattle.leaf.proofs.Entries.{Rising}
+use Rattle.leaf.proofs.Named.{LeafAt, leaves-rise, rising-from}
 
 -- the record of a leaf, or what was kept before
 abbrev pub keptOf : Found → Option Placed → Found
@@ -73,3 +77,14 @@ pub show-numbered : (s : Settings) (n : ℕ) (o : List ℕ) (b : ℕ) (ls : List
 unfolding showAll numbered
 show-numbered s n o b [] r = refl
 show-numbered s n o b (l ∷ ls) r = show-case s n o b l ls (eqb (l .at .node) n) refl r (show-numbered s n o (suc (l .at .node)) ls (r .1))
+
+-- ---- a number that names a leaf
+
+leaf-numbered : (n b : ℕ) (ls : List Placed) (i : ℕ) (f : Placed) → Rising b ls → getElem? ls i ≡ some f → f .at .node ≡ n → numbered n ls ≡ some f
+unfolding numbered
+leaf-numbered n b [] i f r e h = elem-none i f e
+leaf-numbered n b (l ∷ ls) zero f r e h = let z : l ≡ f = cc in rw (z, eq-eqb (f .at .node) n h)
+leaf-numbered n b (l ∷ ls) (suc i) f r e h = rw (ne-eqb (l .at .node) n (λ z. omega (arith, rising-from (suc (l .at .node)) ls i f (r .1) e))) (leaf-numbered n (suc (l .at .node)) ls i f (r .1) e h)
+
+pub leaf-found : (s : Settings) (t : Tree) {n : ℕ} {f : Placed} → LeafAt s t n f → numbered n (leaves s t) ≡ some f
+leaf-found s t {n} {f} p = leaf-numbered n 0 (leaves s t) (p .index) f (leaves-rise s t) (p .stands) (p .number)

@@ -7,3 +7,4 @@ pub mod Demand3
 pub mod Painted
 pub mod Planned
 pub mod Printed
+pub mod Calls
