@@ -45,7 +45,7 @@ length-edge : (b : Bool) (m : ℕ) → length (edge b m) ≡ pick b 1 0
 unfolding edge
 length-edge b m = length-replicate (pick b 1 0) m
 
-pub column-dims : (l : List ℕ) → Dims (column l) (length l) 1
+column-dims : (l : List ℕ) → Dims (column l) (length l) 1
 unfolding column
 column-dims [] = record { lines = refl; columns = tt }
 column-dims (b ∷ l) = dims-cons (column-dims l) refl

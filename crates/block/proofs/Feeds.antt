@@ -39,20 +39,6 @@ feeds-at (l ∷ m ∷ x) {w = w} d (suc i) j p q =
     (getD-append-add l (10 ∷ feeds (m ∷ x)) (suc (i * (w + 1) + j)) 0
     ∙ feeds-at (m ∷ x) {h = length (m ∷ x)} (record { lines = refl; columns = d .columns .1 }) i j (omega arith) q)
 
--- after each line but the last, 0A
-pub feeds-feed : (x : List (List ℕ)) {h w : ℕ} → Dims x h w → (i : ℕ) → i + 1 < h → getD (feeds x) (i * (w + 1) + w) 0 ≡ 10
-unfolding feeds
-feeds-feed [] d i p = absurd (omega arith)
-feeds-feed (l ∷ []) d i p = absurd (omega arith)
-feeds-feed (l ∷ m ∷ x) {w = w} d zero p =
-    let e : 0 * (w + 1) + w ≡ length l + 0 = omega arith in
-    rw e (getD-append-add l (10 ∷ feeds (m ∷ x)) 0 0)
-feeds-feed (l ∷ m ∷ x) {w = w} d (suc i) p =
-    let e : suc i * (w + 1) + w ≡ length l + suc (i * (w + 1) + w) = omega arith in
-    rw e
-    (getD-append-add l (10 ∷ feeds (m ∷ x)) (suc (i * (w + 1) + w)) 0
-    ∙ feeds-feed (m ∷ x) {h = length (m ∷ x)} (record { lines = refl; columns = d .columns .1 }) i (omega arith))
-
 -- ---- over bytes of 0A
 
 over : (pre a r l : List ℕ) → length a ≡ length l → sets (pre ++ (a ++ r)) (length pre) l ≡ pre ++ (l ++ r)

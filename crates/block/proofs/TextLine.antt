@@ -27,13 +27,13 @@ mode-le false own widest h = (h, le-refl widest)
 
 module _ (s : Settings) (inner widest : ℕ) (l : List ℕ) (h : length l ≤ widest) (k : widest ≤ inner) where
   -- the indented line stays within its columns
-  pub indent-fits : indent s inner widest l + length l ≤ inner
+  indent-fits : indent s inner widest l + length l ≤ inner
   unfolding indent
   indent-fits =
       let m = pick (s .«line_mode») (length l) widest in
       omega (arith, mode-le (s .«line_mode») (length l) widest h, before-le (s .horizontal) (inner - m))
 
-  pub text-line-length : length (textLine s inner widest l) ≡ s .left + inner + s .right
+  text-line-length : length (textLine s inner widest l) ≡ s .left + inner + s .right
   unfolding textLine
   text-line-length = let f = indent-fits in simp (length-append, length-replicate) (omega arith)
 

@@ -65,7 +65,10 @@ returns : tie.Need-returns
 returns c =
     let a = c .before .before .before .before .before .before .before .before .before .before .before .before .before .before .before .args in
     let fits : Fits (leafSize (a .s) (a .text .now)) (a .size) = rw (c .before .before .before .before .before .before .before .before .before .before .before .before .before .before .before .pre .0 .1) at (c .before .before .before .before .before .before .before .before .before .before .before .before .before .before .before .pre .0 .2) in
-    middle-painted (a .s) (a .text .now) (a .size) (a .b) (take (a .count) (a .pieces .now)) fits (a .out .now) _ _ _ (a .at) (a .stride) _ (omega arith) (c .before .before .before .before .before .before .before .before .before .before .print-left .ensures) (c .before .before .before .before .before .before .paint-body .ensures) (c .before .before .print-right .ensures)
+    let left = c .before .before .before .before .before .before .before .before .before .before .print-left .ensures in
+    let text = c .before .before .before .before .before .before .paint-body .ensures in
+    let right = c .before .before .print-right .ensures in
+    middle-painted (a .s) (a .text .now) (a .size) (a .b) (take (a .count) (a .pieces .now)) fits (a .out .now) _ _ _ (a .at) (a .stride) _ (omega arith) left text right
 
 pub paint-middle-spec : {M : Type 1} → statement M
 paint-middle-spec =

@@ -27,13 +27,20 @@ add-paint-block : tie.Need-add-paint-block
 add-paint-block c = omega (arith, leaf-wide (c .before .before .before .before .before .before .before .before .before .pre) _ (c .before .before .before .before .before .before .block-wide .ensures) _ (c .before .before .before .before .before .block-tall .ensures))
 
 paint-block-requires : tie.Need-paint-block-requires
-paint-block-requires c κs = leaf-paint (c .before .before .before .before .before .before .before .before .before .pre) _ (c .before .before .before .before .before .before .block-wide .ensures) _ (c .before .before .before .before .before .block-tall .ensures) (search needs)
+paint-block-requires c κs =
+    let w = c .before .before .before .before .before .before .block-wide .ensures in
+    let h = c .before .before .before .before .before .block-tall .ensures in
+    leaf-paint (c .before .before .before .before .before .before .before .before .before .pre) _ w _ h (search needs)
 
 same-length : tie.Need-same-length
 same-length c = search needs
 
 returns : tie.Need-returns
-returns c = leaf-printed (c .before .before .before .before .before .before .before .before .before .before .before .before .pre) _ (c .before .before .before .before .before .before .before .before .before .block-wide .ensures) _ (c .before .before .before .before .before .before .before .before .block-tall .ensures) (c .before .before .before .before .before .before .before .before .before .before .before .before .args .out .now) _ _ refl (c .before .before .before .before .before .before .fill .ensures .out-is) (c .before .before .paint-block .ensures)
+returns c =
+    let k = c .before .before .before .before .before .before .before .before .before .before .before .before .pre in
+    let w = c .before .before .before .before .before .before .before .before .before .block-wide .ensures in
+    let h = c .before .before .before .before .before .before .before .before .block-tall .ensures in
+    leaf-printed k _ w _ h (c .before .before .before .before .before .before .before .before .before .before .before .before .args .out .now) _ _ refl (c .before .before .before .before .before .before .fill .ensures .out-is) (c .before .before .paint-block .ensures)
 
 pub print-leaf-spec : {M : Type 1} → statement M
 print-leaf-spec =

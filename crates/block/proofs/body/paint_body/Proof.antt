@@ -27,40 +27,50 @@ body-is s t z k h o o₁ o₂ o₃ at stride p q r e w₁ w₂ w₃ =
     (then-pasted _ _ o₁ o₂ o₃ p q stride (textHeight t) (length-map (lines t) (textLine s (k .inner) (k .widest)) ∙ lines-height t) w₂ (w₃ .out-is)))
 
 plan-body-requires : tie.Need-plan-body-requires
-plan-body-requires c κs = (c .before .before .pre .0 .2, natural-wide _ (c .before .before .args .text .now) _ (c .before .before .pre .0 .1))
+plan-body-requires c κs =
+    let start = c .before .before in
+    (start .pre .0 .2, natural-wide _ (start .args .text .now) _ (start .pre .0 .1))
 
 element-copy-out-rows-twice : tie.Need-element-copy-out-rows-twice
 element-copy-out-rows-twice c = search needs
 
 rows-twice-requires : tie.Need-rows-twice-requires
 rows-twice-requires c κs =
-    let a = c .before .before .before .before .before .args in
-    let h = planned (a .t4) (a .text .now) (a .natural) (a .size) _ (c .before .before .before .before .before .pre .0 .1) (c .before .before .before .before .before .pre .0 .2) (c .before .before .plan-body .ensures) in
-    above-room (a .t4) (a .text .now) (a .size) _ h (a .at) (a .stride) _ (c .before .before .before .before .before .pre .1)
+    let start = c .before .before .before .before .before in
+    let a = start .args in
+    let h = planned (a .t4) (a .text .now) (a .natural) (a .size) _ (start .pre .0 .1) (start .pre .0 .2) (c .before .before .plan-body .ensures) in
+    above-room (a .t4) (a .text .now) (a .size) _ h (a .at) (a .stride) _ (start .pre .1)
 
 text-lines-requires : tie.Need-text-lines-requires
 text-lines-requires c κs =
-    let a = c .before .before .before .before .before .before .before .before .before .args in
-    let h = planned (a .t4) (a .text .now) (a .natural) (a .size) _ (c .before .before .before .before .before .before .before .before .before .pre .0 .1) (c .before .before .before .before .before .before .before .before .before .pre .0 .2) (c .before .before .before .before .before .before .plan-body .ensures) in
-    ((c .before .before .before .before .before .before .before .before .before .pre .0 .0, h .widest-is, h .within), text-room (a .t4) (a .text .now) (a .size) _ h (a .at) (a .stride) _ (c .before .before .before .before .before .before .before .before .before .pre .1) _ (c .before .before .before .rows-twice .ensures .end-is) (search needs))
+    let start = c .before .before .before .before .before .before .before .before .before in
+    let a = start .args in
+    let h = planned (a .t4) (a .text .now) (a .natural) (a .size) _ (start .pre .0 .1) (start .pre .0 .2) (c .before .before .before .before .before .before .plan-body .ensures) in
+    let room = text-room (a .t4) (a .text .now) (a .size) _ h (a .at) (a .stride) _ (start .pre .1) _ (c .before .before .before .rows-twice .ensures .end-is) in
+    ((start .pre .0 .0, h .widest-is, h .within), room (search needs))
 
 element-copy-out-rows-twice-2 : tie.Need-element-copy-out-rows-twice-2
 element-copy-out-rows-twice-2 c = search needs
 
 rows-twice-requires-2 : tie.Need-rows-twice-requires-2
 rows-twice-requires-2 c κs =
-    let a = c .before .before .before .before .before .before .before .before .before .before .before .before .before .before .args in
-    let h = planned (a .t4) (a .text .now) (a .natural) (a .size) _ (c .before .before .before .before .before .before .before .before .before .before .before .before .before .before .pre .0 .1) (c .before .before .before .before .before .before .before .before .before .before .before .before .before .before .pre .0 .2) (c .before .before .before .before .before .before .before .before .before .before .before .plan-body .ensures) in
-    below-room (a .t4) (a .text .now) (a .size) _ h (a .at) (a .stride) _ (c .before .before .before .before .before .before .before .before .before .before .before .before .before .before .pre .1) _ (c .before .before .before .before .before .before .before .before .rows-twice .ensures .end-is) _ (c .before .before .before .before .text-lines .ensures .end-is) (search needs)
+    let start = c .before .before .before .before .before .before .before .before .before .before .before .before .before .before in
+    let a = start .args in
+    let h = planned (a .t4) (a .text .now) (a .natural) (a .size) _ (start .pre .0 .1) (start .pre .0 .2) (c .before .before .before .before .before .before .before .before .before .before .before .plan-body .ensures) in
+    below-room (a .t4) (a .text .now) (a .size) _ h (a .at) (a .stride) _ (start .pre .1) _ (c .before .before .before .before .before .before .before .before .rows-twice .ensures .end-is) _ (c .before .before .before .before .text-lines .ensures .end-is) (search needs)
 
 same-length : tie.Need-same-length
 same-length c = search needs
 
 returns : tie.Need-returns
 returns c =
-    let a = c .before .before .before .before .before .before .before .before .before .before .before .before .before .before .before .before .before .args in
-    let h = planned (a .t4) (a .text .now) (a .natural) (a .size) _ (c .before .before .before .before .before .before .before .before .before .before .before .before .before .before .before .before .before .pre .0 .1) (c .before .before .before .before .before .before .before .before .before .before .before .before .before .before .before .before .before .pre .0 .2) (c .before .before .before .before .before .before .before .before .before .before .before .before .before .before .plan-body .ensures) in
-    body-is (a .t4) (a .text .now) (a .size) _ h (a .out .now) _ _ _ (a .at) (a .stride) _ _ _ _ (c .before .before .before .before .before .before .before .before .before .before .before .rows-twice .ensures) (c .before .before .before .before .before .before .before .text-lines .ensures) (c .before .before .rows-twice2 .ensures)
+    let start = c .before .before .before .before .before .before .before .before .before .before .before .before .before .before .before .before .before in
+    let a = start .args in
+    let h = planned (a .t4) (a .text .now) (a .natural) (a .size) _ (start .pre .0 .1) (start .pre .0 .2) (c .before .before .before .before .before .before .before .before .before .before .before .before .before .before .plan-body .ensures) in
+    let above = c .before .before .before .before .before .before .before .before .before .before .before .rows-twice .ensures in
+    let text = c .before .before .before .before .before .before .before .text-lines .ensures in
+    let below = c .before .before .rows-twice2 .ensures in
+    body-is (a .t4) (a .text .now) (a .size) _ h (a .out .now) _ _ _ (a .at) (a .stride) _ _ _ _ above text below
 
 pub paint-body-spec : {M : Type 1} → statement M
 paint-body-spec =

@@ -17,14 +17,14 @@ border-is : (o o₁ y : List ℕ) (at w corner mark p : ℕ) → Wrote p (at + 1
 border-is o o₁ y at w corner mark p k =
     then-sets (replicate w mark) y (set o at corner) o₁ (sets o₁ p y) (at + 1) p w (length-replicate w mark) k refl ∙ rw (add-one at)
 
+border-long : (o o₁ : List ℕ) (at w corner mark p : ℕ) → Wrote p (at + 1 + w) o₁ (sets (set o at corner) (at + 1) (replicate w mark)) → length o₁ ≡ length o
+border-long o o₁ at w corner mark p k = rw (k .out-is) (length-sets (set o at corner) (at + 1) (replicate w mark) ∙ length-set o at corner)
+
 slice-write-out : tie.Need-slice-write-out
 slice-write-out c = search needs
 
 add-fill : tie.Need-add-fill
 add-fill c = search needs
-
-border-long : (o o₁ : List ℕ) (at w corner mark p : ℕ) → Wrote p (at + 1 + w) o₁ (sets (set o at corner) (at + 1) (replicate w mark)) → length o₁ ≡ length o
-border-long o o₁ at w corner mark p k = rw (k .out-is) (length-sets (set o at corner) (at + 1) (replicate w mark) ∙ length-set o at corner)
 
 fill-requires : tie.Need-fill-requires
 fill-requires c κs = rw length-set (search needs)

@@ -68,7 +68,13 @@ same-length c = search needs
 returns : tie.Need-returns
 returns c =
     let a = c .before .before .before .before .before .before .before .before .before .before .before .before .before .before .before .before .before .before .before .before .before .before .before .before .before .args in
-    text-line-is (a .t3) (a .inner) (a .widest) (a .line .now) (c .before .before .before .before .before .before .before .before .before .before .before .before .before .before .before .before .before .before .before .before .before .before .line-indent .result) (c .before .before .before .before .before .before .before .before .before .before .before .before .before .before .before .before .before .before .before .before .before .before .line-indent .ensures .0) (a .out .now) _ _ _ _ _ (a .at) _ _ _ _ _ _ (c .before .before .before .before .before .before .before .before .before .before .before .before .before .before .before .before .before .before .before .fill .ensures) (c .before .before .before .before .before .before .before .before .before .before .before .before .before .before .before .fill2 .ensures) (c .before .before .before .before .before .before .before .before .before .before .before .copy .ensures) (c .before .before .before .before .before .before .before .fill3 .ensures) (c .before .before .fill4 .ensures)
+    let b = c .before .before .before .before .before .before .before .before .before .before .before .before .before .before .before .before .before .before .before .before .before .before .line-indent in
+    let w₁ = c .before .before .before .before .before .before .before .before .before .before .before .before .before .before .before .before .before .before .before .fill .ensures in
+    let w₂ = c .before .before .before .before .before .before .before .before .before .before .before .before .before .before .before .fill2 .ensures in
+    let w₃ = c .before .before .before .before .before .before .before .before .before .before .before .copy .ensures in
+    let w₄ = c .before .before .before .before .before .before .before .fill3 .ensures in
+    let w₅ = c .before .before .fill4 .ensures in
+    text-line-is (a .t3) (a .inner) (a .widest) (a .line .now) (b .result) (b .ensures .0) (a .out .now) _ _ _ _ _ (a .at) _ _ _ _ _ _ w₁ w₂ w₃ w₄ w₅
 
 pub text-line-spec : {M : Type 1} → statement M
 text-line-spec =
