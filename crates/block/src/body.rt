@@ -20,6 +20,7 @@ struct Plan {
     widest: usize,
 }
 
+// All differences at once (`indent_vertical`, `indent_horizontal`).
 fn plan_body(s: Settings, natural: Size, size: Size) -> Plan
     requires { ⌜ Fits natural size × (s .left + s .right ≤ natural .width) ⌝ }
     ensures { λ r. ⌜ r ≡ planOf s natural size ⌝ }
@@ -52,6 +53,7 @@ fn rows_twice(
     bytes::rows(out, p, stride, m, w, c)
 }
 
+// Spaces and top padding, the text, bottom padding and spaces.
 pub fn paint_body(
     out: &mut [u8],
     at: usize,

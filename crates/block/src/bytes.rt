@@ -51,7 +51,7 @@ pub fn rows(out: &mut [u8], at: usize, stride: usize, n: usize, w: usize, byte: 
     p
 }
 
-// n lines of one byte: `rows` at width 1.
+// n lines of one byte: as `rows` at width 1, with one store a line.
 pub fn stack(out: &mut [u8], at: usize, stride: usize, n: usize, byte: u8) -> usize
     requires { ⌜ Room at stride n 1 (length (now out)) ⌝ }
     ensures { λ r. ⌜ Wrote r (at + n * stride) (now (out .exit)) (pasted (now (out .entry)) at stride (replicate n (byte ∷ []))) ⌝ }
