@@ -1,0 +1,2 @@
+mod Copies
+mod Few

@@ -1,0 +1,48 @@
+use native.Mathlib.Omega.{arith}
+use Rattle.export.proofs.Few.{few-nodes}
+use borrow.Author.Needs.{needs}
+use Rattle.export.proofs.leg_sizes.Statement.{statement}
+use Rattle.export.proofs.leg_sizes.Tie as tie
+
+measure-tree-requires : tie.Need-measure-tree-requires
+measure-tree-requires c κs = search needs
+
+pack-requires : tie.Need-pack-requires
+pack-requires c κs = search needs
+
+returns : tie.Need-returns
+returns c = search needs
+
+pack-requires-2 : tie.Need-pack-requires-2
+pack-requires-2 c κs = search needs
+
+returns-2 : tie.Need-returns-2
+returns-2 c = search needs
+
+put-sizes-requires : tie.Need-put-sizes-requires
+put-sizes-requires c κs =
+    let few = few-nodes _ _ _ (c .before .before .before .before .before .before .measure-tree .ensures) (c .before .before .before .before .if1 .left) in
+    (few, omega arith)
+
+pack-requires-3 : tie.Need-pack-requires-3
+pack-requires-3 c κs = search needs
+
+same-length : tie.Need-same-length
+same-length c = search needs
+
+returns-3 : tie.Need-returns-3
+returns-3 c = search needs
+
+pub leg-sizes-spec : {M : Type 1} → statement M
+leg-sizes-spec =
+    tie.close
+    (tie.spec
+    measure-tree-requires
+    pack-requires
+    returns
+    pack-requires-2
+    returns-2
+    put-sizes-requires
+    pack-requires-3
+    same-length
+    returns-3)

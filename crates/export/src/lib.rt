@@ -1,0 +1,186 @@
+// The public calls as C functions on bytes and numbers; include/leg_sheet.h says what each takes and gives.
+// None of them asks anything of the caller beyond what a C slice is: a pointer to as many items as its length says.
+mod fields;
+mod lists;
+
+ghost use mathlib.Core.Path.{_≡_};
+ghost use Rattle.export.specs.Words.{packed};
+ghost use Rattle.tree.specs.Reading.{answerOf, readTree};
+ghost use Rattle.sizes.specs.Input.{inputOf};
+ghost use Rattle.leaf.specs.Answers.{leafPrintOf};
+ghost use Rattle.sheet.specs.Answers.{sheetOf};
+
+// The answer word: the number in the upper half, the count in the lower.
+fn pack(number: u8, count: usize) -> u64
+    ensures { λ r. ⌜ r ≡ packed number count ⌝ }
+{
+    (number as u64) * 4294967296 + (count % 4294967296) as u64
+}
+
+#[no_mangle]
+pub extern "C" fn leg_read_settings(bytes: &[u8], out: &mut [u16]) -> u64 {
+    let read = settings::read_settings(bytes);
+    if read.number != 0 {
+        return pack(read.number, 0);
+    }
+    if out.len() < 28 {
+        return pack(8, 0);
+    }
+    let s = read.settings;
+    fields::put_settings(s, out);
+    pack(0, 28)
+}
+
+#[no_mangle]
+pub extern "C" fn leg_read_tree(tree: &[u8]) -> u64
+    ensures { λ r. ⌜ r ≡ packed (answerOf (readTree (now (tree .entry))) .number) (answerOf (readTree (now (tree .entry))) .nodes) ⌝ }
+{
+    let t = tree::read_tree(tree);
+    pack(t.number, t.nodes)
+}
+
+#[no_mangle]
+pub extern "C" fn leg_sizes(settings: &[u8], tree: &[u8], list: &mut [u16]) -> u64 {
+    let m = sizes::measure_tree(settings, tree);
+    if m.number != 0 {
+        return pack(m.number, 0);
+    }
+    let core = m.core;
+    if list.len() / 4 < core.count {
+        return pack(8, 0);
+    }
+    fields::put_sizes(core, list);
+    pack(0, core.count)
+}
+
+#[no_mangle]
+pub extern "C" fn leg_leaf_record(
+    settings: &[u8],
+    tree: &[u8],
+    node: usize,
+    out: &mut [u16],
+) -> u64 {
+    let r = leaf::leaf_record(settings, tree, node);
+    if r.number != 0 {
+        return pack(r.number, 0);
+    }
+    if out.len() < 1037 {
+        return pack(8, 0);
+    }
+    fields::put_record(r, out);
+    pack(0, 1037)
+}
+
+#[no_mangle]
+pub extern "C" fn leg_print_leaf(settings: &[u8], tree: &[u8], node: usize, out: &mut [u8]) -> u64
+    ensures { λ r. ⌜ r ≡ packed (leafPrintOf (inputOf (now (settings .entry)) (now (tree .entry))) node (now (out .entry)) .answer .number) (leafPrintOf (inputOf (now (settings .entry)) (now (tree .entry))) node (now (out .entry)) .answer .count) ⌝ }
+    ensures shown { λ _. ⌜ now (out .exit) ≡ leafPrintOf (inputOf (now (settings .entry)) (now (tree .entry))) node (now (out .entry)) .out ⌝ }
+{
+    let w = leaf::print_leaf(settings, tree, node, out);
+    pack(w.number, w.count)
+}
+
+#[no_mangle]
+pub extern "C" fn leg_print_sheet(settings: &[u8], tree: &[u8], out: &mut [u8]) -> u64
+    ensures { λ r. ⌜ r ≡ packed (sheetOf (inputOf (now (settings .entry)) (now (tree .entry))) (now (out .entry)) .answer .number) (sheetOf (inputOf (now (settings .entry)) (now (tree .entry))) (now (out .entry)) .answer .count) ⌝ }
+    ensures shown { λ _. ⌜ now (out .exit) ≡ sheetOf (inputOf (now (settings .entry)) (now (tree .entry))) (now (out .entry)) .out ⌝ }
+{
+    let w = sheet::print_sheet(settings, tree, out);
+    pack(w.number, w.count)
+}
+
+#[no_mangle]
+pub extern "C" fn leg_short_splits3(pieces: &[u16], count: usize, w: u16, out: &mut [u16]) -> u64 {
+    if pieces.len() < 512 {
+        return pack(8, 0);
+    }
+    if out.len() < 1027 {
+        return pack(8, 0);
+    }
+    let list = lists::list_of(pieces, count);
+    let cut = splits::short_splits3(list, w);
+    if cut.number != 0 {
+        return pack(cut.number, 0);
+    }
+    let split = [cut.split as u16];
+    lists::copy(&split, out, 0);
+    let taken = cut.taken;
+    lists::put_list(taken, out, 1);
+    let left = cut.left;
+    lists::put_list(left, out, 514);
+    pack(0, 1027)
+}
+
+#[no_mangle]
+pub extern "C" fn leg_short_splits3_lent(
+    pieces: &mut [u16],
+    count: usize,
+    w: u16,
+    out: &mut [u16],
+) -> u64 {
+    if pieces.len() < 512 {
+        return pack(8, 0);
+    }
+    if out.len() < 515 {
+        return pack(8, 0);
+    }
+    let list = lists::list_of(pieces, count);
+    let kept = splits::cut_here(list, w);
+    let answer = kept.answer;
+    if answer.number != 0 {
+        return pack(answer.number, 0);
+    }
+    let left = kept.list;
+    let rest = left.pieces;
+    lists::copy(&rest, pieces, 0);
+    let first = [answer.split as u16, (left.count % 65536) as u16];
+    lists::copy(&first, out, 0);
+    let taken = answer.taken;
+    lists::put_list(taken, out, 2);
+    pack(0, 515)
+}
+
+#[no_mangle]
+pub extern "C" fn leg_short_splits(
+    pieces: &[u16],
+    count: usize,
+    w: u16,
+    positions: &mut [u32],
+    left: &mut [u16],
+) -> u64 {
+    if pieces.len() < 512 {
+        return pack(8, 0);
+    }
+    if positions.len() < 513 {
+        return pack(8, 0);
+    }
+    if left.len() < 513 {
+        return pack(8, 0);
+    }
+    let list = lists::list_of(pieces, count);
+    let cut = splits::short_splits(list, w);
+    if cut.number != 0 {
+        return pack(cut.number, 0);
+    }
+    let listed = cut.positions;
+    lists::put_positions(listed, positions);
+    let rest = cut.left;
+    lists::put_list(rest, left, 0);
+    pack(0, 513)
+}
+
+#[no_mangle]
+pub extern "C" fn leg_share(
+    spare: usize,
+    n: usize,
+    priority: u8,
+    index: usize,
+    part: &mut u64,
+) -> u64 {
+    let p = fields::priority_of(priority);
+    let s = sizes::sharing::share(spare, n, p, index);
+    if s.number == 0 {
+        *part = s.part as u64;
+    }
+    pack(s.number, 0)
+}

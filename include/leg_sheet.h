@@ -1,0 +1,80 @@
+/* The leg sheet: C functions of target/staticlib/libexport.a, which `rt staticlib export` proves and builds (x86-64 Linux).
+ *
+ * A lent list is a pointer and then its length in items (not bytes). Give a pointer that is not null, aligned for the items, to as many
+ * items as the length says, even where the length is 0; lists that are written must overlap no other argument. Nothing else is asked:
+ * any bytes and any numbers may be handed in.
+ *
+ * Every function answers a word: LEG_NUMBER is 0 or the refusal of document 01's table, LEG_COUNT what was counted or written, 0 beside a
+ * refusal. Tests are made in the table's order. A refusal writes to none of the lent lists; otherwise items past those said to be written
+ * stay as they were. The functions keep nothing between calls and allocate nothing; give them a stack of 1 MiB.
+ *
+ *   1   settings not of the form or ranges          7   sheet: a leaf is allotted width 0
+ *   2   tree: too long, cut short, unknown tag ..   8   a lent list is shorter than needed
+ *   3   forbidden text byte                         9   the number names no leaf
+ *   4   node 513 met                               10   split list count over 512
+ *   5   depth 17 met                               11   share: n = 0 or index >= n
+ *   6   over 400 columns or 160 lines
+ */
+#ifndef LEG_SHEET_H
+#define LEG_SHEET_H
+
+#include <stddef.h>
+#include <stdint.h>
+
+#ifdef __cplusplus
+extern "C" {
+#endif
+
+#define LEG_NUMBER(word) ((uint8_t)((word) >> 32))
+#define LEG_COUNT(word) ((size_t)((word) & 0xFFFFFFFFu))
+
+/* Lengths of the lists that are written whole. */
+#define LEG_SETTINGS 28
+#define LEG_PIECES 512
+#define LEG_LIST (1 + LEG_PIECES)
+#define LEG_RECORD (11 + 2 * LEG_LIST)
+#define LEG_CUT (1 + 2 * LEG_LIST)
+#define LEG_LENT_CUT (2 + LEG_LIST)
+
+/* Reads a settings record of 31 bytes. 1, 8. Writes the 28 numbers after its tag and length: 15 marks; padding left, right, top, bottom;
+ * their fills; horizontal and vertical alignment; line mode; width and height priority. Counts 28. */
+uint64_t leg_read_settings(const uint8_t *bytes, size_t bytes_len, uint16_t *out, size_t out_len);
+
+/* Reads a tree. 2 to 5. Counts its nodes. */
+uint64_t leg_read_tree(const uint8_t *tree, size_t tree_len);
+
+/* The sizes of a tree's nodes. 1 to 5, and 8 where the list has under 4 numbers a node. Writes for each node, in node order: natural
+ * width, natural height, allotted width, allotted height. Counts nodes. */
+uint64_t leg_sizes(const uint8_t *settings, size_t settings_len, const uint8_t *tree, size_t tree_len, uint16_t *list, size_t list_len);
+
+/* A leaf's record. 1 to 6, 9; 8 last, where `out` has under LEG_RECORD numbers. Writes node, width, height; first_row, last_row, first_col, last_col,
+ * no_right, lean_top, top_left, top_intersection (1 or 0); the horizontal list, then the vertical one, each a count and 512 entries with
+ * 0 past the count. Counts LEG_RECORD. */
+uint64_t leg_leaf_record(const uint8_t *settings, size_t settings_len, const uint8_t *tree, size_t tree_len, size_t node, uint16_t *out, size_t out_len);
+
+/* Prints a leaf's block, its lines joined by 0A. 1 to 6, 9, 8. Counts the bytes written. */
+uint64_t leg_print_leaf(const uint8_t *settings, size_t settings_len, const uint8_t *tree, size_t tree_len, size_t node, uint8_t *out, size_t out_len);
+
+/* Prints the sheet, its lines joined by 0A: (W + 1) * H - 1 bytes, at most 64,159. 1 to 8. Counts the bytes written. */
+uint64_t leg_print_sheet(const uint8_t *settings, size_t settings_len, const uint8_t *tree, size_t tree_len, uint8_t *out, size_t out_len);
+
+/* Cuts the list of the first `count` of `pieces` at `w`. 8 where `pieces` has under 512 numbers (those past `count` are not looked at) or `out` under
+ * LEG_CUT; 10. Writes yes or no (1 or 0), the list taken, the list left, each a count and 512 entries with 0 past the count. Counts LEG_CUT. */
+uint64_t leg_short_splits3(const uint16_t *pieces, size_t pieces_len, size_t count, uint16_t w, uint16_t *out, size_t out_len);
+
+/* The same cut, with the list left in the place of the lent one: 512 numbers of `pieces`, 0 past the count left. `out` has LEG_LENT_CUT
+ * numbers: yes or no, the count left, the list taken. */
+uint64_t leg_short_splits3_lent(uint16_t *pieces, size_t pieces_len, size_t count, uint16_t w, uint16_t *out, size_t out_len);
+
+/* `short_splits`. 8 where `pieces` has under 512 numbers, or `positions` or `left` under LEG_LIST; 10. Writes the positions and the list left, each a
+ * count and 512 entries with 0 past the count. Counts LEG_LIST. */
+uint64_t leg_short_splits(const uint16_t *pieces, size_t pieces_len, size_t count, uint16_t w, uint32_t *positions, size_t positions_len, uint16_t *left, size_t left_len);
+
+/* The part of `spare` that child `index` of `n` gets. 11. Priority 0 is First, 1 Last, 2 and every other number List. Writes the part. */
+uint64_t leg_share(size_t spare, size_t n, uint8_t priority, size_t index, uint64_t *part);
+
+#ifdef __cplusplus
+}
+#endif
+
+#endif
