@@ -41,7 +41,7 @@ fn tables() -> Vec<(&'static str, Tree)> {
     vec![
         ("one Cell", cell(0)),
         ("flat, 16 Cells", Tree::Row((0..16).map(cell).collect())),
-        ("flat, 96 Cells", Tree::Row((0..96).map(cell).collect())),
+        ("flat, 90 Cells", Tree::Row((0..90).map(cell).collect())),
         ("flat Column, 60 Cells", Tree::Column((0..60).map(cell).collect())),
         ("grid, 4 by 4", grid(4, 4)),
         ("grid, 16 by 30 (497 nodes)", grid(16, 30)),
