@@ -6,7 +6,7 @@
  *
  * Every function answers a word: LEG_NUMBER is 0 or the refusal of document 01's table, LEG_COUNT what was counted or written, 0 beside a
  * refusal. Tests are made in the table's order. A refusal writes to none of the lent lists; otherwise items past those said to be written
- * stay as they were. The functions keep nothing between calls and allocate nothing; give them a stack of 1 MiB.
+ * stay as they were. The functions keep nothing between calls and allocate nothing.
  *
  *   1   settings not of the form or ranges          7   sheet: a leaf is allotted width 0
  *   2   tree: too long, cut short, unknown tag ..   8   a lent list is shorter than needed

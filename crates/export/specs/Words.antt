@@ -12,10 +12,3 @@ packed number count = number * 4294967296 + count % 4294967296
 -- the list of the first 512 lent numbers
 abbrev pub firstPieces : List ℕ → ℕ → SplitList
 firstPieces l n = record { pieces = take 512 l; count = n }
-
--- a list's count and its 512 entries
-abbrev pub listWords : SplitList → List ℕ
-listWords s = s .count % 65536 ∷ s .pieces
-
-abbrev pub positionWords : Positions → List ℕ
-positionWords p = p .count % 65536 ∷ p .entries
