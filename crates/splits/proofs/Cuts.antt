@@ -11,10 +11,11 @@ use borrow.Author.Tests.{lt-leb, le-leb, eq-eqb, ne-eqb}
 use Rattle.splits.specs.declared.SplitList.{SplitList}
 use Rattle.splits.specs.declared.CutParts.{CutParts}
 use Rattle.splits.specs.declared.ShortParts.{ShortParts}
-use Rattle.splits.specs.declared.Positions.{Positions}
-use Rattle.splits.specs.Splits.{reach, closed, shortSplits3, loses, shortSplits}
-use Rattle.splits.specs.Lists.{listOf, splitList, positionList}
-use Rattle.splits.specs.Cuts.{Stops, answered, refusedCut, cutOf, refusedShort, shortOf}
+use Rattle.splits.specs.declared.cut.Taken.{Taken}
+use Rattle.splits.specs.declared.short.Listed.{Listed}
+use Rattle.splits.specs.Splits.{closed, shortSplits3, loses, shortSplits}
+use Rattle.splits.specs.Lists.{listOf, splitList}
+use Rattle.splits.specs.Cuts.{Took, Told, answered, refusedCut, cutOf, refusedShort, shortOf}
 
 -- what is left from entry k on
 module _ (n : ℕ) (s : List ℕ) (long : n ≤ length s) (k : ℕ) where
@@ -33,21 +34,21 @@ abbrev IsCut : ℕ → SplitList → CutParts → Type 0
 IsCut w list c = c ≡ answered (shortSplits3 (listOf list) w)
 
 -- the three ends of `short_splits3`, with the lists that the code has made
-module _ (w : ℕ) (list : SplitList) (long : list .count ≤ length (list .pieces)) {k pos : ℕ} (at : Stops 1 w (list .count) (list .pieces) k pos)
-    {taken left : SplitList} (t : taken ≡ splitList (reach 1 w (listOf list) 0 .taken)) where
-  pub cut-none : left ≡ splitList [] → list .count ≤ k → IsCut w list (record { number = 0; split = false; taken = taken; left = left })
+module _ {w : ℕ} {list : SplitList} {k : Taken} (t : Took w list k) (long : list .count ≤ length (list .pieces)) {left : SplitList} where
+  pub cut-none : left ≡ splitList [] → list .count ≤ k .list .count → IsCut w list (record { number = 0; split = false; taken = k .list; left = left })
   unfolding shortSplits3 closed
-  cut-none l h = rw (t, l, at .left, at .reached, left-none (list .count) (list .pieces) long k h)
+  cut-none l h = rw (t .taken, l, t .stops .left, t .stops .reached, left-none (list .count) (list .pieces) long (k .list .count) h)
 
-  pub cut-yes : left ≡ splitList (drop (k + 1) (listOf list)) → k < list .count → getD (list .pieces) k 0 - (w - pos) ≡ 0
-      → IsCut w list (record { number = 0; split = true; taken = taken; left = left })
+  pub cut-yes : left ≡ splitList (drop (k .list .count + 1) (listOf list)) → k .list .count < list .count → getD (list .pieces) (k .list .count) 0 - (w - k .pos) ≡ 0
+      → IsCut w list (record { number = 0; split = true; taken = k .list; left = left })
   unfolding shortSplits3 closed
-  cut-yes l h z = rw (t, l, at .left, at .reached, left-more (list .count) (list .pieces) long k h, eq-eqb _ 0 z)
+  cut-yes l h z = rw (t .taken, l, t .stops .left, t .stops .reached, left-more (list .count) (list .pieces) long (k .list .count) h, eq-eqb _ 0 z)
 
-  pub cut-no : left ≡ splitList ((getD (list .pieces) k 0 - (w - pos) - 1) ∷ drop (k + 1) (listOf list)) → k < list .count → (getD (list .pieces) k 0 - (w - pos) ≡ 0 → ⊥)
-      → IsCut w list (record { number = 0; split = false; taken = taken; left = left })
+  pub cut-no : left ≡ splitList ((getD (list .pieces) (k .list .count) 0 - (w - k .pos) - 1) ∷ drop (k .list .count + 1) (listOf list))
+      → k .list .count < list .count → (getD (list .pieces) (k .list .count) 0 - (w - k .pos) ≡ 0 → ⊥)
+      → IsCut w list (record { number = 0; split = false; taken = k .list; left = left })
   unfolding shortSplits3 closed
-  cut-no l h z = rw (t, l, at .left, at .reached, left-more (list .count) (list .pieces) long k h, ne-eqb _ 0 z)
+  cut-no l h z = rw (t .taken, l, t .stops .left, t .stops .reached, left-more (list .count) (list .pieces) long (k .list .count) h, ne-eqb _ 0 z)
 
 pub cut-over : (list : SplitList) (w : ℕ) → 512 < list .count → cutOf list w ≡ refusedCut
 unfolding cutOf
@@ -62,8 +63,8 @@ pub short-over : (list : SplitList) (w : ℕ) → 512 < list .count → shortOf 
 unfolding shortOf
 short-over list w h = rw (lt-leb (list .count) 512 h)
 
-pub short-within : (w : ℕ) (list : SplitList) → list .count ≤ 512 → {k pos : ℕ} → Stops 0 w (list .count) (list .pieces) k pos
-    → {positions : Positions} → positions ≡ positionList (reach 0 w (listOf list) 0 .positions) → {left : SplitList} → left ≡ splitList (loses (w - pos) (drop k (listOf list)))
-    → _≡_ {A = ShortParts} (record { number = 0; positions = positions; left = left }) (shortOf list w)
+pub short-within : {w : ℕ} {list : SplitList} {k : Listed} → Told w list k → list .count ≤ 512
+    → {left : SplitList} → left ≡ splitList (loses (w - k .pos) (drop (k .positions .count) (listOf list)))
+    → _≡_ {A = ShortParts} (record { number = 0; positions = k .positions; left = left }) (shortOf list w)
 unfolding shortOf shortSplits
-short-within w list few at p l = rw (p, l, le-leb (list .count) 512 few, at .left, at .reached)
+short-within {list = list} t few l = rw (t .listed, l, le-leb (list .count) 512 few, t .stops .left, t .stops .reached)

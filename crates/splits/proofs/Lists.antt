@@ -1,5 +1,5 @@
--- Lists padded with zeros, and the cut of one. Assumes nothing.
-use mathlib.Core.Path.{_≡_, ap, _∙_}
+-- Lists padded with zeros. Assumes nothing.
+use mathlib.Core.Path.{_≡_, _∙_}
 use mathlib.Core.List.{List, [], _∷_, _++_, append-assoc}
 use mathlib.Core.Bool.{Bool, true, false}
 use Prim.Native.Nat.{ℕ, suc, _+_, _-_, _≤_, _<_}
@@ -8,21 +8,16 @@ use native.Mathlib.Omega.{arith}
 use lib.ListN.{length, take, drop, getD, set, replicate, length-append, length-drop}
 use lib.Seq.{take-suc, take-add, drop-cons, drop-at, getD-drop, set-at, take-append-seam, length-take-le}
 use lib.Dec.{ltb, eqb}
-use borrow.Author.Tests.{le-leb}
 use Rattle.common.specs.Arrays.{padded}
 use Rattle.common.specs.Choice.{pick}
 use Rattle.splits.specs.declared.SplitList.{SplitList}
 use Rattle.splits.specs.Splits.{Reached, took, reach, Cut, closed, shortSplits3}
 use Rattle.splits.specs.Lists.{listOf, splitList}
-use Rattle.splits.specs.Cuts.{cutOf}
 
 -- ---- a padded list is its pieces
 
 pub list-of : (l : List ℕ) → listOf (splitList l) ≡ l
 list-of l = take-append-seam l (replicate (512 - length l) 0)
-
-pub list-is : (x : SplitList) (l : List ℕ) → x ≡ splitList l → listOf x ≡ l
-list-is x l e = rw e (list-of l)
 
 pub is-padded : (x : SplitList) (l : List ℕ) → x ≡ splitList l → x .pieces ≡ padded (listOf x)
 is-padded x l e = rw (e, list-of l)
@@ -43,30 +38,42 @@ padded-snoc l n v e h =
 pub store : (p l : List ℕ) (i n : ℕ) → length (p ++ take i l) ≡ n → i < length l → n < 512 → set (padded (p ++ take i l)) n (getD l i 0) ≡ padded (p ++ take (i + 1) l)
 store p l i n e h b = rw (add-one i, take-suc l i 0 h, ← append-assoc p (take i l) (getD l i 0 ∷ [])) (padded-snoc (p ++ take i l) n (getD l i 0) e b)
 
--- after the first `from` of n numbers
-pub rest-is : (s : List ℕ) (from n : ℕ) → from ≤ n → n ≤ length s → drop from (take n s) ≡ take (n - from) (drop from s)
-rest-is s from n h b =
-    let e : n ≡ from + (n - from) = omega arith in
-    ap (λ (m : ℕ). drop from (take m s)) e ∙ ap (drop from) (take-add from (n - from) s) ∙ drop-at (take from s) (take (n - from) (drop from s)) from (length-take-le from s (omega arith))
+-- ---- the rest of a list, from `from` on
 
-pub store-rest : (s : List ℕ) (from i : ℕ) → from + i < length s → i < 512 → set (padded (take i (drop from s))) i (getD s (from + i) 0) ≡ padded (take (i + 1) (drop from s))
-store-rest s from i h b =
+pub rest-step : (s : List ℕ) (from i : ℕ) {out : List ℕ} → out ≡ padded (take i (drop from s)) → from + i < length s → i < 512
+    → set out i (getD s (from + i) 0) ≡ padded (take (i + 1) (drop from s))
+rest-step s from i o h b =
     let l : length (drop from s) ≡ length s - from = length-drop from s in
-    rw (← getD-drop from s i 0) (store [] (drop from s) i i (length-take-le i (drop from s) (omega arith)) (omega arith) b)
+    rw (o, ← getD-drop from s i 0) (store [] (drop from s) i i (length-take-le i (drop from s) (omega arith)) (omega arith) b)
 
--- the first of the rest stored anew
-pub store-first : (l : List ℕ) (from v : ℕ) (x : SplitList) → from < length l → x ≡ splitList (drop from l)
+pub rest-done : (list : SplitList) (from n : ℕ) {out : List ℕ} → out ≡ padded (take n (drop from (list .pieces)))
+    → from + n ≡ list .count → list .count ≤ length (list .pieces) → _≡_ {A = SplitList} (record { pieces = out; count = n }) (splitList (drop from (listOf list)))
+rest-done list from n o e b =
+    let s = list .pieces in
+    let f : drop from (take (from + n) s) ≡ take n (drop from s) = rw (take-add from n s) (drop-at (take from s) (take n (drop from s)) from (length-take-le from s (omega arith))) in
+    let l : length (drop from s) ≡ length s - from = length-drop from s in
+    rw (← e, f) (split-list (take n (drop from s)) o (length-take-le n (drop from s) (omega arith)))
+
+-- the first of them stored anew
+pub rest-first : (l : List ℕ) (from v : ℕ) (x : SplitList) → from < length l → x ≡ splitList (drop from l)
     → _≡_ {A = SplitList} (record { pieces = set (x .pieces) 0 v; count = x .count }) (splitList (v ∷ drop (from + 1) l))
-store-first l from v x h e = rw (e, add-one from, drop-cons l from 0 h)
+rest-first l from v x h e = rw (e, add-one from, drop-cons l from 0 h)
 
--- ---- the cut of a padded list
+-- ---- two lists joined
 
-pub cut-is : (x : SplitList) (l : List ℕ) (w : ℕ) → x ≡ splitList l → length l ≤ 512
-    → cutOf x w ≡ record { number = 0; split = shortSplits3 l w .split; taken = splitList (shortSplits3 l w .taken); left = splitList (shortSplits3 l w .left) }
-unfolding cutOf
-cut-is x l w e few = rw (e, le-leb (length l) 512 few, list-of l)
+module _ (a b : SplitList) (long : length (a .pieces) ≡ 512) (long₂ : length (b .pieces) ≡ 512) (few : a .count + b .count ≤ 512) where
+  joined-length : (i : ℕ) → i ≤ b .count → length (listOf a ++ take i (b .pieces)) ≡ a .count + i
+  joined-length i h = rw (length-append (listOf a) (take i (b .pieces)), length-take-le (a .count) (a .pieces) (omega arith), length-take-le i (b .pieces) (omega arith))
 
--- what is taken and what is left is no longer than the list
+  pub join-step : (i : ℕ) {out : List ℕ} → out ≡ padded (listOf a ++ take i (b .pieces)) → i < b .count
+      → set out (a .count + i) (getD (b .pieces) i 0) ≡ padded (listOf a ++ take (i + 1) (b .pieces))
+  join-step i o h = rw o (store (listOf a) (b .pieces) i (a .count + i) (joined-length i (omega arith)) (omega arith) (omega arith))
+
+  pub join-done : (i : ℕ) {out : List ℕ} → out ≡ padded (listOf a ++ take i (b .pieces)) → i ≡ b .count
+      → _≡_ {A = SplitList} (record { pieces = out; count = a .count + b .count }) (splitList (listOf a ++ listOf b))
+  join-done i o e = split-list (listOf a ++ listOf b) (o ∙ rw e) (joined-length (b .count) (omega arith))
+
+-- ---- what a cut takes and what it leaves is no longer than the list
 
 took-few : (b : Bool) (p q pos : ℕ) (ps : List ℕ) (k : Reached) → length (k .taken) + length (k .left) ≡ length ps
     → let j : Reached = pick b (took p q k) (record { taken = []; positions = []; left = p ∷ ps; pos = pos }) in length (j .taken) + length (j .left) ≡ suc (length ps)
@@ -79,7 +86,8 @@ unfolding reach
 reach-few step w [] pos = omega arith
 reach-few step w (p ∷ ps) pos = took-few (ltb (pos + p) w) p (pos + (p + step)) pos ps (reach step w ps (pos + (p + step))) (reach-few step w ps (pos + (p + step)))
 
-short-few : (b : Bool) (taken ps : List ℕ) (r : ℕ) → let k : Cut = pick b (record { split = true; taken = taken; left = ps }) (record { split = false; taken = taken; left = r ∷ ps }) in
+short-few : (b : Bool) (taken ps : List ℕ) (r : ℕ)
+    → let k : Cut = pick b (record { split = true; taken = taken; left = ps }) (record { split = false; taken = taken; left = r ∷ ps }) in
     (length (k .taken) ≤ length taken) × (length (k .left) ≤ suc (length ps))
 short-few true taken ps r = (omega arith, omega arith)
 short-few false taken ps r = (omega arith, omega arith)

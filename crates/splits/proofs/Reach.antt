@@ -11,10 +11,9 @@ use lib.Seq.{take-suc, take-suc-set, drop-cons, length-take-le, getD-take}
 use borrow.Author.Tests.{lt-ltb, le-ltb}
 use Rattle.common.specs.Arrays.{padded}
 use Rattle.splits.specs.declared.SplitList.{SplitList}
-use Rattle.splits.specs.declared.Positions.{Positions}
 use Rattle.splits.specs.Splits.{Reached, took, reach}
-use Rattle.splits.specs.Lists.{splitList, positionList}
-use Rattle.splits.specs.Cuts.{Stops}
+use Rattle.splits.specs.Lists.{listOf}
+use Rattle.splits.specs.Cuts.{Stops, Took, Told}
 use Rattle.splits.proofs.Lists.{padded-snoc, store, split-list}
 
 -- where the loop stops at once
@@ -63,11 +62,11 @@ pub record Goes (step w n : ℕ) (s : List ℕ) (i pos : ℕ) : Type 0 where
   pub left : reach step w (take n s) 0 .left ≡ reach step w (drop i (take n s)) pos .left
   pub reached : reach step w (take n s) 0 .pos ≡ reach step w (drop i (take n s)) pos .pos
 
-pub goes-first : (step w n : ℕ) (s : List ℕ) → Goes step w n s 0 0
+goes-first : (step w n : ℕ) (s : List ℕ) → Goes step w n s 0 0
 goes-first step w n s = record { within = omega arith; low = omega arith; taken = refl; left = refl; reached = refl }
 
-module _ (step w n : ℕ) (s : List ℕ) (long : n ≤ length s) (i pos : ℕ) (g : Goes step w n s i pos) where
-  pub goes-on : (next : ℕ) → step ≤ 1 → i < n → pos + getD s i 0 < w → next ≡ pos + (getD s i 0 + step) → Goes step w n s (i + 1) next
+module _ {step w n : ℕ} {s : List ℕ} {i pos : ℕ} (g : Goes step w n s i pos) (long : n ≤ length s) where
+  goes-on : (next : ℕ) → step ≤ 1 → i < n → pos + getD s i 0 < w → next ≡ pos + (getD s i 0 + step) → Goes step w n s (i + 1) next
   unfolding took
   goes-on next few h t q =
       let len : length (take n s) ≡ n = length-take-le n s long in
@@ -80,7 +79,7 @@ module _ (step w n : ℕ) (s : List ℕ) (long : n ≤ length s) (i pos : ℕ) (
         reached = g .reached ∙ ap (λ (k : Reached). k .pos) e;
       })
 
-  pub goes-stops : (i < n → w ≤ pos + getD s i 0) → Stops step w n s i pos
+  goes-stops : (i < n → w ≤ pos + getD s i 0) → Stops step w n s i pos
   goes-stops h =
       let e = reach-stops step w n s long i pos h in
       record {
@@ -92,45 +91,65 @@ module _ (step w n : ℕ) (s : List ℕ) (long : n ≤ length s) (i pos : ℕ) (
         reached = g .reached ∙ ap (λ (k : Reached). k .pos) e;
       }
 
--- ---- `short_splits3` stores the pieces
+-- ---- `short_splits3` stores the pieces taken
 
-module _ (w n : ℕ) (s : List ℕ) (long : n ≤ length s) (few : n ≤ 512) (i : ℕ) {out : List ℕ} (o : out ≡ padded (take i (take n s))) where
-  pub stores : i < n → set out i (getD s i 0) ≡ padded (take (i + 1) (take n s))
-  stores h =
-      let len : length (take n s) ≡ n = length-take-le n s long in
-      rw (o, ← getD-take n s i 0 h) (store [] (take n s) i i (length-take-le i (take n s) (omega arith)) (omega arith) (omega arith))
+pub record Takes (w n : ℕ) (s : List ℕ) (i pos : ℕ) (out : List ℕ) : Type 0 where
+  pub goes : Goes 1 w n s i pos
+  pub stored : out ≡ padded (take i (take n s))
 
-  pub stored : {pos : ℕ} → Stops 1 w n s i pos → _≡_ {A = SplitList} (record { pieces = out; count = i }) (splitList (reach 1 w (take n s) 0 .taken))
-  stored at =
-      let len : length (take n s) ≡ n = length-take-le n s long in
-      let all : i ≤ n = at .within in
-      rw (at .taken) (split-list (take i (take n s)) o (length-take-le i (take n s) (omega arith)))
+pub takes-first : (w n : ℕ) (s : List ℕ) → Takes w n s 0 0 (replicate 512 0)
+takes-first w n s = record { goes = goes-first 1 w n s; stored = refl }
+
+pub takes-on : {w n : ℕ} {s : List ℕ} {i pos : ℕ} {out : List ℕ} → Takes w n s i pos out → n ≤ length s → n ≤ 512 → i < n → pos + getD s i 0 < w
+    → (next : ℕ) → next ≡ pos + (getD s i 0 + 1) → Takes w n s (i + 1) next (set out i (getD s i 0))
+takes-on {w} {n} {s} {i} {pos} {out} t long few h b next q =
+    let len : length (take n s) ≡ n = length-take-le n s long in
+    record {
+      goes = goes-on (t .goes) long next (omega arith) h b q;
+      stored = rw (t .stored, ← getD-take n s i 0 h) (store [] (take n s) i i (length-take-le i (take n s) (omega arith)) (omega arith) (omega arith));
+    }
+
+pub takes-stops : (list : SplitList) {w i pos : ℕ} {out : List ℕ} → Takes w (list .count) (list .pieces) i pos out → list .count ≤ length (list .pieces)
+    → (i < list .count → w ≤ pos + getD (list .pieces) i 0) → Took w list (record { list = record { pieces = out; count = i }; pos = pos })
+takes-stops list {w} {i} t long h =
+    let len : length (listOf list) ≡ list .count = length-take-le (list .count) (list .pieces) long in
+    let at = goes-stops (t .goes) long h in
+    let all : i ≤ list .count = at .within in
+    record { stops = at; taken = rw (at .taken) (split-list (take i (listOf list)) (t .stored) (length-take-le i (listOf list) (omega arith))) }
 
 -- ---- `short_splits` lists the positions
 
 -- the first i of `out`, then zeros, are the positions up to piece i
 pub record Tells (w n : ℕ) (s : List ℕ) (i pos : ℕ) (out : List ℕ) : Type 0 where
+  pub goes : Goes 0 w n s i pos
   pub room : length out ≡ 512
   pub zeros : out ≡ padded (take i out)
   pub listed : reach 0 w (take n s) 0 .positions ≡ take i out ++ reach 0 w (drop i (take n s)) pos .positions
 
 pub tells-first : (w n : ℕ) (s : List ℕ) → Tells w n s 0 0 (replicate 512 0)
-tells-first w n s = record { room = refl; zeros = refl; listed = refl }
+tells-first w n s = record { goes = goes-first 0 w n s; room = refl; zeros = refl; listed = refl }
 
-module _ (w n : ℕ) (s : List ℕ) (long : n ≤ length s) (i pos : ℕ) (out : List ℕ) (t : Tells w n s i pos out) where
-  pub tells-on : (next : ℕ) → i < n → i < 512 → next < w → next ≡ pos + getD s i 0 → Tells w n s (i + 1) next (set out i next)
-  unfolding took
-  tells-on next h b k q =
-      let z : pos + (getD s i 0 + 0) ≡ next = omega arith in
-      let e : reach 0 w (drop i (take n s)) pos ≡ took (getD s i 0) next (reach 0 w (drop (i + 1) (take n s)) next) = rw (← z) (reach-more 0 w n s long i pos h (omega arith)) in
-      let f : take (i + 1) (set out i next) ≡ take i out ++ (next ∷ []) = rw (add-one i) (take-suc-set out i next (omega arith)) in
-      record {
-        room = length-set out i next ∙ t .room;
-        zeros = rw f (ap (λ (o : List ℕ). set o i next) (t .zeros) ∙ padded-snoc (take i out) i next (length-take-le i out (omega arith)) b);
-        listed = t .listed ∙ rw (e, f, append-assoc);
-      }
+pub tells-on : {w n : ℕ} {s : List ℕ} {i pos : ℕ} {out : List ℕ} → Tells w n s i pos out → n ≤ length s → n ≤ 512 → i < n
+    → (next : ℕ) → next < w → next ≡ pos + getD s i 0 → Tells w n s (i + 1) next (set out i next)
+unfolding took
+tells-on {w} {n} {s} {i} {pos} {out} t long few h next b q =
+    let room = t .room in
+    let z : pos + (getD s i 0 + 0) ≡ next = omega arith in
+    let e : reach 0 w (drop i (take n s)) pos ≡ took (getD s i 0) next (reach 0 w (drop (i + 1) (take n s)) next) = rw (← z) (reach-more 0 w n s long i pos h (omega arith)) in
+    let f : take (i + 1) (set out i next) ≡ take i out ++ (next ∷ []) = rw (add-one i) (take-suc-set out i next (omega arith)) in
+    record {
+      goes = goes-on (t .goes) long next (omega arith) h (omega arith) (omega arith);
+      room = length-set out i next ∙ room;
+      zeros = rw f (ap (λ (o : List ℕ). set o i next) (t .zeros) ∙ padded-snoc (take i out) i next (length-take-le i out (omega arith)) (omega arith));
+      listed = t .listed ∙ rw (e, f, append-assoc);
+    }
 
-  pub tells-stops : i ≤ 512 → (i < n → w ≤ pos + getD s i 0) → _≡_ {A = Positions} (record { entries = out; count = i }) (positionList (reach 0 w (take n s) 0 .positions))
-  tells-stops b h =
-      let e : reach 0 w (take n s) 0 .positions ≡ take i out = t .listed ∙ rw (reach-stops 0 w n s long i pos h, append-nil) in
-      rw (e, length-take-le i out (omega arith)) (ap (λ (o : List ℕ). record { entries = o; count = i }) (t .zeros) ∙ rw (length-take-le i out (omega arith)))
+pub tells-stops : (list : SplitList) {w i pos : ℕ} {out : List ℕ} → Tells w (list .count) (list .pieces) i pos out
+    → list .count ≤ length (list .pieces) → list .count ≤ 512 → (i < list .count → w ≤ pos + getD (list .pieces) i 0) → Told w list (record { positions = record { entries = out; count = i }; pos = pos })
+tells-stops list {w} {i} {pos} {out} t long few h =
+    let at = goes-stops (t .goes) long h in
+    let all : i ≤ list .count = at .within in
+    let room = t .room in
+    let len : length (take i out) ≡ i = length-take-le i out (omega arith) in
+    let e : reach 0 w (listOf list) 0 .positions ≡ take i out = t .listed ∙ rw (reach-stops 0 w (list .count) (list .pieces) long i pos h, append-nil) in
+    record { stops = at; listed = rw (e, len) (ap (λ (o : List ℕ). record { entries = o; count = i }) (t .zeros) ∙ rw len) }

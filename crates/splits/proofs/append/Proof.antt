@@ -1,13 +1,12 @@
-use mathlib.Core.Path.{_≡_, ap, _∙_}
+use mathlib.Core.Path.{_≡_}
 use mathlib.Core.List.{_++_, append-nil}
-use Prim.Native.Nat.{ℕ, _+_, _-_, _≤_}
+use Prim.Native.Nat.{_-_, _≤_}
 use native.Mathlib.Omega.{arith}
 use borrow.Author.Needs.{needs}
-use lib.ListN.{length, take, length-append}
-use lib.Seq.{length-take-le}
+use lib.ListN.{take}
 use Rattle.common.specs.Arrays.{padded}
 use Rattle.splits.specs.Lists.{listOf}
-use Rattle.splits.proofs.Lists.{store, split-list}
+use Rattle.splits.proofs.Lists.{join-step, join-done}
 use Rattle.splits.proofs.append.Statement.{statement}
 use Rattle.splits.proofs.append.Tie as tie
 
@@ -47,10 +46,7 @@ loop-again : tie.Need-loop-again Inv-loop μ-loop
 loop-again c =
     let a = c .before .before .before .before .args in
     let k = c .before .loop in
-    let long : length (a .a .pieces) ≡ 512 = search needs in
-    let long₂ : length (a .b .pieces) ≡ 512 = search needs in
-    let l : length (listOf (a .a) ++ take (k .i) (a .b .pieces)) ≡ a .a .count + k .i = rw (length-append, length-take-le (a .a .count) (a .a .pieces) (omega arith), length-take-le (k .i) (a .b .pieces) (omega arith)) in
-    (omega arith, rw (k .inv .1) (store (listOf (a .a)) (a .b .pieces) (k .i) (a .a .count + k .i) l (omega arith) (omega arith)))
+    (omega arith, join-step (a .a) (a .b) (search needs) (search needs) (omega arith) (k .i) (k .inv .1) (omega arith))
 
 add-t18 : tie.Need-add-t18 Inv-loop μ-loop
 add-t18 c = search needs
@@ -59,12 +55,7 @@ returns : tie.Need-returns Inv-loop μ-loop
 returns c =
     let a = c .before .before .before .before .args in
     let k = c .before .loop in
-    let long : length (a .a .pieces) ≡ 512 = search needs in
-    let long₂ : length (a .b .pieces) ≡ 512 = search needs in
-    let i : k .i ≡ a .b .count = omega arith in
-    let l : length (listOf (a .a) ++ listOf (a .b)) ≡ a .a .count + a .b .count =
-    rw (length-append (listOf (a .a)) (listOf (a .b)), length-take-le (a .a .count) (a .a .pieces) (omega arith), length-take-le (a .b .count) (a .b .pieces) (omega arith)) in
-    split-list (listOf (a .a) ++ listOf (a .b)) (k .inv .1 ∙ ap (λ (j : ℕ). padded (listOf (a .a) ++ take j (a .b .pieces))) i) l
+    join-done (a .a) (a .b) (search needs) (search needs) (omega arith) (k .i) (k .inv .1) (omega arith)
 
 pub append-spec : {M : Type 1} → statement M
 append-spec =

@@ -15,7 +15,7 @@ returns : tie.Need-returns
 returns c =
     let a = c .before .before .before .before .args in
     let long : length (a .list .pieces) ≡ 512 = search needs in
-    cut-none (a .w) (a .list) (omega arith) (c .before .before .before .before .pre .1 .stops) (c .before .before .before .before .pre .1 .taken) (c .no-pieces .ensures) (omega arith)
+    cut-none (c .before .before .before .before .pre .1) (omega arith) (c .no-pieces .ensures) (omega arith)
 
 mul-short : tie.Need-mul-short
 mul-short c = search needs
@@ -42,14 +42,15 @@ returns-2 : tie.Need-returns-2
 returns-2 c =
     let a = c .before .before .before .before .before .before .before .args in
     let long : length (a .list .pieces) ≡ 512 = search needs in
-    cut-yes (a .w) (a .list) (omega arith) (c .before .before .before .before .before .before .before .pre .1 .stops) (c .before .before .before .before .before .before .before .pre .1 .taken) (c .rest .ensures) (omega arith) (omega arith)
+    cut-yes (c .before .before .before .before .before .before .before .pre .1) (omega arith) (c .rest .ensures) (omega arith) (omega arith)
 
 sub-shortened : tie.Need-sub-shortened
 sub-shortened c = search needs
 
 cast-shortened : tie.Need-cast-shortened
 cast-shortened c =
-    let b : Fits w16 (getD (c .before .before .before .before .before .before .args .list .pieces) (c .before .before .before .before .before .before .args .k .list .count) 0) = search needs in
+    let a = c .before .before .before .before .before .before .args in
+    let b : Fits w16 (getD (a .list .pieces) (a .k .list .count) 0) = search needs in
     omega arith
 
 shortened-requires : tie.Need-shortened-requires
@@ -59,7 +60,7 @@ returns-3 : tie.Need-returns-3
 returns-3 c =
     let a = c .before .before .before .before .before .before .before .args in
     let long : length (a .list .pieces) ≡ 512 = search needs in
-    cut-no (a .w) (a .list) (omega arith) (c .before .before .before .before .before .before .before .pre .1 .stops) (c .before .before .before .before .before .before .before .pre .1 .taken) (c .shortened .ensures) (omega arith) (λ z. omega arith)
+    cut-no (c .before .before .before .before .before .before .before .pre .1) (omega arith) (c .shortened .ensures) (omega arith) (λ z. omega arith)
 
 pub close-cut-spec : {M : Type 1} → statement M
 close-cut-spec =

@@ -4,20 +4,19 @@ use native.Mathlib.Omega.{arith}
 use borrow.Author.Needs.{needs}
 use mir.Val.{Fits}
 use mir.Syntax.{w16}
-use lib.ListN.{length, take, getD}
-use Rattle.common.specs.Arrays.{padded}
-use Rattle.splits.proofs.Reach.{Goes, goes-first, goes-on, goes-stops, stores, stored}
+use lib.ListN.{length, getD}
+use Rattle.splits.proofs.Reach.{Takes, takes-first, takes-on, takes-stops}
 use Rattle.splits.proofs.cut.take_pieces.Statement.{statement}
 use Rattle.splits.proofs.cut.take_pieces.Tie as tie
 
 abbrev Inv-loop : tie.InvT-loop
-Inv-loop w n s end out₀ i₀ pos₀ out i pos = (end ≡ w) × ((out ≡ padded (take i (take n s))) × Goes 1 w n s i pos)
+Inv-loop w n s end out₀ i₀ pos₀ out i pos = (end ≡ w) × Takes w n s i pos out
 
 abbrev μ-loop : tie.MeasureT-loop
 μ-loop w n s end out₀ i₀ pos₀ out i pos = n - i
 
 loop-holds : tie.Need-loop-holds Inv-loop μ-loop
-loop-holds c = (search needs, (search needs, goes-first _ _ _ _))
+loop-holds c = (search needs, takes-first _ _ _)
 
 mul-piece : tie.Need-mul-piece Inv-loop μ-loop
 mul-piece c = search needs
@@ -37,9 +36,7 @@ returns : tie.Need-returns Inv-loop μ-loop
 returns c =
     let a = c .before .before .before .before .args in
     let long : length (a .list .pieces) ≡ 512 = search needs in
-    let k = c .before .before .loop in
-    let at = goes-stops 1 (a .w) (a .list .count) (a .list .pieces) (omega arith) (k .i) (k .pos) (k .inv .1 .1) (λ _. omega arith) in
-    record { stops = at; taken = stored (a .w) (a .list .count) (a .list .pieces) (omega arith) (omega arith) (k .i) (k .inv .1 .0) at }
+    takes-stops (a .list) (c .before .before .loop .inv .1) (omega arith) (λ _. omega arith)
 
 mul-out : tie.Need-mul-out Inv-loop μ-loop
 mul-out c = search needs
@@ -61,15 +58,13 @@ loop-again c =
     let a = c .before .before .before .before .args in
     let long : length (a .list .pieces) ≡ 512 = search needs in
     let k = c .before .before .loop in
-    (k .inv .0, (stores (a .w) (a .list .count) (a .list .pieces) (omega arith) (omega arith) (k .i) (k .inv .1 .0) (omega arith), goes-on 1 (a .w) (a .list .count) (a .list .pieces) (omega arith) (k .i) (k .pos) (k .inv .1 .1) _ (omega arith) (omega arith) (omega arith) (omega arith)))
+    (k .inv .0, takes-on (k .inv .1) (omega arith) (omega arith) (omega arith) (omega arith) _ (omega arith))
 
 returns-2 : tie.Need-returns-2 Inv-loop μ-loop
 returns-2 c =
     let a = c .before .before .before .args in
     let long : length (a .list .pieces) ≡ 512 = search needs in
-    let k = c .before .loop in
-    let at = goes-stops 1 (a .w) (a .list .count) (a .list .pieces) (omega arith) (k .i) (k .pos) (k .inv .1 .1) (λ h. omega arith) in
-    record { stops = at; taken = stored (a .w) (a .list .count) (a .list .pieces) (omega arith) (omega arith) (k .i) (k .inv .1 .0) at }
+    takes-stops (a .list) (c .before .loop .inv .1) (omega arith) (λ h. omega arith)
 
 pub take-pieces-spec : {M : Type 1} → statement M
 take-pieces-spec =

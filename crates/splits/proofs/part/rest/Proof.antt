@@ -1,12 +1,10 @@
-use mathlib.Core.Path.{_≡_, ap, _∙_, sym}
-use Prim.Native.Nat.{ℕ, _-_, _≤_}
+use mathlib.Core.Path.{_≡_}
+use Prim.Native.Nat.{_-_, _≤_}
 use native.Mathlib.Omega.{arith}
 use borrow.Author.Needs.{needs}
-use lib.ListN.{length, take, drop, length-drop}
-use lib.Seq.{length-take-le}
+use lib.ListN.{length, take, drop}
 use Rattle.common.specs.Arrays.{padded}
-use Rattle.splits.specs.Lists.{listOf}
-use Rattle.splits.proofs.Lists.{split-list, rest-is, store-rest}
+use Rattle.splits.proofs.Lists.{rest-step, rest-done}
 use Rattle.splits.proofs.part.rest.Statement.{statement}
 use Rattle.splits.proofs.part.rest.Tie as tie
 
@@ -48,7 +46,7 @@ loop-again c =
     let a = c .before .before .before .before .args in
     let k = c .before .loop in
     let long : length (a .list .pieces) ≡ 512 = search needs in
-    (omega arith, rw (k .inv .1) (store-rest (a .list .pieces) (a .from) (k .i) (omega arith) (omega arith)))
+    (omega arith, rest-step (a .list .pieces) (a .from) (k .i) (k .inv .1) (omega arith) (omega arith))
 
 returns : tie.Need-returns Inv-loop μ-loop
 returns c =
@@ -56,9 +54,7 @@ returns c =
     let k = c .before .loop in
     let long : length (a .list .pieces) ≡ 512 = search needs in
     let i : k .i ≡ a .list .count - a .from = omega arith in
-    let e : drop (a .from) (listOf (a .list)) ≡ take (a .list .count - a .from) (drop (a .from) (a .list .pieces)) = rest-is (a .list .pieces) (a .from) (a .list .count) (omega arith) (omega arith) in
-    let l : length (drop (a .from) (listOf (a .list))) ≡ a .list .count - a .from = length-drop (a .from) (listOf (a .list)) ∙ ap (λ (m : ℕ). m - a .from) (length-take-le (a .list .count) (a .list .pieces) (omega arith)) in
-    split-list (drop (a .from) (listOf (a .list))) (k .inv .1 ∙ ap padded (ap (λ (m : ℕ). take m (drop (a .from) (a .list .pieces))) i ∙ sym e)) l
+    rest-done (a .list) (a .from) (a .list .count - a .from) (rw i at (k .inv .1)) (omega arith) (omega arith)
 
 pub rest-spec : {M : Type 1} → statement M
 rest-spec =
