@@ -20,3 +20,6 @@ pub mod Held
 pub mod Allotted
 pub mod Cores
 pub mod Inputs
+pub mod Given
+pub mod Recorded
+pub mod Arrays

@@ -6,3 +6,4 @@ pub mod Collecting
 pub mod Allotting
 pub mod Input
 pub mod Core
+pub mod Records

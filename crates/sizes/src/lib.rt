@@ -3,6 +3,7 @@ mod allot;
 mod axis;
 mod lists;
 mod natural;
+pub mod records;
 pub mod sharing;
 pub mod text;
 

@@ -1,0 +1,120 @@
+// The size records in a list that the caller lends.
+use super::Core;
+use super::measure_tree;
+ghost use mathlib.Core.Path.{_≡_};
+ghost use Prim.Native.Nat.{_≤_};
+ghost use mathlib.Core.List.{_++_};
+ghost use lib.ListN.{length, take, drop, replicate};
+ghost use Rattle.sizes.specs.Input.{inputOf};
+ghost use Rattle.sizes.specs.Records.{Outcome, collectOf, noRecord, recordsOf, planOf, refusedPlan};
+
+// A node's natural and allotted size.
+pub struct SizeRecord {
+    pub natural_width: u16,
+    pub natural_height: u16,
+    pub width: u16,
+    pub height: u16,
+}
+
+// Number 0 and the node count, or a refusal.
+pub struct Collected {
+    pub number: u8,
+    pub count: usize,
+}
+
+// What is to be answered, and the sizes to write: none after a refusal.
+pub struct Plan {
+    pub answer: Collected,
+    pub core: Core,
+}
+
+fn no_records() -> [SizeRecord; 512]
+    ensures { λ r. ⌜ r ≡ replicate 512 noRecord ⌝ }
+{
+    let none = SizeRecord {
+        natural_width: 0,
+        natural_height: 0,
+        width: 0,
+        height: 0,
+    };
+    [none; 512]
+}
+
+// The records of the core's nodes, and zeros after them.
+fn records_of(core: Core) -> [SizeRecord; 512]
+    requires { ⌜ core .count ≤ 512 ⌝ }
+    ensures { λ r. ⌜ r ≡ recordsOf core ⌝ }
+{
+    let a = core.natural_widths;
+    let b = core.natural_heights;
+    let c = core.widths;
+    let d = core.heights;
+    let mut list = no_records();
+    let mut i: usize = 0;
+    while i < core.count {
+        list[i] = SizeRecord {
+            natural_width: a[i],
+            natural_height: b[i],
+            width: c[i],
+            height: d[i],
+        };
+        i = i + 1;
+    }
+    list
+}
+
+fn refused_plan(number: u8) -> Plan
+    ensures { λ r. ⌜ r ≡ refusedPlan number ⌝ }
+{
+    let core = super::no_sizes();
+    Plan {
+        answer: Collected {
+            number: number,
+            count: 0,
+        },
+        core: core,
+    }
+}
+
+// 1, then 2 to 5, then 8 where a list of `len` entries is too short.
+fn plan_sizes(settings: &[u8], tree: &[u8], len: usize) -> Plan
+    ensures { λ r. ⌜ r ≡ planOf (inputOf (now (settings .entry)) (now (tree .entry))) len ⌝ }
+{
+    let m = measure_tree(settings, tree);
+    if m.number != 0 {
+        return refused_plan(m.number);
+    }
+    let core = m.core;
+    if len < core.count {
+        return refused_plan(8);
+    }
+    Plan {
+        answer: Collected {
+            number: 0,
+            count: core.count,
+        },
+        core: core,
+    }
+}
+
+// The first n records go to the front of the list; the rest of it stays.
+fn write_sizes(list: &mut [SizeRecord], records: [SizeRecord; 512], n: usize)
+    requires { ⌜ (n ≤ 512) × (n ≤ length (now list)) ⌝ }
+    ensures { λ _. ⌜ now (list .exit) ≡ take n records ++ drop n (now (list .entry)) ⌝ }
+{
+    let mut i: usize = 0;
+    while i < n {
+        list[i] = records[i];
+        i = i + 1;
+    }
+}
+
+// The size collector: the node count, with a record for each node in the list, or a refusal, which writes nothing. The list is never read.
+pub fn collect_sizes(settings: &[u8], tree: &[u8], list: &mut [SizeRecord]) -> Collected
+    ensures { λ r. ⌜ record { answer = r; list = now (list .exit) } ≡ collectOf (inputOf (now (settings .entry)) (now (tree .entry))) (now (list .entry)) ⌝ }
+{
+    let p = plan_sizes(settings, tree, list.len());
+    let records = records_of(p.core);
+    write_sizes(list, records, p.answer.count);
+    p.answer
+}
