@@ -6,8 +6,8 @@ use native.Mathlib.Numerals.{add-one}
 use native.Mathlib.Omega.{arith}
 use mathlib.Core.Bool.{Bool, true, false}
 use lib.Dec.{ltb}
-use lib.ListN.{length, getD, take, drop, set, replicate, length-append, length-drop, length-map, length-replicate, List·getD-map, List·getD-append}
-use lib.Seq.{drop-cons, set-at, take-suc, take-at, take-length, length-take-le}
+use lib.ListN.{length, drop-of-length-le, getD, take, drop, set, replicate, length-append, length-drop, length-map, length-replicate, List·getD-map, List·getD-append}
+use lib.Seq.{drop-cons, set-at, take-suc, take-at, take-all, take-length, length-take-le}
 use borrow.Author.Tests.{lt-ltb, le-ltb, ltb-false}
 use Rattle.common.specs.Choice.{pick}
 use Rattle.common.specs.Arrays.{padded}
@@ -20,7 +20,7 @@ use Rattle.sizes.specs.declared.records.Plan.{Plan}
 use Rattle.sizes.specs.Sizes.{Sizes, treeSizes}
 use Rattle.sizes.specs.Input.{Input, refused, given, inputOf}
 use Rattle.sizes.specs.Core.{coreOf, measuredOf}
-use Rattle.sizes.specs.Records.{recordOf, Outcome, refusal, collectOf, noRecord, recordAt, records, recordsOf, refusedPlan, planOf}
+use Rattle.sizes.specs.Records.{recordOf, Outcome, refusal, collectOf, noRecord, recordAt, records, recordsOf, refusedPlan, planOf, lentOf}
 use Rattle.sizes.proofs.Within.{tree-sizes-length}
 use Rattle.sizes.proofs.Given.{takes, Accepts, accepts, refuses}
 
@@ -160,3 +160,8 @@ module _ (bs ts : List ℕ) (m : Measured) (e : m ≡ measuredOf (inputOf bs ts)
 
     pub plan-made : m .core .count ≤ len → record { answer = record { number = 0; count = m .core .count }; core = m .core } ≡ planOf (inputOf bs ts) len
     plan-made k = made (m .settings) (known .tree) (m .core) len (known .core) (omega (arith, count-is)) ∙ ap (λ (x : Input). planOf x len) (sym (known .input))
+
+-- ---- all of a list lent
+
+pub lent-all : (x : Input) (l : List SizeRecord) (room : ℕ) → length l ≤ 512 → 512 < room → lentOf x l 512 ≡ lentOf x l room
+lent-all x l room h k = rw (take-all room l (omega arith), take-all 512 l h, drop-of-length-le l {i = room} (omega arith), drop-of-length-le l {i = 512} h)

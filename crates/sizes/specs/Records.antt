@@ -2,12 +2,13 @@
 use Prim.Native.Nat.{ℕ, zero, suc, _-_}
 use mathlib.Core.List.{List, [], _∷_, _++_, map}
 use lib.Dec.{ltb}
-use lib.ListN.{length, getD, drop, replicate}
+use lib.ListN.{length, getD, take, drop, replicate}
 use Rattle.common.specs.Choice.{pick}
 use Rattle.tree.specs.Tree.{nodes}
 use Rattle.sizes.specs.declared.Core.{Core}
 use Rattle.sizes.specs.declared.records.SizeRecord.{SizeRecord}
 use Rattle.sizes.specs.declared.records.Collected.{Collected}
+use Rattle.sizes.specs.declared.records.Lent.{Lent}
 use Rattle.sizes.specs.declared.records.Plan.{Plan}
 use Rattle.sizes.specs.Sizes.{Sizes, treeSizes}
 use Rattle.sizes.specs.Input.{Input, refused, given}
@@ -32,6 +33,13 @@ collectOf (refused k) l = record { answer = refusal k; list = l }
 collectOf (given s t) l =
     pick (ltb (length l) (nodes t)) (record { answer = refusal 8; list = l })
     (record { answer = record { number = 0; count = nodes t }; list = map recordOf (treeSizes s t) ++ drop (nodes t) l })
+
+-- with the first `room` entries of a list lent, and the rest after them
+abbrev pub before : Outcome → List SizeRecord → Lent
+before o rest = record { answer = o .answer; list = o .list ++ rest }
+
+abbrev pub lentOf : Input → List SizeRecord → ℕ → Lent
+lentOf x l room = before (collectOf x (take room l)) (drop room l)
 
 -- ---- as the code has it
 

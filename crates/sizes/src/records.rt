@@ -6,7 +6,7 @@ ghost use Prim.Native.Nat.{_≤_};
 ghost use mathlib.Core.List.{_++_};
 ghost use lib.ListN.{length, take, drop, replicate};
 ghost use Rattle.sizes.specs.Input.{inputOf};
-ghost use Rattle.sizes.specs.Records.{Outcome, collectOf, noRecord, recordsOf, planOf, refusedPlan};
+ghost use Rattle.sizes.specs.Records.{Outcome, collectOf, noRecord, recordsOf, planOf, refusedPlan, lentOf};
 
 // A node's natural and allotted size.
 pub struct SizeRecord {
@@ -20,6 +20,12 @@ pub struct SizeRecord {
 pub struct Collected {
     pub number: u8,
     pub count: usize,
+}
+
+// What the collector answers, and the list afterwards.
+pub struct Lent {
+    pub answer: Collected,
+    pub list: [SizeRecord; 512],
 }
 
 // What is to be answered, and the sizes to write: none after a refusal.
@@ -117,4 +123,27 @@ pub fn collect_sizes(settings: &[u8], tree: &[u8], list: &mut [SizeRecord]) -> C
     let records = records_of(p.core);
     write_sizes(list, records, p.answer.count);
     p.answer
+}
+
+// The collector over the first n entries of a list of its own.
+fn lend_front(settings: &[u8], tree: &[u8], list: [SizeRecord; 512], n: usize) -> Lent
+    requires { ⌜ n ≤ 512 ⌝ }
+    ensures { λ r. ⌜ r ≡ lentOf (inputOf (now (settings .entry)) (now (tree .entry))) list n ⌝ }
+{
+    let mut lent = list;
+    let answer = collect_sizes(settings, tree, &mut lent[..n]);
+    Lent {
+        answer: answer,
+        list: lent,
+    }
+}
+
+// The same with plain parameters: the first `room` entries are lent, or all 512. Callers need no proof by hand.
+pub fn collect_in(settings: &[u8], tree: &[u8], list: [SizeRecord; 512], room: usize) -> Lent
+    ensures { λ r. ⌜ r ≡ lentOf (inputOf (now (settings .entry)) (now (tree .entry))) list room ⌝ }
+{
+    if 512 < room {
+        return lend_front(settings, tree, list, 512);
+    }
+    lend_front(settings, tree, list, room)
 }
