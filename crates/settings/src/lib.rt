@@ -85,7 +85,7 @@ impl Settings {
     }
 
     // What a refusal holds.
-    fn blank() -> Self
+    pub fn blank() -> Self
         ensures { λ r. ⌜ r ≡ blank ⌝ }
     {
         Settings {

@@ -23,3 +23,4 @@ pub mod Inputs
 pub mod Given
 pub mod Recorded
 pub mod Arrays
+pub mod Written

@@ -1,17 +1,14 @@
 // Natural and allotted sizes of a tree's nodes.
 mod allot;
 mod axis;
-mod lists;
+pub mod lists;
 mod natural;
 pub mod records;
 pub mod sharing;
 pub mod text;
 
-use settings::Alignment;
-use settings::Priority;
 use settings::Settings;
 ghost use mathlib.Core.Path.{_≡_};
-ghost use Rattle.settings.specs.Reading.{blank};
 ghost use Rattle.sizes.specs.Input.{inputOf};
 ghost use Rattle.sizes.specs.Core.{noCore, coreOf, measuredOf, refusedWith, ReadyRoot};
 
@@ -37,25 +34,6 @@ pub struct Measured {
     pub core: Core,
 }
 
-// What a refusal holds in place of settings.
-fn no_settings() -> Settings
-    ensures { λ r. ⌜ r ≡ blank ⌝ }
-{
-    Settings {
-        marks: [0u8; 15],
-        left: 0,
-        right: 0,
-        top: 0,
-        bottom: 0,
-        fills: [0u8; 4],
-        horizontal: Alignment::Start,
-        vertical: Alignment::Start,
-        line_mode: false,
-        width_priority: Priority::First,
-        height_priority: Priority::First,
-    }
-}
-
 fn no_sizes() -> Core
     ensures { λ r. ⌜ r ≡ noCore ⌝ }
 {
@@ -72,7 +50,7 @@ fn no_sizes() -> Core
 fn refused(number: u8) -> Measured
     ensures { λ r. ⌜ r ≡ refusedWith number ⌝ }
 {
-    let s = no_settings();
+    let s = Settings::blank();
     let core = no_sizes();
     Measured {
         number: number,
