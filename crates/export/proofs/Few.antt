@@ -6,7 +6,7 @@ use Rattle.sizes.specs.declared.Core.{Core}
 use Rattle.sizes.specs.declared.Measured.{Measured}
 use Rattle.sizes.specs.Input.{inputOf}
 use Rattle.sizes.specs.Core.{coreOf, measuredOf}
-use Rattle.leaf.proofs.Given.{accepts, takes}
+use Rattle.sizes.proofs.Given.{accepts, takes}
 
 pub few-nodes : (bs ts : List ℕ) (m : Measured) → m ≡ measuredOf (inputOf bs ts) → m .number ≡ 0 → m .core .count ≤ 512
 unfolding coreOf

@@ -26,7 +26,7 @@ use Rattle.leaf.specs.Walking.{coreLists, noFound, ReadyTree, WalksTree}
 use Rattle.leaf.specs.Answers.{tooLarge, numbered, noRecord, recordOf, recordFound, foundRecord, leafRecordOf, largeOf}
 use Rattle.leaf.proofs.Fit.{LeafFits, leaves-fit}
 use Rattle.leaf.proofs.Named.{leaves-rise}
-use Rattle.leaf.proofs.Given.{Takes, takes, Accepts, accepts, refuses}
+use Rattle.sizes.proofs.Given.{Takes, takes, Accepts, accepts, refuses}
 use Rattle.leaf.proofs.Held.{lists-held}
 use Rattle.leaf.proofs.Seek.{keptOf, keep-numbered}
 

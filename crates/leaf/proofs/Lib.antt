@@ -14,6 +14,5 @@ mod Held
 mod Visits
 pub mod Seek
 mod Roots
-pub mod Given
 pub mod Calls
 pub mod Prints

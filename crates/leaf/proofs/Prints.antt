@@ -34,7 +34,7 @@ use Rattle.leaf.specs.Answers.{tooLarge, numbered, Prints, noPrint, prin
 use Rattle.leaf.proofs.Fit.{LeafFits, leaves-fit}
 use Rattle.leaf.proofs.Entries.{Listed, numbered-listed}
 use Rattle.leaf.proofs.Named.{leaves-numbered, leaves-rise}
-use Rattle.leaf.proofs.Given.{Takes, refuses}
+use Rattle.sizes.proofs.Given.{Takes, refuses}
 use Rattle.leaf.proofs.Calls.{jobOf, call, call-takes, call-large, call-ready, call-walks, block-no-sheet}
 use Rattle.leaf.proofs.Seek.{keptOf, keep-numbered, shownOf, show-numbered}
 

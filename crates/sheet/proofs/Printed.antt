@@ -32,7 +32,7 @@ use Rattle.leaf.proofs.Laid.{root-laid}
 use Rattle.leaf.proofs.Fit.{LeafFits, leaves-fit}
 use Rattle.leaf.proofs.Inside.{Inside, laid-inside, room-inside}
 use Rattle.leaf.proofs.Narrow.{HasWidth}
-use Rattle.leaf.proofs.Given.{refuses}
+use Rattle.sizes.proofs.Given.{refuses}
 use Rattle.leaf.proofs.Calls.{large-is, tree-ready, call, call-takes}
 use Rattle.sheet.specs.declared.Plan.{Plan}
 use Rattle.sheet.specs.Sheet.{sheet}
