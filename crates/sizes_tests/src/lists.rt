@@ -1,0 +1,71 @@
+// A call of the collector, and its list afterwards: each run of equal entries in one line.
+use crate::tell;
+use sizes::records::SizeRecord;
+
+// What the list is made of before a call.
+fn made_of() -> SizeRecord {
+    SizeRecord {
+        natural_width: 9,
+        natural_height: 9,
+        width: 9,
+        height: 9,
+    }
+}
+
+fn same(a: SizeRecord, b: SizeRecord) -> bool {
+    if a.natural_width != b.natural_width {
+        return false;
+    }
+    if a.natural_height != b.natural_height {
+        return false;
+    }
+    if a.width != b.width {
+        return false;
+    }
+    a.height == b.height
+}
+
+// Entries `first` to `last`: natural width and height, allotted width and height.
+fn show(first: usize, last: usize, z: SizeRecord) {
+    tell::number(first);
+    if first < last {
+        tell::text(b" to ");
+        tell::number(last);
+    }
+    tell::text(b": ");
+    tell::next(z.natural_width);
+    tell::next(z.natural_height);
+    tell::next(z.width);
+    tell::number(common::wide16(z.height));
+    tell::text(b"\n");
+}
+
+fn show_runs(list: [SizeRecord; 512]) {
+    let mut first: usize = 0;
+    let mut run = list[0];
+    let mut i: usize = 1;
+    while i < 512 {
+        let z = list[i];
+        if !same(z, run) {
+            show(first, i - 1, run);
+            first = i;
+            run = z;
+        }
+        i = i + 1;
+    }
+    show(first, 511, run);
+}
+
+pub fn lend(settings: &[u8], tree: &[u8], room: usize) {
+    let z = made_of();
+    let before = [z; 512];
+    let r = sizes::records::collect_in(settings, tree, before, room);
+    tell::number(room);
+    tell::text(b" lent: number ");
+    tell::number(common::wide(r.answer.number));
+    tell::text(b", count ");
+    tell::number(r.answer.count);
+    tell::text(b"\n");
+    let list = r.list;
+    show_runs(list);
+}
