@@ -6,7 +6,7 @@ ghost use Prim.Native.Nat.{_≤_};
 ghost use mathlib.Core.List.{_++_};
 ghost use lib.ListN.{length, take, drop, replicate};
 ghost use Rattle.sizes.specs.Input.{inputOf};
-ghost use Rattle.sizes.specs.Records.{Outcome, collectOf, noRecord, recordsOf, planOf, refusedPlan, lentOf};
+ghost use Rattle.sizes.specs.Records.{collectOf, noRecord, recordsOf, planOf, refusedPlan, lentOf};
 
 // A node's natural and allotted size.
 pub struct SizeRecord {
@@ -69,6 +69,7 @@ fn records_of(core: Core) -> [SizeRecord; 512]
     list
 }
 
+// A refusal writes nothing.
 fn refused_plan(number: u8) -> Plan
     ensures { λ r. ⌜ r ≡ refusedPlan number ⌝ }
 {

@@ -1,6 +1,6 @@
 // The size collector against document 01. The cases are the lines of standard input (the file `stdin`); after each call the whole list is
-// shown, so that the file `stdout` has the numbers, worked out by hand. A line is a letter, a space and its contents:
-//   # a title, which is echoed     - how the numbers were worked out
+// shown, so that the file `stdout` has the numbers that document 01 gives. A line is a letter, a space and its contents:
+//   # a title, which is echoed     - how the numbers follow from document 01
 //   = the settings' bytes          : the tree's bytes          + N, a space, bytes: these go on the tree N times
 //   l N: the collector is called with the first N entries of a list lent
 mod lines;

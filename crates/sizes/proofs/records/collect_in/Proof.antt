@@ -6,19 +6,10 @@ use borrow.Author.Needs.{needs}
 use Rattle.sizes.proofs.records.collect_in.Statement.{statement}
 use Rattle.sizes.proofs.records.collect_in.Tie as tie
 
-lend-front-requires : tie.Need-lend-front-requires
-lend-front-requires c κs = search needs
-
 returns : tie.Need-returns
 returns c =
     let long : length (c .before .before .before .before .args .list) ≡ 512 = search needs in
     c .lend-front .ensures ∙ lent-all _ _ _ (omega arith) (c .before .if1 .taken)
 
-lend-front-requires-2 : tie.Need-lend-front-requires-2
-lend-front-requires-2 c κs = search needs
-
-returns-2 : tie.Need-returns-2
-returns-2 c = search needs
-
 pub collect-in-spec : {M : Type 1} → statement M
-collect-in-spec = tie.close (tie.spec lend-front-requires returns lend-front-requires-2 returns-2)
+collect-in-spec = tie.close (tie.spec (λ c κs. search needs) returns (λ c κs. search needs) (λ c. search needs))

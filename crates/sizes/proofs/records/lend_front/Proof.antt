@@ -63,11 +63,11 @@ use Rattle.sizes.proofs.records.collect_sizes.Symbol as col-def
 use Rattle.sizes.proofs.records.collect_sizes.Symbol.{name as #collect}
 use Rattle.sizes.proofs.records.collect_sizes.Met as col-thm
 use Rattle.sizes.proofs.records.lend_front.Key.{name as #lend-front}
-use Rattle.sizes.proofs.records.lend_front as len
+use Rattle.sizes.proofs.records.lend_front as lend
 use Rattle.sizes.proofs.records.lend_front.Statement as stated
 use Rattle.sizes.proofs.records.lend_front.Code as code
 
-abbrev stayed : Stays (len.ended .signature .params) (len.ended .kept)
+abbrev stayed : Stays (lend.ended .signature .params) (lend.ended .kept)
 stayed = (stay-none-slice (0 ∷ []) tt (plain (λ _. u8)) yes, (stay-none-slice (1 ∷ []) tt (plain (λ _. u8)) yes, (stay-none (λ _. AR) yes, (stay-none (λ _. usize) yes, tt))))
 
 -- the contract that the proof cites
@@ -126,12 +126,12 @@ module _ {M : Type 1} (𝓤 : URA M) (H : Heap 𝓤) (A : Atoms 𝓤) (W : Given
   at = (vc ∷ [], (vt ∷ [], (mach-l ys ∷ [], (vint w64 n ∷ [], tt))))
 
   abbrev Post : Val → SProp 𝓤
-  Post = walkOf 𝓤 H A len.ended stayed (len.clauses 𝓤 H A at-mem run) .post (((κ, (κ′, tt)), (q, (q′, tt)), tt, x, at), tt)
+  Post = walkOf 𝓤 H A lend.ended stayed (lend.clauses 𝓤 H A at-mem run) .post (((κ, (κ′, tt)), (q, (q′, tt)), tt, x, at), tt)
 
   exits : (r : Lent) → r ≡ lentOf (inputOf (c .now) (t .now)) ys n → Is TL.the-row r (mach-r r ∷ []) → ent 𝓤 (⋆ 𝓤 H A (‵ (flft κ q) ∷ ‵ (flft κ′ q′) ∷ ‵ Set ∷ ‵ Tree ∷ [])) (Post (mach-r r))
   exits r e is =
       qed W (‵ (flft κ q) ∷ ‵ (flft κ′ q′) ∷ ‵ Set ∷ ‵ Tree ∷ []) ∵
-      suffices ! _ (ends-at 𝓤 H A len.ended stayed (len.clauses 𝓤 H A at-mem run) W (((κ, (κ′, tt)), (q, (q′, tt)), tt, x, at), tt) (mach-r r) r (tt, (tt, (tt, (tt, tt)))) (tt, (tt, (tt, (tt, tt))))) $ says ! e $
+      suffices ! _ (ends-at 𝓤 H A lend.ended stayed (lend.clauses 𝓤 H A at-mem run) W (((κ, (κ′, tt)), (q, (q′, tt)), tt, x, at), tt) (mach-r r) r (tt, (tt, (tt, (tt, tt)))) (tt, (tt, (tt, (tt, tt))))) $ says ! e $
       nothing ! $ move ! (2 ∷ 0 ∷ []) $ join ! $ move ! (1 ∷ 0 ∷ []) $ join ! $ frame ! $
       nothing ! $ owned ! usize (Is usize) (uint-makes 𝓤 H A W w64) n _ (refl, n-fits) $ fjoin ! $ owned ! AR (Is AR) (array-makes 𝓤 H A W R ((LL.makes T.the-type T′.the-plain) 𝓤 H A) 512) ys _ gy $ fjoin ! $
       move ! (2 ∷ 0 ∷ []) $ fjoin ! $ move ! (1 ∷ 0 ∷ []) $ fjoin ! $ owned ! TL.the-row (Is TL.the-row) ((LL.makes TL.the-type TL′.the-plain) 𝓤 H A) r _ is $ move ! (1 ∷ 0 ∷ []) $ done !
@@ -160,7 +160,7 @@ module _ {M : Type 1} (𝓤 : URA M) (H : Heap 𝓤) (A : Atoms 𝓤) (W : Given
   Met r zs = record { answer = r; list = zs } ≡ collectOf (inputOf (c .now) (t .now)) front
 
   module _ (C : Calls 𝓤 H) (Λ : Loops 𝓤 H) (fm : FmC 𝓤 H (W .laws) C) (known : Triple 𝓤 (C #collect) (CollectSizes 𝓤 H A at-mem run)) where
-    walk : ent 𝓤 (onEntry 𝓤 H A len.signature (κ, (κ′, tt)) (q, (q′, tt)) x at) (WpFn 𝓤 H C Λ code.function (vc ∷ vt ∷ mach-l ys ∷ vint w64 n ∷ []) Post)
+    walk : ent 𝓤 (onEntry 𝓤 H A lend.signature (κ, (κ′, tt)) (q, (q′, tt)) x at) (WpFn 𝓤 H C Λ code.function (vc ∷ vt ∷ mach-l ys ∷ vint w64 n ∷ []) Post)
     walk =
         qed W ((‵ (flft κ q) ⊛ ‵ (flft κ′ q′) ⊛ ‵ ftrue) ∷ ‵ (owns (ShrSlice (named 0) κ u8 ∷ ShrSlice (named 1) κ′ u8 ∷ AR ∷ usize ∷ []) x at) ∷ []) ∵ enter ! C Λ code.function (vc ∷ vt ∷ mach-l ys ∷ vint w64 n ∷ []) _ $
         alloc1 ! (λ l₀. alloc1 ! (λ l₁. alloc1 ! (λ l₂. alloc1 ! (λ l₃. alloc1 ! (λ l₄. alloc1 ! (λ l₅. alloc1 ! (λ l₆. alloc1 ! (λ l₇. alloc1 ! (λ l₈. alloc1 ! (λ l₉. alloc0 ! $ params1 ! $
@@ -208,14 +208,14 @@ module _ {M : Type 1} (𝓤 : URA M) (H : Heap 𝓤) (A : Atoms 𝓤) (W : Given
         keep ! (2 ∷ 1 ∷ 7 ∷ 5 ∷ []) $ by ! (exits rl (ap (λ (o : Outcome). before o rest) e) il))))))))))))))))))))
 
 module _ {M : Type 1} (𝓤 : URA M) (H : Heap 𝓤) (A : Atoms 𝓤) (W : Given 𝓤 H A) (at-mem : Memory → SProp 𝓤) (run : Routine → Fun 𝓤) (𝓣 : Tables 𝓤 H) (known : Triple 𝓤 (𝓣 .C #collect) (CollectSizes 𝓤 H A at-mem run)) where
-  walks : Walks 𝓤 H A len.ended stayed (WpFn 𝓤 H (𝓣 .C) (𝓣 .Λ) code.function) (len.clauses 𝓤 H A at-mem run)
-  walks = walked 𝓤 H A len.ended stayed (len.clauses 𝓤 H A at-mem run) (WpFn 𝓤 H (𝓣 .C) (𝓣 .Λ) code.function)
+  walks : Walks 𝓤 H A lend.ended stayed (WpFn 𝓤 H (𝓣 .C) (𝓣 .Λ) code.function) (lend.clauses 𝓤 H A at-mem run)
+  walks = walked 𝓤 H A lend.ended stayed (lend.clauses 𝓤 H A at-mem run) (WpFn 𝓤 H (𝓣 .C) (𝓣 .Λ) code.function)
       (λ κs. (slice-vals, (slice-vals, (array-vals (LL.vals T.the-type T′.the-laws), (uint-vals w64, tt)))))
       (λ κs. (shr-slice-tells (named 0) (κs .0) u8, (shr-slice-tells (named 1) (κs .1 .0) u8, (array-tells R (LL.vals T.the-type T′.the-laws) (LL.tells T.the-type T′.the-laws) 512, (uint-tells w64, tt)))))
       (λ κs qs bounds a g are. needs 𝓤 (a .1 .1 .1 .0 ≤ 512) _ (λ few.
       walk 𝓤 H A W at-mem run (κs .0) (κs .1 .0) (qs .0) (qs .1 .0) (a .0) (a .1 .0) (a .1 .1 .0) (a .1 .1 .1 .0) (are .0 .0 .1) (are .1 .0 .0 .1) (are .1 .1 .0) few (𝓣 .C) (𝓣 .Λ) (fmOf 𝓤 H (W .laws) 𝓣) known))
 
-  goes : AllGo 𝓤 H A W 2 (len.signature .params) (len.ended .kept) stayed
+  goes : AllGo 𝓤 H A W 2 (lend.signature .params) (lend.ended .kept) stayed
   goes = (
     goes-none-slice 𝓤 H A W 2 (0 ∷ []) tt (plain (λ _. u8)) yes,
     (
@@ -224,13 +224,13 @@ module _ {M : Type 1} (𝓤 : URA M) (H : Heap 𝓤) (A : Atoms 𝓤) (W : Given
     ),
   )
 
-  meets : Meets 𝓤 H A len.signature (WpFn 𝓤 H (𝓣 .C) (𝓣 .Λ) code.function) (len.spec 𝓤 H A at-mem run)
-  meets = walk-meets 𝓤 H A len.ended stayed W goes (len.clauses 𝓤 H A at-mem run) (WpFn 𝓤 H (𝓣 .C) (𝓣 .Λ) code.function) (WpFn-mono 𝓤 H (W .laws) 𝓣 code.function) walks
+  meets : Meets 𝓤 H A lend.signature (WpFn 𝓤 H (𝓣 .C) (𝓣 .Λ) code.function) (lend.spec 𝓤 H A at-mem run)
+  meets = walk-meets 𝓤 H A lend.ended stayed W goes (lend.clauses 𝓤 H A at-mem run) (WpFn 𝓤 H (𝓣 .C) (𝓣 .Λ) code.function) (WpFn-mono 𝓤 H (W .laws) 𝓣 code.function) walks
 
 pub lend-front-spec : {M : Type 1} → stated.statement M
 unfolding code.routine tablesOf
 lend-front-spec 𝓤 H 𝓜 𝓖 𝓡 =
-    entered 𝓤 H (tripleOf 𝓤 H (𝓖 .A) len.signature (len.spec 𝓤 H (𝓖 .A) (𝓜 .mem) (𝓡 .run)))
+    entered 𝓤 H (tripleOf 𝓤 H (𝓖 .A) lend.signature (lend.spec 𝓤 H (𝓖 .A) (𝓜 .mem) (𝓡 .run)))
     (tables 𝓤 H 𝓜 𝓡 code.env .C) (tables 𝓤 H 𝓜 𝓡 code.env .Λ) #lend-front code.function (code.unfolded 𝓤 H 𝓜 𝓡)
     (meets 𝓤 H (𝓖 .A) (givenOf 𝓤 H 𝓜 𝓖) (𝓜 .mem) (𝓡 .run) (tablesOf 𝓤 H 𝓜 (tables 𝓤 H 𝓜 𝓡 code.env))
     (cited 𝓤 H (CollectSizes 𝓤 H (𝓖 .A) (𝓜 .mem) (𝓡 .run)) 𝓜 𝓡 code.env #collect col-def.routine code.calls-sizes·records·collect-sizes (col-thm.met 𝓤 H 𝓜 𝓖 𝓡)))

@@ -4,17 +4,8 @@ use borrow.Author.Needs.{needs}
 use Rattle.sizes.proofs.records.plan_sizes.Statement.{statement}
 use Rattle.sizes.proofs.records.plan_sizes.Tie as tie
 
-measure-tree-requires : tie.Need-measure-tree-requires
-measure-tree-requires c κs = search needs
-
-refused-plan-requires : tie.Need-refused-plan-requires
-refused-plan-requires c κs = search needs
-
 returns : tie.Need-returns
 returns c = c .refused-plan .ensures ∙ plan-refused _ _ _ (c .before .before .before .measure-tree .ensures) _ (c .before .if1 .taken)
-
-refused-plan-requires-2 : tie.Need-refused-plan-requires-2
-refused-plan-requires-2 c κs = search needs
 
 returns-2 : tie.Need-returns-2
 returns-2 c = c .refused-plan2 .ensures ∙ plan-short _ _ _ (c .before .before .before .before .before .before .measure-tree .ensures) _ (c .before .before .before .before .if1 .left) (c .before .if2 .taken)
@@ -26,9 +17,9 @@ pub plan-sizes-spec : {M : Type 1} → statement M
 plan-sizes-spec =
     tie.close
     (tie.spec
-    measure-tree-requires
-    refused-plan-requires
+    (λ c κs. search needs)
+    (λ c κs. search needs)
     returns
-    refused-plan-requires-2
+    (λ c κs. search needs)
     returns-2
     returns-3)

@@ -2,11 +2,8 @@ use borrow.Author.Needs.{needs}
 use Rattle.sizes.proofs.records.refused_plan.Statement.{statement}
 use Rattle.sizes.proofs.records.refused_plan.Tie as tie
 
-no-sizes-requires : tie.Need-no-sizes-requires
-no-sizes-requires c κs = search needs
-
 returns : tie.Need-returns
 returns c = rw (c .no-sizes .ensures)
 
 pub refused-plan-spec : {M : Type 1} → statement M
-refused-plan-spec = tie.close (tie.spec no-sizes-requires returns)
+refused-plan-spec = tie.close (tie.spec (λ c κs. search needs) returns)
