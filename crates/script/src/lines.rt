@@ -1,0 +1,127 @@
+// The contents of a line: bytes, of which `\` and two hex digits stand for one, and numbers.
+ghost use Prim.Native.Nat.{_≤_};
+use crate::text::byte;
+
+fn hex(b: u8) -> usize {
+    if b < 58 {
+        b as usize % 16
+    } else {
+        (b as usize + 9) % 16
+    }
+}
+
+// The byte that begins at place `i`.
+fn value(s: &[u8], i: usize) -> u8 {
+    if s.len() <= i {
+        return 0;
+    }
+    let b = s[i];
+    if b != b'\\' {
+        return b;
+    }
+    if s.len() - i < 3 {
+        return b;
+    }
+    let high = hex(s[i + 1]);
+    let low = hex(s[i + 2]);
+    (high % 16 * 16 + low % 16) as u8
+}
+
+// How many places are to be passed over after this one.
+fn skip(before: usize, b: u8) -> usize {
+    if 0 < before {
+        return before - 1;
+    }
+    if b == b'\\' { 2 } else { 0 }
+}
+
+// The byte that begins at place `i`, unless that place is passed over.
+fn put(out: &mut [u8], at: usize, s: &[u8], i: usize, over: usize) -> usize {
+    if 0 < over {
+        return at;
+    }
+    byte(out, at, value(s, i))
+}
+
+// Writes the bytes that `s` stands for, from `from` on; the answer is where they end.
+pub fn bytes(out: &mut [u8], from: usize, s: &[u8]) -> usize {
+    let mut at = from;
+    let mut over: usize = 0;
+    let mut i: usize = 0;
+    while i < s.len() {
+        at = put(out, at, s, i, over);
+        over = skip(over, s[i]);
+        i = i + 1;
+    }
+    at
+}
+
+// The same `n` times.
+fn times(out: &mut [u8], from: usize, n: usize, s: &[u8]) -> usize {
+    let mut at = from;
+    let mut i: usize = 0;
+    while i < n {
+        at = bytes(out, at, s);
+        i = i + 1;
+    }
+    at
+}
+
+// The number that `s` begins with, up to 8 digits.
+pub fn number(s: &[u8]) -> usize {
+    let mut n: usize = 0;
+    let mut i: usize = 0;
+    while i < s.len() {
+        if s[i] == 32 {
+            return n;
+        }
+        if 9999999 < n {
+            return n;
+        }
+        n = n * 10 + common::wide(s[i]) % 16;
+        i = i + 1;
+    }
+    n
+}
+
+// The place of the first byte `b`, or the end.
+pub fn find(s: &[u8], b: u8) -> usize
+    ensures { λ r. do ⌜ r ≤ (← ⟦s.len()⟧ .entry) ⌝ }
+{
+    let mut i: usize = 0;
+    while i < s.len() {
+        if s[i] == b {
+            return i;
+        }
+        i = i + 1;
+    }
+    i
+}
+
+// Where the contents go on after the first space.
+fn after_space(s: &[u8]) -> usize
+    ensures { λ r. do ⌜ r ≤ (← ⟦s.len()⟧ .entry) ⌝ }
+{
+    let i = find(s, 32);
+    if i < s.len() { i + 1 } else { i }
+}
+
+// A number, a space, and the bytes that are written so many times.
+pub fn repeated(out: &mut [u8], from: usize, s: &[u8]) -> usize {
+    let start = after_space(s);
+    times(out, from, number(s), &s[start..])
+}
+
+// The second number.
+pub fn second(s: &[u8]) -> usize {
+    let start = after_space(s);
+    number(&s[start..])
+}
+
+// The byte at place `i`, or 0.
+pub fn byte_at(s: &[u8], i: usize) -> usize {
+    if i < s.len() {
+        return common::wide(s[i]);
+    }
+    0
+}
