@@ -1,7 +1,6 @@
 // The settings' fields as the 28 bytes that stand for them in a record.
 ghost use Prim.Native.Nat.{_<_, _≤_};
-use crate::lines;
-use crate::tell;
+use lines::tell;
 use settings::Alignment;
 use settings::Priority;
 use settings::Settings;
@@ -59,42 +58,25 @@ fn later_field(s: Settings, at: usize) -> usize
     }
 }
 
-// Whether every field is 0 or no.
-pub fn are_blank(s: Settings) -> bool {
-    let mut at: usize = 0;
-    while at < 28 {
-        if field(s, at) != 0 {
-            return false;
-        }
-        at = at + 1;
+// One field, shown: whether it is the byte at place `at`.
+fn is_field(s: Settings, at: usize, want: &[u8]) -> bool {
+    if 28 <= at || want.len() <= at {
+        return false;
     }
-    true
+    let found = field(s, at);
+    tell::text(b" ");
+    tell::number(found);
+    found == common::wide(want[at])
 }
 
-// The fields, shown as numbers, against the 28 bytes of `want`.
-fn each(s: Settings, want: &[u8]) -> bool {
+// Whether the fields are these 28 bytes.
+pub fn compare(s: Settings, want: &[u8]) {
     let mut right = want.len() == 28;
     let mut at: usize = 0;
     while at < 28 {
-        let found = field(s, at);
-        tell::text(b" ");
-        tell::number(found);
-        right = right && found == lines::byte_at(want, at);
+        right = is_field(s, at, want) && right;
         at = at + 1;
     }
-    right
-}
-
-// The same, for the bytes that `line` stands for.
-fn compare_in(want: &mut [u8], s: Settings, line: &[u8]) {
-    let n = lines::bytes(want, 0, line);
-    if n <= want.len() {
-        tell::verdict(each(s, &want[0..n]));
-    }
-    tell::text(b"\n");
-}
-
-pub fn compare(s: Settings, line: &[u8]) {
-    let mut want = [0u8; 40];
-    compare_in(&mut want, s, line);
+    tell::verdict(right);
+    tell::end();
 }

@@ -1,100 +1,38 @@
-// The kinds of lines. Each has a line in `give` or in `ask`.
-use crate::given::Given;
+// The kinds of lines that ask for something.
 use crate::leaves;
-use crate::lines;
 use crate::printers;
 use crate::readers;
-use crate::tell;
+use lines::contents;
+use lines::given;
+use lines::given::Given;
+use lines::tell;
 
-// A line that gives something.
-fn give(
-    kind: u8,
-    rest: &[u8],
-    settings: &mut [u8],
-    tree: &mut [u8],
-    want: &mut [u8],
-    g: Given,
-) -> Given {
+// What a line asks for; `want` is what stands in it.
+fn ask(kind: u8, settings: &[u8], tree: &[u8], node: usize, want: &[u8]) {
     match kind {
-        b'=' => g.with_settings(lines::bytes(settings, 0, rest)),
-        b':' => g.with_tree(lines::bytes(tree, 0, rest)),
-        b'+' => g.with_tree(lines::repeated(tree, g.tree, rest)),
-        b'&' => g.with_want(lines::repeated(want, g.want, rest)),
-        b'>' | b'$' => g.with_want(lines::bytes(want, g.want, rest)),
-        b'@' => g.with_node(lines::number(rest)),
-        _ => g,
-    }
-}
-
-// A line that asks for something.
-fn ask(
-    kind: u8,
-    rest: &[u8],
-    settings: &[u8],
-    tree: &[u8],
-    node: usize,
-    want: &[u8],
-    out: &mut [u8],
-) {
-    match kind {
-        b'#' => tell::line(rest),
-        b'=' | b':' | b'+' | b'&' | b'@' => {}
-        b'?' => leaves::record(settings, tree, node, rest),
-        b'>' => printers::block(settings, tree, node, want, out),
-        b'!' => leaves::refused(settings, tree, node, lines::number(rest)),
-        b'$' => printers::sheet(settings, tree, want, out),
-        b'%' => printers::no_sheet(settings, tree, lines::number(rest)),
-        b'r' => readers::settings(settings, lines::number(rest)),
-        b'f' => readers::fields(settings, rest),
-        b'd' => readers::defaults(rest),
-        b't' => readers::tree(tree, lines::number(rest), lines::second(rest)),
+        b'#' => tell::line(want),
+        b'?' => leaves::record(settings, tree, node, want),
+        b'>' => printers::printed(false, settings, tree, node, want),
+        b'!' => leaves::refused(settings, tree, node, want),
+        b'$' => printers::printed(true, settings, tree, node, want),
+        b'%' => printers::refused(true, settings, tree, node, want),
+        b'r' => readers::settings(settings, want),
+        b'f' => readers::fields(settings, want),
+        b'd' => readers::defaults(want),
+        b't' => readers::tree(tree, want),
         _ => tell::failed(b"unknown kind of line"),
     }
 }
 
-// What is left for the next line: wanted bytes are used once.
-fn rest_of(kind: u8, g: Given) -> Given {
-    match kind {
-        b'>' | b'$' => g.with_want(0),
-        _ => g,
-    }
-}
-
-// Asks with the bytes given, unless there was no room for one more.
-fn ask_with(
-    kind: u8,
-    rest: &[u8],
-    settings: &[u8],
-    tree: &[u8],
-    want: &[u8],
-    out: &mut [u8],
-    g: Given,
-) {
-    let s = g.settings;
-    let t = g.tree;
-    let w = g.want;
-    if settings.len() <= s {
-        tell::failed(b"too many settings bytes");
+// Asks with the bytes given.
+fn ask_with(kind: u8, settings: &[u8], tree: &[u8], want: &[u8], g: Given) {
+    if given::gives(kind) {
         return;
     }
-    if tree.len() <= t {
-        tell::failed(b"too many tree bytes");
-        return;
-    }
-    if want.len() <= w {
-        tell::failed(b"too many wanted bytes");
-        return;
-    }
-    let node = g.node;
-    ask(
-        kind,
-        rest,
-        &settings[0..s],
-        &tree[0..t],
-        node,
-        &want[0..w],
-        out,
-    );
+    let s = contents::within(g.settings, settings);
+    let t = contents::within(g.tree, tree);
+    let w = contents::within(g.want, want);
+    ask(kind, &settings[0..s], &tree[0..t], g.node, &want[0..w]);
 }
 
 // One line: what it gives, then what it asks for.
@@ -103,7 +41,6 @@ pub fn step(
     settings: &mut [u8],
     tree: &mut [u8],
     want: &mut [u8],
-    out: &mut [u8],
     before: Given,
 ) -> Given {
     if line.len() < 2 {
@@ -111,7 +48,7 @@ pub fn step(
         return before;
     }
     let kind = line[0];
-    let g = give(kind, &line[2..], settings, tree, want, before);
-    ask_with(kind, &line[2..], settings, tree, want, out, g);
-    rest_of(kind, g)
+    let g = given::give(kind, &line[2..], settings, tree, want, before);
+    ask_with(kind, settings, tree, want, g);
+    given::left(kind, g)
 }

@@ -1,49 +1,45 @@
-// Leaf records, as text, and refusals of both leaf calls.
-use crate::compare::rest_is_zero;
-use crate::compare::same;
+// Leaf records, as text, and the refusals of both leaf calls.
 use crate::printers;
-use crate::tell;
 use crate::text;
-use leaf::LeafRecord;
+use lines::compare;
+use lines::contents;
+use lines::tell;
 
-// Whether the record's text is the wanted one; `show` writes it.
-fn text_is(found: &mut [u8], r: LeafRecord, want: &[u8], show: bool) -> bool {
-    let end = text::record(found, r);
-    if found.len() < end {
-        return false;
-    }
-    if show {
-        tell::text(&found[0..end]);
-    }
-    same(&found[0..end], want)
-}
+// The longest text of a record: two lists of 512 pieces.
+const LONGEST: usize = 4200;
 
-// The same, and the entries past the lists' counts are 0.
-fn record_is(r: LeafRecord, want: &[u8], show: bool) -> bool {
-    let horizontal = r.horizontal;
-    let vertical = r.vertical;
-    let mut found = [0u8; 4200];
-    let right = text_is(&mut found, r, want, show);
-    right && rest_is_zero(horizontal) && rest_is_zero(vertical)
-}
+// The text of a refused record: 0 or no in every field.
+const BLANK: [u8; 40] = *b"0 by 0, across none, down none, nnnnnnnn";
 
-// The leaf's record: number 0, the node, and the rest as in `want`.
-pub fn record(settings: &[u8], tree: &[u8], node: usize, want: &[u8]) {
+// The record of the leaf: its number, the node that it names, and the rest as in `want`, which is shown.
+fn compare_record(
+    settings: &[u8],
+    tree: &[u8],
+    node: usize,
+    number: usize,
+    named: usize,
+    want: &[u8],
+) {
     let r = leaf::leaf_record(settings, tree, node);
-    tell::node(node);
-    let right = record_is(r, want, true);
-    tell::verdict(right && r.number == 0 && r.node == node);
-    tell::text(b"\n");
-}
-
-// Both calls answer this number, with 0 or no elsewhere; nothing is written.
-pub fn refused(settings: &[u8], tree: &[u8], node: usize, number: usize) {
-    let r = leaf::leaf_record(settings, tree, node);
-    tell::node(node);
-    tell::text(b"record refused ");
+    let mut found = [compare::MADE_OF; LONGEST];
+    let end = text::record(&mut found, r);
+    tell::text(b", number ");
     tell::number(r.number as usize);
-    let blank = record_is(r, b"0 by 0, across none, down none, nnnnnnnn", false);
-    tell::verdict(blank && r.number as usize == number && r.node == 0);
-    tell::text(b", ");
-    printers::no_block(settings, tree, node, number);
+    tell::text(b": ");
+    tell::part(&found, end);
+    let right = r.number as usize == number && r.node == named && end == want.len();
+    tell::verdict(right && compare::holds(&found, want));
+    tell::end();
+}
+
+pub fn record(settings: &[u8], tree: &[u8], node: usize, want: &[u8]) {
+    tell::node(node);
+    compare_record(settings, tree, node, 0, node, want);
+}
+
+// Both calls answer this number.
+pub fn refused(settings: &[u8], tree: &[u8], node: usize, want: &[u8]) {
+    printers::refused(false, settings, tree, node, want);
+    tell::text(b"its record");
+    compare_record(settings, tree, node, contents::number(want), 0, &BLANK);
 }

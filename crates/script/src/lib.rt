@@ -2,36 +2,39 @@
 // A line is a letter, a space and its contents; in bytes, `\` and two hex digits stand for one:
 //   # a title, which is echoed
 //   = the settings' bytes               : the tree's bytes          + N, bytes: these go on the tree N times
-//   @ the node                          & N, bytes: the bytes that the next `>` or `$` wants begin with these, N times
+//   @ the node                          & N, bytes: the bytes that the next line wants begin with these, N times
 //   ? the wanted leaf record            > the wanted block          ! the wanted refusal of both leaf calls
 //   $ the wanted sheet                  % the wanted refusal of the sheet printer
 //   r the settings reader's number      f its 28 fields as bytes    d the default settings' 28 fields as bytes
 //   t the tree reader's number, and the node count
-// `kinds` has a line for each.
-mod compare;
+// Those of the first lines are in `lines::given`, the others in `kinds`.
 mod fields;
-mod given;
 mod kinds;
 mod leaves;
-mod lines;
 mod printers;
 mod readers;
-mod tell;
 mod text;
 
-use given::Given;
 use libc::STDIN_FILENO;
+use lines::contents;
+use lines::given::Given;
+use lines::tell;
 
 // The longest tree that two-byte lengths allow has 65,538 bytes, the longest sheet 64,159; the rest is room past them.
 const ROOM: usize = 66000;
 
 // All lines of the input, parted at each 0A.
-fn run_lines(input: &[u8], settings: &mut [u8], tree: &mut [u8], want: &mut [u8], out: &mut [u8]) {
-    let mut g = Given::nothing();
+fn run_lines(input: &[u8], settings: &mut [u8], tree: &mut [u8], want: &mut [u8]) {
+    let mut g = Given {
+        settings: 0,
+        tree: 0,
+        want: 0,
+        node: 0,
+    };
     let mut start: usize = 0;
     while start < input.len() {
-        let end = start + lines::find(&input[start..], 10);
-        g = kinds::step(&input[start..end], settings, tree, want, out, g);
+        let end = start + contents::find(&input[start..], 10);
+        g = kinds::step(&input[start..end], settings, tree, want, g);
         start = end + 1;
     }
 }
@@ -46,6 +49,5 @@ pub fn run() {
     let mut settings = [0u8; 64];
     let mut tree = [0u8; ROOM];
     let mut want = [0u8; ROOM];
-    let mut out = [0u8; ROOM];
-    run_lines(&input[..n], &mut settings, &mut tree, &mut want, &mut out);
+    run_lines(&input[..n], &mut settings, &mut tree, &mut want);
 }

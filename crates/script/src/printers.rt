@@ -1,13 +1,14 @@
-// Both printers: wanted bytes with more room than they need, exactly full and one byte short; refusals with room and with none.
-use crate::compare;
-use crate::tell;
+// Both printers: wanted bytes one byte short, exactly full and with more room than they need; refusals with room and with none.
 use leaf::Written;
+use lines::compare;
+use lines::contents;
+use lines::tell;
 
-// What is lent beyond the wanted bytes, and what there is beyond the bytes lent.
+// What is lent beyond the wanted bytes.
 const MORE: usize = 50;
 
 // The longest output that is shown.
-const SHORT: usize = 2000;
+const SHORT: usize = 200;
 
 // The sheet, or the leaf's block.
 fn print(whole: bool, settings: &[u8], tree: &[u8], node: usize, out: &mut [u8]) -> Written {
@@ -17,142 +18,86 @@ fn print(whole: bool, settings: &[u8], tree: &[u8], node: usize, out: &mut [u8])
     leaf::print_leaf(settings, tree, node, out)
 }
 
-// One call, with the first `lent` bytes of a new output.
-fn call(
-    whole: bool,
-    settings: &[u8],
-    tree: &[u8],
-    node: usize,
-    out: &mut [u8],
-    lent: usize,
-) -> Written {
-    compare::renew(out);
-    if lent <= out.len() {
-        return print(whole, settings, tree, node, &mut out[0..lent]);
-    }
-    Written {
-        number: 255,
-        count: 0,
-    }
-}
-
-// Whether the number, the count, and what the whole output then holds are the wanted ones.
-fn judge(w: Written, out: &[u8], lent: usize, number: usize, want: &[u8]) {
-    tell::written(w.number, w.count, lent);
-    let right = w.number as usize == number && w.count == want.len();
-    tell::verdict(right && compare::holds(out, want));
-}
-
+// One call with this output: the number, the count, and what the output then holds.
 fn answers(
     whole: bool,
     settings: &[u8],
     tree: &[u8],
     node: usize,
     out: &mut [u8],
-    lent: usize,
     number: usize,
     want: &[u8],
-) {
-    let w = call(whole, settings, tree, node, out, lent);
-    judge(w, out, lent, number, want);
-}
-
-// The bytes written, where they are few.
-fn show(out: &[u8], n: usize) {
-    if n <= SHORT {
-        if n <= out.len() {
-            tell::line(&out[0..n]);
-        }
-    }
+) -> usize {
+    compare::renew(out);
+    let w = print(whole, settings, tree, node, out);
+    tell::written(w.number, w.count, out.len());
+    let right = w.number as usize == number && w.count == want.len();
+    tell::verdict(right && compare::holds(out, want));
+    w.count
 }
 
 fn name(whole: bool, node: usize) {
     if whole {
-        tell::text(b"sheet: ");
+        tell::text(b"sheet");
     } else {
         tell::node(node);
     }
 }
 
-// With more room than needed; the bytes written are shown.
-fn roomy(
-    whole: bool,
-    settings: &[u8],
-    tree: &[u8],
-    node: usize,
-    out: &mut [u8],
-    lent: usize,
-    want: &[u8],
-) {
-    let w = call(whole, settings, tree, node, out, lent);
-    show(out, w.count);
-    name(whole, node);
-    judge(w, out, lent, 0, want);
+// The bytes written, where they are few.
+fn show(out: &[u8], n: usize) {
+    tell::end();
+    if n <= SHORT {
+        tell::part(out, n);
+        tell::end();
+    }
 }
 
-// Exactly full, and one byte short.
-fn tight(
-    whole: bool,
-    settings: &[u8],
-    tree: &[u8],
-    node: usize,
-    out: &mut [u8],
-    n: usize,
-    want: &[u8],
-) {
-    tell::text(b", ");
-    answers(whole, settings, tree, node, out, n, 0, want);
+fn one_short(whole: bool, settings: &[u8], tree: &[u8], node: usize, out: &mut [u8], n: usize) {
     if n == 0 {
-        tell::text(b"\n");
         return;
     }
-    tell::text(b", ");
-    answers(whole, settings, tree, node, out, n - 1, 8, b"");
-    tell::text(b"\n");
-}
-
-fn printed(whole: bool, settings: &[u8], tree: &[u8], node: usize, want: &[u8], out: &mut [u8]) {
-    let n = want.len();
-    let end = n + 2 * MORE;
-    if end <= out.len() {
-        roomy(
-            whole,
-            settings,
-            tree,
-            node,
-            &mut out[0..end],
-            n + MORE,
-            want,
-        );
-        tight(whole, settings, tree, node, &mut out[0..end], n, want);
-    } else {
-        tell::failed(b"too little output");
+    if out.len() < n {
+        return;
     }
+    answers(
+        whole,
+        settings,
+        tree,
+        node,
+        &mut out[0..n - 1],
+        8,
+        &tree[0..0],
+    );
 }
 
-// The leaf's block.
-pub fn block(settings: &[u8], tree: &[u8], node: usize, want: &[u8], out: &mut [u8]) {
-    printed(false, settings, tree, node, want, out);
+fn printed_in(whole: bool, settings: &[u8], tree: &[u8], node: usize, want: &[u8], out: &mut [u8]) {
+    let n = want.len();
+    let more = n + MORE;
+    if out.len() < more {
+        tell::too_long();
+        return;
+    }
+    one_short(whole, settings, tree, node, out, n);
+    answers(whole, settings, tree, node, &mut out[0..n], 0, want);
+    let count = answers(whole, settings, tree, node, &mut out[0..more], 0, want);
+    show(out, count);
 }
 
-pub fn sheet(settings: &[u8], tree: &[u8], want: &[u8], out: &mut [u8]) {
-    printed(true, settings, tree, 0, want, out);
+// The wanted sheet or block.
+pub fn printed(whole: bool, settings: &[u8], tree: &[u8], node: usize, want: &[u8]) {
+    let mut out = [0u8; crate::ROOM];
+    name(whole, node);
+    printed_in(whole, settings, tree, node, want, &mut out);
 }
 
-fn two(whole: bool, settings: &[u8], tree: &[u8], node: usize, number: usize) {
-    let mut out = [0u8; 100];
-    answers(whole, settings, tree, node, &mut out, MORE, number, b"");
-    tell::text(b", ");
-    answers(whole, settings, tree, node, &mut out, 0, number, b"");
-    tell::text(b"\n");
-}
-
-// The leaf printer's refusal.
-pub fn no_block(settings: &[u8], tree: &[u8], node: usize, number: usize) {
-    two(false, settings, tree, node, number);
-}
-
-pub fn no_sheet(settings: &[u8], tree: &[u8], number: usize) {
-    name(true, 0);
-    two(true, settings, tree, 0, number);
+// The wanted refusal.
+pub fn refused(whole: bool, settings: &[u8], tree: &[u8], node: usize, want: &[u8]) {
+    let number = contents::number(want);
+    let mut room = [0u8; MORE];
+    let mut none = [0u8; 0];
+    name(whole, node);
+    answers(whole, settings, tree, node, &mut room, number, &tree[0..0]);
+    answers(whole, settings, tree, node, &mut none, number, &tree[0..0]);
+    tell::end();
 }

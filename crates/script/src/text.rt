@@ -1,53 +1,44 @@
-// Text in a lent buffer. Each call writes from `at` on, as far as there is room, and answers where the next byte stands.
+// A leaf's record as text in a lent buffer. Each call writes from `at` or `from` on, and answers where the next byte stands.
 use block::Flags;
 use leaf::LeafRecord;
+use lines::contents::byte;
+use lines::contents::bytes;
 use sizes::Size;
 use splits::SplitList;
 
-pub fn byte(out: &mut [u8], at: usize, b: u8) -> usize {
-    if at < out.len() {
-        out[at] = b;
-        return at + 1;
-    }
-    at
+fn decimal(out: &mut [u8], at: usize, n: usize) -> usize {
+    let mut digits = [0u8; 20];
+    let k = io::decimal(n as u64, &mut digits);
+    bytes(out, at, &digits[..k])
 }
 
-fn bytes(out: &mut [u8], from: usize, s: &[u8]) -> usize {
-    let mut at = from;
+// Whether the entries past the count are 0.
+fn rest_is_zero(list: SplitList) -> bool {
+    let pieces = list.pieces;
     let mut i: usize = 0;
-    while i < s.len() {
-        at = byte(out, at, s[i]);
+    while i < 512 {
+        if list.count <= i {
+            if pieces[i] != 0 {
+                return false;
+            }
+        }
         i = i + 1;
     }
-    at
+    true
 }
 
-fn digit(out: &mut [u8], at: usize, n: usize) -> usize {
-    byte(out, at, 48 + (n % 10) as u8)
-}
-
-// A number of at most three digits.
-fn decimal(out: &mut [u8], at: usize, n: usize) -> usize {
-    if n < 10 {
-        return digit(out, at, n);
-    }
-    if n < 100 {
-        let next = digit(out, at, n / 10);
-        return digit(out, next, n);
-    }
-    let next = digit(out, at, n / 100);
-    let last = digit(out, next, n / 10);
-    digit(out, last, n)
-}
-
+// A list; one with too many pieces, or with entries past them, is left out.
 fn list(out: &mut [u8], from: usize, list: SplitList) -> usize {
     let pieces = list.pieces;
     let n = list.count;
+    if 512 < n {
+        return from;
+    }
+    if !rest_is_zero(list) {
+        return from;
+    }
     if n == 0 {
         return bytes(out, from, b" none");
-    }
-    if 512 < n {
-        return bytes(out, from, b" too many");
     }
     let mut at = from;
     let mut i: usize = 0;
@@ -59,24 +50,22 @@ fn list(out: &mut [u8], from: usize, list: SplitList) -> usize {
     at
 }
 
-fn flag(out: &mut [u8], at: usize, yes: bool) -> usize {
-    if yes {
-        byte(out, at, 121)
-    } else {
-        byte(out, at, 110)
-    }
+fn letter(yes: bool) -> u8 {
+    if yes { b'y' } else { b'n' }
 }
 
-// Eight letters, y or n, in the order of the fields of `Flags`.
-fn flags(out: &mut [u8], from: usize, f: Flags) -> usize {
-    let mut at = flag(out, from, f.first_row);
-    at = flag(out, at, f.last_row);
-    at = flag(out, at, f.first_col);
-    at = flag(out, at, f.last_col);
-    at = flag(out, at, f.no_right);
-    at = flag(out, at, f.lean_top);
-    at = flag(out, at, f.top_left);
-    flag(out, at, f.top_intersection)
+// Eight letters, in the order of the fields of `Flags`.
+fn letters(f: Flags) -> [u8; 8] {
+    [
+        letter(f.first_row),
+        letter(f.last_row),
+        letter(f.first_col),
+        letter(f.last_col),
+        letter(f.no_right),
+        letter(f.lean_top),
+        letter(f.top_left),
+        letter(f.top_intersection),
+    ]
 }
 
 fn size(out: &mut [u8], from: usize, s: Size) -> usize {
@@ -101,5 +90,5 @@ pub fn record(out: &mut [u8], r: LeafRecord) -> usize {
     let mut at = size(out, 0, allotted);
     at = lists(out, at, across, down);
     at = bytes(out, at, b", ");
-    flags(out, at, f)
+    bytes(out, at, &letters(f))
 }

@@ -6,10 +6,10 @@ use Rattle.script.proofs.run_lines.Statement.{statement}
 use Rattle.script.proofs.run_lines.Tie as tie
 
 abbrev Inv-loop : tie.InvT-loop
-Inv-loop input settings₀ tree₀ want₀ out₀ g₀ start₀ settings tree want out g start = (length settings ≡ length settings₀) × (length tree ≡ length tree₀) × (length want ≡ length want₀) × (length out ≡ length out₀)
+Inv-loop input settings₀ tree₀ want₀ g₀ start₀ settings tree want g start = (length settings ≡ length settings₀) × (length tree ≡ length tree₀) × (length want ≡ length want₀)
 
 abbrev μ-loop : tie.MeasureT-loop
-μ-loop input settings₀ tree₀ want₀ out₀ g₀ start₀ settings tree want out g start = length input - start
+μ-loop input settings₀ tree₀ want₀ g₀ start₀ settings tree want g start = length input - start
 
 pub run-lines-spec : {M : Type 1} → statement M
 run-lines-spec =
@@ -17,7 +17,6 @@ run-lines-spec =
     (tie.spec
     Inv-loop
     μ-loop
-    (λ c κs. search needs)
     (λ c. search needs)
     (λ c. search needs)
     (λ c. search needs)
@@ -28,7 +27,6 @@ run-lines-spec =
     (λ c. search needs)
     (λ c. search needs)
     (λ c κs. search needs)
-    (λ c. search needs)
     (λ c. search needs)
     (λ c. search needs)
     (λ c. search needs)

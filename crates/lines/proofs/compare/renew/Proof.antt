@@ -2,8 +2,8 @@ use borrow.Author.Needs.{needs}
 use Prim.Native.Nat.{_-_, _≤_}
 use mathlib.Core.Path.{_≡_}
 use lib.ListN.{length}
-use Rattle.script.proofs.compare.renew.Statement.{statement}
-use Rattle.script.proofs.compare.renew.Tie as tie
+use Rattle.lines.proofs.compare.renew.Statement.{statement}
+use Rattle.lines.proofs.compare.renew.Tie as tie
 
 abbrev Inv-loop : tie.InvT-loop
 Inv-loop out₀ i₀ out i = (i ≤ length out₀) × (length out ≡ length out₀)

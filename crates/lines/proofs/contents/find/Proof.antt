@@ -1,21 +1,21 @@
 use borrow.Author.Needs.{needs}
 use Prim.Native.Nat.{_-_, _≤_}
-use Rattle.script.proofs.compare.rest_is_zero.Statement.{statement}
-use Rattle.script.proofs.compare.rest_is_zero.Tie as tie
+use lib.ListN.{length}
+use Rattle.lines.proofs.contents.find.Statement.{statement}
+use Rattle.lines.proofs.contents.find.Tie as tie
 
 abbrev Inv-loop : tie.InvT-loop
-Inv-loop list pieces i₀ i = i ≤ 512
+Inv-loop s b i₀ i = i ≤ length s
 
 abbrev μ-loop : tie.MeasureT-loop
-μ-loop list pieces i₀ i = 512 - i
+μ-loop s b i₀ i = length s - i
 
-pub rest-is-zero-spec : {M : Type 1} → statement M
-rest-is-zero-spec =
+pub find-spec : {M : Type 1} → statement M
+find-spec =
     tie.close
     (tie.spec
     Inv-loop
     μ-loop
-    (λ c. search needs)
     (λ c. search needs)
     (λ c. search needs)
     (λ c. search needs)

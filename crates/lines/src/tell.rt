@@ -5,9 +5,21 @@ pub fn text(s: &[u8]) {
     io::write_all(STDOUT_FILENO, s);
 }
 
+// The end of a line.
+pub fn end() {
+    text(b"\n");
+}
+
 pub fn line(s: &[u8]) {
     text(s);
-    text(b"\n");
+    end();
+}
+
+// The first `n` bytes.
+pub fn part(s: &[u8], n: usize) {
+    if n <= s.len() {
+        text(&s[0..n]);
+    }
 }
 
 pub fn number(n: usize) {
@@ -26,25 +38,27 @@ pub fn verdict(ok: bool) {
 pub fn failed(s: &[u8]) {
     text(s);
     verdict(false);
-    text(b"\n");
+    end();
 }
 
-// The beginning of a leaf's line.
+pub fn too_long() {
+    failed(b"too many bytes");
+}
+
 pub fn node(n: usize) {
     text(b"node ");
     number(n);
-    text(b": ");
 }
 
 // A printer's answer, with so many bytes lent.
 pub fn written(refusal: u8, count: usize, lent: usize) {
     if refusal == 0 {
+        text(b", bytes ");
         number(count);
-        text(b" bytes in ");
     } else {
-        text(b"refused ");
+        text(b", refused ");
         number(refusal as usize);
-        text(b" in ");
     }
+    text(b" in ");
     number(lent);
 }

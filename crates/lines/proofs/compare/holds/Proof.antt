@@ -1,21 +1,23 @@
 use borrow.Author.Needs.{needs}
 use Prim.Native.Nat.{_-_, _≤_}
 use lib.ListN.{length}
-use Rattle.script.proofs.lines.find.Statement.{statement}
-use Rattle.script.proofs.lines.find.Tie as tie
+use Rattle.lines.proofs.compare.holds.Statement.{statement}
+use Rattle.lines.proofs.compare.holds.Tie as tie
 
 abbrev Inv-loop : tie.InvT-loop
-Inv-loop s b i₀ i = i ≤ length s
+Inv-loop out want i₀ i = i ≤ length out
 
 abbrev μ-loop : tie.MeasureT-loop
-μ-loop s b i₀ i = length s - i
+μ-loop out want i₀ i = length out - i
 
-pub find-spec : {M : Type 1} → statement M
-find-spec =
+pub holds-spec : {M : Type 1} → statement M
+holds-spec =
     tie.close
     (tie.spec
     Inv-loop
     μ-loop
+    (λ c. search needs)
+    (λ c. search needs)
     (λ c. search needs)
     (λ c. search needs)
     (λ c. search needs)

@@ -2,8 +2,8 @@ use borrow.Author.Needs.{needs}
 use Prim.Native.Nat.{_-_, _≤_}
 use mathlib.Core.Path.{_≡_}
 use lib.ListN.{length}
-use Rattle.script.proofs.lines.bytes.Statement.{statement}
-use Rattle.script.proofs.lines.bytes.Tie as tie
+use Rattle.lines.proofs.contents.bytes.Statement.{statement}
+use Rattle.lines.proofs.contents.bytes.Tie as tie
 
 abbrev Inv-loop : tie.InvT-loop
 Inv-loop out₀ from s at₀ over₀ i₀ out at over i = (i ≤ length s) × (length out ≡ length out₀)

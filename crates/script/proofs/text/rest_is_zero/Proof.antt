@@ -1,22 +1,20 @@
 use borrow.Author.Needs.{needs}
 use Prim.Native.Nat.{_-_, _≤_}
-use lib.ListN.{length}
-use Rattle.script.proofs.compare.holds.Statement.{statement}
-use Rattle.script.proofs.compare.holds.Tie as tie
+use Rattle.script.proofs.text.rest_is_zero.Statement.{statement}
+use Rattle.script.proofs.text.rest_is_zero.Tie as tie
 
 abbrev Inv-loop : tie.InvT-loop
-Inv-loop out want i₀ i = i ≤ length out
+Inv-loop list pieces i₀ i = i ≤ 512
 
 abbrev μ-loop : tie.MeasureT-loop
-μ-loop out want i₀ i = length out - i
+μ-loop list pieces i₀ i = 512 - i
 
-pub holds-spec : {M : Type 1} → statement M
-holds-spec =
+pub rest-is-zero-spec : {M : Type 1} → statement M
+rest-is-zero-spec =
     tie.close
     (tie.spec
     Inv-loop
     μ-loop
-    (λ c. search needs)
     (λ c. search needs)
     (λ c. search needs)
     (λ c. search needs)

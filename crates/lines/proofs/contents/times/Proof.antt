@@ -2,22 +2,21 @@ use borrow.Author.Needs.{needs}
 use Prim.Native.Nat.{_-_, _≤_}
 use mathlib.Core.Path.{_≡_}
 use lib.ListN.{length}
-use Rattle.script.proofs.text.bytes.Statement.{statement}
-use Rattle.script.proofs.text.bytes.Tie as tie
+use Rattle.lines.proofs.contents.times.Statement.{statement}
+use Rattle.lines.proofs.contents.times.Tie as tie
 
 abbrev Inv-loop : tie.InvT-loop
-Inv-loop out₀ from s at₀ i₀ out at i = (i ≤ length s) × (length out ≡ length out₀)
+Inv-loop out₀ from n s at₀ i₀ out at i = (i ≤ n) × (length out ≡ length out₀)
 
 abbrev μ-loop : tie.MeasureT-loop
-μ-loop out₀ from s at₀ i₀ out at i = length s - i
+μ-loop out₀ from n s at₀ i₀ out at i = n - i
 
-pub bytes-spec : {M : Type 1} → statement M
-bytes-spec =
+pub times-spec : {M : Type 1} → statement M
+times-spec =
     tie.close
     (tie.spec
     Inv-loop
     μ-loop
-    (λ c. search needs)
     (λ c. search needs)
     (λ c κs. search needs)
     (λ c. search needs)

@@ -1,8 +1,8 @@
 use borrow.Author.Needs.{needs}
 use Prim.Native.Nat.{_-_, _≤_}
 use lib.ListN.{length}
-use Rattle.script.proofs.lines.number.Statement.{statement}
-use Rattle.script.proofs.lines.number.Tie as tie
+use Rattle.lines.proofs.contents.number.Statement.{statement}
+use Rattle.lines.proofs.contents.number.Tie as tie
 
 abbrev Inv-loop : tie.InvT-loop
 Inv-loop s n₀ i₀ n i = i ≤ length s

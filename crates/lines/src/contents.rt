@@ -1,6 +1,16 @@
 // The contents of a line: bytes, of which `\` and two hex digits stand for one, and numbers.
 ghost use Prim.Native.Nat.{_≤_};
-use crate::text::byte;
+use crate::tell;
+
+// Writes a byte, as far as there is room; the answer is where the next one stands.
+pub fn byte(out: &mut [u8], at: usize, b: u8) -> usize {
+    if at < out.len() {
+        out[at] = b;
+        return at + 1;
+    }
+    tell::too_long();
+    at
+}
 
 fn hex(b: u8) -> usize {
     if b < 58 {
@@ -107,21 +117,31 @@ fn after_space(s: &[u8]) -> usize
 }
 
 // A number, a space, and the bytes that are written so many times.
-pub fn repeated(out: &mut [u8], from: usize, s: &[u8]) -> usize {
+fn repeated(out: &mut [u8], from: usize, s: &[u8]) -> usize {
     let start = after_space(s);
     times(out, from, number(s), &s[start..])
+}
+
+// The bytes of `s` once, from `from` on; or repeated, after the `n` bytes that are there; or as it was.
+pub fn written(out: &mut [u8], n: usize, s: &[u8], once: bool, from: usize, more: bool) -> usize {
+    if once {
+        return bytes(out, from, s);
+    }
+    if more {
+        return repeated(out, n, s);
+    }
+    n
+}
+
+// `n`, or the length where that is less.
+pub fn within(n: usize, s: &[u8]) -> usize
+    ensures { λ r. do ⌜ r ≤ (← ⟦s.len()⟧ .entry) ⌝ }
+{
+    if s.len() < n { s.len() } else { n }
 }
 
 // The second number.
 pub fn second(s: &[u8]) -> usize {
     let start = after_space(s);
     number(&s[start..])
-}
-
-// The byte at place `i`, or 0.
-pub fn byte_at(s: &[u8], i: usize) -> usize {
-    if i < s.len() {
-        return common::wide(s[i]);
-    }
-    0
 }

@@ -1,0 +1,32 @@
+// Lent bytes before a call and after it.
+
+// What lent bytes are made of before a call.
+pub const MADE_OF: u8 = 35;
+
+// Makes the output anew.
+pub fn renew(out: &mut [u8]) {
+    let mut i: usize = 0;
+    while i < out.len() {
+        out[i] = MADE_OF;
+        i = i + 1;
+    }
+}
+
+// Whether the output has the wanted bytes, and past them what it was made of.
+pub fn holds(out: &[u8], want: &[u8]) -> bool {
+    if out.len() < want.len() {
+        return false;
+    }
+    let mut i: usize = 0;
+    while i < out.len() {
+        let mut b = MADE_OF;
+        if i < want.len() {
+            b = want[i];
+        }
+        if out[i] != b {
+            return false;
+        }
+        i = i + 1;
+    }
+    true
+}
