@@ -1,0 +1,5 @@
+// Leaf records and blocks, leaf by leaf, against what document 01 says of them: the cases, worked out by hand, are the lines of
+// the file `stdin`.
+fn main() {
+    script::run();
+}
