@@ -1,24 +1,5 @@
-// Whole sheets and refusals of the sheet printer, against what document 01 says of them, worked out by hand.
-mod build;
-mod cases;
-mod figures;
-mod limits;
-mod refusals;
-mod report;
-
+// Whole sheets, limits and refusals of the sheet printer, against what document 01 says of them: the cases, worked out by hand, are
+// the lines of the file `stdin`.
 fn main() {
-    figures::first();
-    figures::second();
-    figures::third();
-    figures::fourth();
-    figures::fifth();
-    limits::widths();
-    limits::heights();
-    limits::beyond();
-    limits::depths();
-    limits::nodes();
-    limits::node_513();
-    refusals::no_width();
-    refusals::inputs();
-    refusals::order();
+    script::run();
 }
