@@ -7,7 +7,7 @@ use lines::given;
 use lines::given::Given;
 use lines::tell;
 
-// What a line asks for; `want` is what stands in it.
+// What a line asks for: an arm for each kind. `want` is what stands in the line, after the bytes of `&` lines before it.
 fn ask(kind: u8, settings: &[u8], tree: &[u8], node: usize, want: &[u8]) {
     match kind {
         b'#' => tell::line(want),

@@ -1,13 +1,13 @@
 // Test cases as lines of standard input, run over the public calls of the layers; each verdict compares what was found with the line.
-// A line is a letter, a space and its contents; in bytes, `\` and two hex digits stand for one:
-//   # a title, which is echoed
+// A line is a letter, a space and its contents; in contents, `\` and two hex digits stand for a byte.
+// Lines that give something (`lines::given`):
 //   = the settings' bytes               : the tree's bytes          + N, bytes: these go on the tree N times
-//   @ the node                          & N, bytes: the bytes that the next line wants begin with these, N times
-//   ? the wanted leaf record            > the wanted block          ! the wanted refusal of both leaf calls
-//   $ the wanted sheet                  % the wanted refusal of the sheet printer
+//   @ the node                          & N, bytes: what the next line wants begins with these, N times
+// Lines that ask for something (`kinds`), with what is wanted; # is a title, which is echoed:
+//   ? the leaf's record                 > the leaf's block          ! the refusal of both leaf calls
+//   $ the sheet                         % the sheet printer's refusal
 //   r the settings reader's number      f its 28 fields as bytes    d the default settings' 28 fields as bytes
 //   t the tree reader's number, and the node count
-// Those of the first lines are in `lines::given`, the others in `kinds`.
 mod fields;
 mod kinds;
 mod leaves;

@@ -7,6 +7,9 @@ use lines::tell;
 // What is lent beyond the wanted bytes.
 const MORE: usize = 50;
 
+// What is lent where a refusal is wanted.
+const MUCH: usize = 2000;
+
 // The longest output that is shown.
 const SHORT: usize = 200;
 
@@ -94,7 +97,7 @@ pub fn printed(whole: bool, settings: &[u8], tree: &[u8], node: usize, want: &[u
 // The wanted refusal.
 pub fn refused(whole: bool, settings: &[u8], tree: &[u8], node: usize, want: &[u8]) {
     let number = contents::number(want);
-    let mut room = [0u8; MORE];
+    let mut room = [0u8; MUCH];
     let mut none = [0u8; 0];
     name(whole, node);
     answers(whole, settings, tree, node, &mut room, number, &tree[0..0]);
