@@ -8,8 +8,6 @@ use lib.ListN.{length}
 use lib.Seq.{sets}
 use Rattle.common.specs.Choice.{pick}
 use Rattle.settings.specs.declared.Settings.{Settings}
-use Rattle.splits.specs.declared.SplitList.{SplitList}
-use Rattle.splits.specs.Lists.{listOf}
 use Rattle.sizes.specs.declared.Size.{Size}
 use Rattle.block.specs.declared.Flags.{Flags}
 use Rattle.block.specs.declared.borders.Borders.{Borders}
@@ -21,7 +19,7 @@ use Rattle.block.proofs.Left.{then-pasted, pasted-first}
 use Rattle.block.proofs.Corners.{top-is, middle-is, bottom-is}
 use Rattle.block.proofs.Places.{paintable-fits}
 
-module _ {s : Settings} {t : List ℕ} {n z : Size} {f : Flags} {h v : SplitList} {base stride len : ℕ} (k : Paintable s t n z f h v base stride len) (b : Borders) (is : b ≡ bordersOf s f) where
+module _ {s : Settings} {t : List ℕ} {n z : Size} {f : Flags} {h v : List ℕ} {base stride len : ℕ} (k : Paintable s t n z f h v base stride len) (b : Borders) (is : b ≡ bordersOf s f) where
   right-is : b .right ≡ f .«last_col»
   unfolding bordersOf
   right-is = ap (λ (x : Borders). x .right) is
@@ -58,8 +56,8 @@ module _ {s : Settings} {t : List ℕ} {n z : Size} {f : Flags} {h v : SplitList
   -- ---- the parts
 
   module _ (long : length (s .marks) ≡ 15) (o o₁ o₂ : List ℕ) (next : ℕ)
-      (e₁ : o₁ ≡ sets o base (topOf b (z .width) (listOf h)))
-      (w : Wrote next (base + stride + z .height * stride) o₂ (pasted o₁ (base + stride) stride (middleOf s t z b (listOf v)))) where
+      (e₁ : o₁ ≡ sets o base (topOf b (z .width) h))
+      (w : Wrote next (base + stride + z .height * stride) o₂ (pasted o₁ (base + stride) stride (middleOf s t z b v))) where
     first : o₁ ≡ sets o base (topLine s (leafWith t z f h v))
     first = e₁ ∙ rw (is, top-is s (leafWith t z f h v) long)
 

@@ -5,7 +5,6 @@ use native.Mathlib.Omega.{arith}
 use mathlib.Core.List.{List}
 use lib.ListN.{length, getD}
 use Rattle.settings.specs.declared.Settings.{Settings}
-use Rattle.splits.specs.declared.SplitList.{SplitList}
 use Rattle.sizes.specs.declared.Size.{Size}
 use Rattle.sizes.specs.Sizes.{Fits, leafSize}
 use Rattle.block.specs.declared.Flags.{Flags}
@@ -15,14 +14,14 @@ use Rattle.block.proofs.Every.{Dims, byteAt}
 use Rattle.block.proofs.Pasted.{pasted-at, pasted-kept}
 use Rattle.block.proofs.Dims.{block-dims}
 
-module _ {s : Settings} {t : List ℕ} {n z : Size} {f : Flags} {h v : SplitList} {base stride len : ℕ} (k : Paintable s t n z f h v base stride len) where
+module _ {s : Settings} {t : List ℕ} {n z : Size} {f : Flags} {h v : List ℕ} {base stride len : ℕ} (k : Paintable s t n z f h v base stride len) where
   pub paintable-fits : Fits (leafSize s t) z
   paintable-fits = rw (← k .natural-is) (k .fits)
 
   pub paintable-dims : Dims (block s (leafWith t z f h v)) (tall s z f) (wide s z f)
   paintable-dims = block-dims s (leafWith t z f h v) paintable-fits (λ e. omega (arith, k .some-width))
 
-module _ {s : Settings} {t : List ℕ} {n z : Size} {f : Flags} {h v : SplitList} {base stride : ℕ} (o : List ℕ) (k : Paintable s t n z f h v base stride (length o)) where
+module _ {s : Settings} {t : List ℕ} {n z : Size} {f : Flags} {h v : List ℕ} {base stride : ℕ} (o : List ℕ) (k : Paintable s t n z f h v base stride (length o)) where
   -- the byte at (i, j) of the block
   pub block-at : (i j : ℕ) → i < tall s z f → j < wide s z f
       → getD (pasted o base stride (block s (leafWith t z f h v))) (base + i * stride + j) 0 ≡ byteAt (block s (leafWith t z f h v)) i j

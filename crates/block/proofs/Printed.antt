@@ -6,7 +6,6 @@ use mathlib.Core.List.{List, _++_}
 use lib.ListN.{length, drop, replicate, length-replicate}
 use lib.Seq.{sets, sets-eq}
 use Rattle.settings.specs.declared.Settings.{Settings}
-use Rattle.splits.specs.declared.SplitList.{SplitList}
 use Rattle.sizes.specs.declared.Size.{Size}
 use Rattle.block.specs.declared.Flags.{Flags}
 use Rattle.block.specs.Content.{feeds}
@@ -30,7 +29,7 @@ fed-pasted : (x : List (List ℕ)) {h w : ℕ} → Dims x h w → (n : ℕ) → 
     → o₁ ≡ sets o 0 (replicate n 10) → o₂ ≡ pasted o₁ 0 (w + 1) x → o₂ ≡ feeds x ++ drop n o
 fed-pasted x {w = w} d n e o o₁ o₂ l e₁ e₂ = e₂ ∙ rw (e₁, fed n o l, e) (pasted-feeds x (drop (length (feeds x)) o) w (d .columns))
 
-module _ {s : Settings} {t : List ℕ} {n z : Size} {f : Flags} {h v : SplitList} {len : ℕ} (k : Paintable s t n z f h v 0 (wide s z f + 1) len) (w : ℕ) (ew : w ≡ wide s z f) (a : ℕ) (ea : a ≡ tall s z f) where
+module _ {s : Settings} {t : List ℕ} {n z : Size} {f : Flags} {h v : List ℕ} {len : ℕ} (k : Paintable s t n z f h v 0 (wide s z f + 1) len) (w : ℕ) (ew : w ≡ wide s z f) (a : ℕ) (ea : a ≡ tall s z f) where
   tall-some : 0 < tall s z f
   tall-some = omega (arith, tall-is s z f)
 

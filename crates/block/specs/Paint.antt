@@ -5,8 +5,6 @@ use mathlib.Core.List.{List, [], _∷_, _++_}
 use lib.ListN.{length, drop}
 use lib.Seq.{sets}
 use Rattle.settings.specs.declared.Settings.{Settings}
-use Rattle.splits.specs.declared.SplitList.{SplitList}
-use Rattle.splits.specs.Lists.{listOf}
 use Rattle.sizes.specs.declared.Size.{Size}
 use Rattle.sizes.specs.Sizes.{Fits, leafSize}
 use Rattle.block.specs.declared.Flags.{Flags}
@@ -29,19 +27,19 @@ pub record Wrote (r end : ℕ) (after is : List ℕ) : Type 0 where
   pub out-is : after ≡ is
 
 -- the leaf of a text, its size, flags and split lists
-abbrev pub leafWith : List ℕ → Size → Flags → SplitList → SplitList → Leaf
-leafWith t z f h v = record { text = t; size = z; horizontal = listOf h; vertical = listOf v; flags = f }
+abbrev pub leafWith : List ℕ → Size → Flags → List ℕ → List ℕ → Leaf
+leafWith t z f h v = record { text = t; size = z; horizontal = h; vertical = v; flags = f }
 
 -- what `paint_block` asks: the natural size n of the text t, an allotted size z that holds it, and room for the block
-pub record Paintable (s : Settings) (t : List ℕ) (n z : Size) (f : Flags) (h v : SplitList) (base stride len : ℕ) : Type 0 where
+pub record Paintable (s : Settings) (t : List ℕ) (n z : Size) (f : Flags) (h v : List ℕ) (base stride len : ℕ) : Type 0 where
   pub natural-is : n ≡ leafSize s t
   pub fits : Fits n z
   pub text-small : length t < 65536
   pub some-width : 0 < z .width
   pub width-small : z .width < 65536
   pub height-small : z .height < 65536
-  pub few-horizontal : h .count ≤ 512
-  pub few-vertical : v .count ≤ 512
+  pub few-horizontal : length h ≤ 512
+  pub few-vertical : length v ≤ 512
   pub apart : wide s z f ≤ stride
   pub room : Room base stride (tall s z f) (wide s z f) len
 

@@ -63,9 +63,9 @@ fn border(out: &mut [u8], at: usize, w: usize, corner: u8, mark: u8, right: bool
     }
 }
 
-pub fn print_top_line(out: &mut [u8], at: usize, w: usize, b: Borders, pieces: &[u16], count: usize)
-    requires { ⌜ (w < 65536) × (count ≤ 512) × (count ≤ length (now pieces)) × (at + (1 + (w + pick (b .right) 1 0)) ≤ length (now out)) ⌝ }
-    ensures { λ _. ⌜ now (out .exit) ≡ sets (now (out .entry)) at (topOf b w (take count (now (pieces .entry)))) ⌝ }
+pub fn print_top_line(out: &mut [u8], at: usize, w: usize, b: Borders, pieces: &[u16])
+    requires { ⌜ (w < 65536) × (length (now pieces) ≤ 512) × (at + (1 + (w + pick (b .right) 1 0)) ≤ length (now out)) ⌝ }
+    ensures { λ _. ⌜ now (out .exit) ≡ sets (now (out .entry)) at (topOf b w (now (pieces .entry))) ⌝ }
 {
     border(
         out,
@@ -82,7 +82,6 @@ pub fn print_top_line(out: &mut [u8], at: usize, w: usize, b: Borders, pieces: &
         1,
         w,
         pieces,
-        count,
         b.marks[marks::BOTTOM_INTERSECTION],
     );
 }
@@ -110,11 +109,10 @@ pub fn print_left(
     n: usize,
     b: Borders,
     pieces: &[u16],
-    count: usize,
 ) -> usize
-    requires { ⌜ (n < 65536) × (count ≤ 512) × (count ≤ length (now pieces)) × (1 ≤ stride) ⌝ }
+    requires { ⌜ (n < 65536) × (length (now pieces) ≤ 512) × (1 ≤ stride) ⌝ }
     requires { ⌜ Room at stride n 1 (length (now out)) ⌝ }
-    ensures { λ r. ⌜ Wrote r (at + n * stride) (now (out .exit)) (pasted (now (out .entry)) at stride (leftOf b n (take count (now (pieces .entry))))) ⌝ }
+    ensures { λ r. ⌜ Wrote r (at + n * stride) (now (out .exit)) (pasted (now (out .entry)) at stride (leftOf b n (now (pieces .entry)))) ⌝ }
 {
     let next = bytes::stack(out, at, stride, n, b.marks[marks::LEFT]);
     bytes::cross(
@@ -123,7 +121,6 @@ pub fn print_left(
         stride,
         n,
         pieces,
-        count,
         b.marks[marks::RIGHT_INTERSECTION],
     );
     next

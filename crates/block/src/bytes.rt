@@ -2,7 +2,7 @@
 ghost use mathlib.Core.Path.{_≡_};
 ghost use Prim.Native.Nat.{_+_, _*_, _<_, _≤_};
 ghost use mathlib.Core.List.{[], _∷_};
-ghost use lib.ListN.{length, take, replicate};
+ghost use lib.ListN.{length, replicate};
 ghost use lib.Seq.{sets};
 ghost use Rattle.splits.specs.Splits.{named};
 ghost use Rattle.block.specs.Paint.{pasted, Room, Wrote};
@@ -67,22 +67,14 @@ pub fn stack(out: &mut [u8], at: usize, stride: usize, n: usize, byte: u8) -> us
 }
 
 // The places of n, `step` apart from `at` on, that the squashed list names become `byte` (`short_splits`, `squash_splits`).
-pub fn cross(
-    out: &mut [u8],
-    at: usize,
-    step: usize,
-    n: usize,
-    pieces: &[u16],
-    count: usize,
-    byte: u8,
-)
-    requires { ⌜ (n < 65536) × (count ≤ 512) × (count ≤ length (now pieces)) ⌝ }
+pub fn cross(out: &mut [u8], at: usize, step: usize, n: usize, pieces: &[u16], byte: u8)
+    requires { ⌜ (n < 65536) × (length (now pieces) ≤ 512) ⌝ }
     requires { ⌜ Room at step n 1 (length (now out)) ⌝ }
-    ensures { λ _. ⌜ now (out .exit) ≡ crossed (now (out .entry)) at step n (named n (take count (now (pieces .entry)))) byte ⌝ }
+    ensures { λ _. ⌜ now (out .exit) ≡ crossed (now (out .entry)) at step n (named n (now (pieces .entry))) byte ⌝ }
 {
     let mut pos = 0;
     let mut i = 0;
-    while i < count {
+    while i < pieces.len() {
         pos += common::wide16(pieces[i]);
         if n <= pos {
             return;

@@ -21,14 +21,14 @@ use Rattle.leaf.specs.declared.visit.Purpose.{Purpose}
 use Rattle.leaf.specs.declared.visit.Job.{Job}
 use Rattle.leaf.specs.declared.visit.Found.{Found}
 use Rattle.leaf.specs.Walk.{Placed, leafOf, leaves, W, H}
-use Rattle.leaf.specs.Visiting.{keepAll, showAll, Asks}
-use Rattle.leaf.specs.Walking.{coreLists, noFound, ReadyTree, WalksTree}
+use Rattle.leaf.specs.Visiting.{Kept, keptOf, keepAll, showAll, Asks}
+use Rattle.leaf.specs.Walking.{coreLists, noKept, ReadyTree, WalksTree}
 use Rattle.leaf.specs.Answers.{tooLarge, numbered, noRecord, recordOf, recordFound, foundRecord, leafRecordOf, largeOf}
 use Rattle.leaf.proofs.Fit.{LeafFits, leaves-fit}
 use Rattle.leaf.proofs.Named.{leaves-rise}
 use Rattle.sizes.proofs.Given.{Takes, takes, Accepts, accepts, refuses}
 use Rattle.leaf.proofs.Held.{lists-held}
-use Rattle.leaf.proofs.Seek.{keptOf, keep-numbered}
+use Rattle.leaf.proofs.Seek.{soughtOf, keep-numbered}
 
 -- ---- the sheet's size, by the root's numbers
 
@@ -61,12 +61,12 @@ leaves-ask job t len n = every-map (LeafFits (job .settings)) (Asks job len) (λ
 
 -- ---- the leaf record
 
-found-record : (x : Option Placed) → foundRecord (keptOf noFound x) ≡ recordFound x
+found-record : (x : Option Placed) → foundRecord (soughtOf noKept x) ≡ recordFound x
 found-record none = refl
 found-record (some l) = refl
 
-pub record-found : (job : Job) (t : Tree) (f : Found) → f ≡ keepAll job noFound (leaves (job .settings) t) → foundRecord f ≡ recordFound (numbered (job .wanted) (leaves (job .settings) t))
-record-found job t f e = rw (e, keep-numbered job noFound 0 (leaves (job .settings) t) (leaves-rise (job .settings) t)) (found-record (numbered (job .wanted) (leaves (job .settings) t)))
+pub record-found : (job : Job) (t : Tree) (f : Kept) → f ≡ keepAll job noKept (leaves (job .settings) t) → foundRecord f ≡ recordFound (numbered (job .wanted) (leaves (job .settings) t))
+record-found job t f e = rw (e, keep-numbered job noKept 0 (leaves (job .settings) t) (leaves-rise (job .settings) t)) (found-record (numbered (job .wanted) (leaves (job .settings) t)))
 
 module _ (bs ts : List ℕ) (n : ℕ) where
   pub record-refused : (m : Measured) → m ≡ measuredOf (inputOf bs ts) → (m .number ≡ 0 → ⊥) → leafRecordOf (inputOf bs ts) n ≡ noRecord (m .number)
@@ -100,17 +100,17 @@ module _ (bs ts : List ℕ) (m : Measured) (me : m ≡ measuredOf (inputOf bs ts
   pub call-ready : (p : Purpose) (n len : ℕ) → (p ≡ Purpose.Sheet → ⊥) → ReadyTree (jobOf m p n) ts (coreLists (m .core)) len
   call-ready p n len k = tree-ready (jobOf m p n) ts (call .tree) (m .core) len call-takes (call .core) (leaves-ask (jobOf m p n) (call .tree) len k)
 
-  pub call-walks : (p : Purpose) (n len : ℕ) (k : p ≡ Purpose.Sheet → ⊥) (f : Found) (o₀ o : List ℕ)
-      → WalksTree (jobOf m p n) (leaves (m .settings) (call-ready p n len k .tree)) f o₀ o → WalksTree (jobOf m p n) (leaves (m .settings) (call .tree)) f o₀ o
+  pub call-walks : (p : Purpose) (n len : ℕ) (k : p ≡ Purpose.Sheet → ⊥) (f : Found) (kept o₀ o : List ℕ)
+      → WalksTree (jobOf m p n) (leaves (m .settings) (call-ready p n len k .tree)) f kept o₀ o → WalksTree (jobOf m p n) (leaves (m .settings) (call .tree)) f kept o₀ o
   unfolding call-ready tree-ready
-  call-walks p n len k f o₀ o w = w
+  call-walks p n len k f kept o₀ o w = w
 
   -- the leaf record
-  pub record-answers : (n len : ℕ) (k : Purpose.Record ≡ Purpose.Sheet → ⊥) (f : Found) (o₀ o : List ℕ)
-      → WalksTree (jobOf m Purpose.Record n) (leaves (m .settings) (call-ready Purpose.Record n len k .tree)) f o₀ o → (b : Bool) → b ≡ largeOf (m .core) → b ≡ false
-      → foundRecord f ≡ leafRecordOf (inputOf bs ts) n
-  record-answers n len k f o₀ o w b e g =
-      record-found (jobOf m Purpose.Record n) (call .tree) f (call-walks Purpose.Record n len k f o₀ o w .found)
+  pub record-answers : (n len : ℕ) (k : Purpose.Record ≡ Purpose.Sheet → ⊥) (f : Found) (kept o₀ o : List ℕ)
+      → WalksTree (jobOf m Purpose.Record n) (leaves (m .settings) (call-ready Purpose.Record n len k .tree)) f kept o₀ o → (b : Bool) → b ≡ largeOf (m .core) → b ≡ false
+      → foundRecord (keptOf f kept) ≡ leafRecordOf (inputOf bs ts) n
+  record-answers n len k f kept o₀ o w b e g =
+      record-found (jobOf m Purpose.Record n) (call .tree) (keptOf f kept) (call-walks Purpose.Record n len k f kept o₀ o w .found-is)
       ∙ sym (record-within bs ts n (m .settings) (call .tree) (call .input) (call-large b false e g))
 
 -- no record's or block's walk is the sheet's

@@ -7,6 +7,7 @@ pub mod Entries
 pub mod Named
 pub mod Narrow
 pub mod Outcome
+mod Pieces
 mod Steps
 mod Turns
 mod Nodes

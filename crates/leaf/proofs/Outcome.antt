@@ -12,9 +12,8 @@ use Rattle.tree.specs.Tree.{Axis, across, down, Tree, cell, group, Trees, none,
 use Rattle.splits.specs.Splits.{shortSplits3}
 use Rattle.sizes.specs.Sizes.{sep, allot, spareOf}
 use Rattle.leaf.specs.declared.visit.Job.{Job}
-use Rattle.leaf.specs.declared.visit.Found.{Found}
 use Rattle.leaf.specs.Walk.{Context, Placed, Walked, leafWalked, alongList, besideList, child, joinWalked, noneWalked, walk, children}
-use Rattle.leaf.specs.Visiting.{keepAll, showAll}
+use Rattle.leaf.specs.Visiting.{Kept, keepAll, showAll}
 use Rattle.leaf.specs.Walking.{grouped}
 
 -- a walk's lists along the axis and beside it
@@ -153,12 +152,12 @@ mutual
 
 -- ---- the folds over the leaves
 
-pub keep-append : (job : Job) (f : Found) (xs ys : List Placed) → keepAll job f (xs ++ ys) ≡ keepAll job (keepAll job f xs) ys
+pub keep-append : (job : Job) (f : Kept) (xs ys : List Placed) → keepAll job f (xs ++ ys) ≡ keepAll job (keepAll job f xs) ys
 unfolding keepAll
 keep-append job f [] ys = refl
 keep-append job f (x ∷ xs) ys = keep-append job _ xs ys
 
-pub keep-nil : (job : Job) (f : Found) → keepAll job f [] ≡ f
+pub keep-nil : (job : Job) (f : Kept) → keepAll job f [] ≡ f
 unfolding keepAll
 keep-nil job f = refl
 

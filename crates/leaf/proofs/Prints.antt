@@ -28,15 +28,15 @@ use Rattle.leaf.specs.declared.Written.{Written}
 use Rattle.leaf.specs.declared.visit.Purpose.{Purpose}
 use Rattle.leaf.specs.declared.visit.Found.{Found}
 use Rattle.leaf.specs.Walk.{Placed, leafOf, leaves}
-use Rattle.leaf.specs.Visiting.{printed, blockBytes}
-use Rattle.leaf.specs.Walking.{noFound, WalksTree}
+use Rattle.leaf.specs.Visiting.{keptOf, printed, blockBytes}
+use Rattle.leaf.specs.Walking.{noKept, WalksTree}
 use Rattle.leaf.specs.Answers.{tooLarge, numbered, Prints, noPrint, printTo, printFound, foundWritten, leafPrintOf, largeOf}
 use Rattle.leaf.proofs.Fit.{LeafFits, leaves-fit}
 use Rattle.leaf.proofs.Entries.{Listed, numbered-listed}
 use Rattle.leaf.proofs.Named.{leaves-numbered, leaves-rise}
 use Rattle.sizes.proofs.Given.{Takes, refuses}
 use Rattle.leaf.proofs.Calls.{jobOf, call, call-takes, call-large, call-ready, call-walks, block-no-sheet}
-use Rattle.leaf.proofs.Seek.{keptOf, keep-numbered, shownOf, show-numbered}
+use Rattle.leaf.proofs.Seek.{soughtOf, keep-numbered, shownOf, show-numbered}
 
 -- ---- the bytes of a block
 
@@ -74,7 +74,7 @@ leaves-small ts s t k =
 
 -- ---- what the walk kept and showed is the printer's answer
 
-kept-small : (s : Settings) (n : ℕ) (ls : List Placed) (x : Option Placed) → numbered n ls ≡ x → Every SmallLeaf ls → (keptOf noFound x .size .width < 65536) × (keptOf noFound x .size .height < 65536)
+kept-small : (s : Settings) (n : ℕ) (ls : List Placed) (x : Option Placed) → numbered n ls ≡ x → Every SmallLeaf ls → (soughtOf noKept x .size .width < 65536) × (soughtOf noKept x .size .height < 65536)
 kept-small s n ls none e k = (omega arith, omega arith)
 kept-small s n ls (some l) e k = numbered-every SmallLeaf n l ls k e
 
@@ -86,7 +86,7 @@ to-case : (b : Bool) (bytes o : List ℕ) → Answers (pick b (record { number =
 to-case true bytes o = (refl, refl)
 to-case false bytes o = (refl, refl)
 
-found-prints : (s : Settings) (n : ℕ) (o : List ℕ) (ls : List Placed) (x : Option Placed) → numbered n ls ≡ x → Every (LeafFits s) ls → Answers (foundWritten s (keptOf noFound x) (length o)) (shownOf s o x) (printFound s o x)
+found-prints : (s : Settings) (n : ℕ) (o : List ℕ) (ls : List Placed) (x : Option Placed) → numbered n ls ≡ x → Every (LeafFits s) ls → Answers (foundWritten s (soughtOf noKept x) (length o)) (shownOf s o x) (printFound s o x)
 unfolding printed
 found-prints s n o ls none e k = (refl, refl)
 found-prints s n o ls (some l) e k =
@@ -113,24 +113,24 @@ module _ (bs ts : List ℕ) (n : ℕ) (o : List ℕ) (m : Measured) (me : m ≡ 
     unfolding leafPrintOf
     print-within g = rw (call bs ts m me h .input, call-large bs ts m me h b false be g)
 
-    module _ (len : ℕ) (f : Found) (o₁ : List ℕ)
-        (w : WalksTree (jobOf m Purpose.Block n) (leaves (m .settings) (call-ready bs ts m me h Purpose.Block n len block-no-sheet .tree)) f o o₁) where
+    module _ (len : ℕ) (f : Found) (kept o₁ : List ℕ)
+        (w : WalksTree (jobOf m Purpose.Block n) (leaves (m .settings) (call-ready bs ts m me h Purpose.Block n len block-no-sheet .tree)) f kept o o₁) where
       ls : List Placed
       ls = leaves (m .settings) (call bs ts m me h .tree)
 
-      found-is : f ≡ keptOf noFound (numbered n ls)
+      found-is : keptOf f kept ≡ soughtOf noKept (numbered n ls)
       unfolding ls
-      found-is = call-walks bs ts m me h Purpose.Block n len block-no-sheet f o o₁ w .found ∙ keep-numbered (jobOf m Purpose.Block n) noFound 0 ls (leaves-rise (m .settings) (call bs ts m me h .tree))
+      found-is = call-walks bs ts m me h Purpose.Block n len block-no-sheet f kept o o₁ w .found-is ∙ keep-numbered (jobOf m Purpose.Block n) noKept 0 ls (leaves-rise (m .settings) (call bs ts m me h .tree))
 
       pub found-small : (f .size .width < 65536) × (f .size .height < 65536)
       unfolding ls
-      found-small = rw found-is (kept-small (m .settings) n ls (numbered n ls) refl (leaves-small ts (m .settings) (call bs ts m me h .tree) (call-takes bs ts m me h)))
+      found-small = rw (← found-is) at (kept-small (m .settings) n ls (numbered n ls) refl (leaves-small ts (m .settings) (call bs ts m me h .tree) (call-takes bs ts m me h)))
 
       out-is : o₁ ≡ shownOf (m .settings) o (numbered n ls)
       unfolding ls
-      out-is = call-walks bs ts m me h Purpose.Block n len block-no-sheet f o o₁ w .out ∙ show-numbered (m .settings) n o 0 ls (leaves-rise (m .settings) (call bs ts m me h .tree))
+      out-is = call-walks bs ts m me h Purpose.Block n len block-no-sheet f kept o o₁ w .out-is ∙ show-numbered (m .settings) n o 0 ls (leaves-rise (m .settings) (call bs ts m me h .tree))
 
-      pub print-answers : b ≡ false → (r : Written) (len₁ : ℕ) → len₁ ≡ length o → r ≡ foundWritten (m .settings) f len₁ → Answers r o₁ (leafPrintOf (inputOf bs ts) n o)
+      pub print-answers : b ≡ false → (r : Written) (len₁ : ℕ) → len₁ ≡ length o → r ≡ foundWritten (m .settings) (keptOf f kept) len₁ → Answers r o₁ (leafPrintOf (inputOf bs ts) n o)
       unfolding ls
       print-answers g r len₁ le re =
           let k = found-prints (m .settings) n o ls (numbered n ls) refl (leaves-fit (m .settings) (call bs ts m me h .tree)) in

@@ -1,20 +1,25 @@
 -- The walk from the root. Assumes nothing.
-use mathlib.Core.Path.{_≡_, refl, sym, ap, _∙_}
+use mathlib.Core.Path.{_≡_, refl, _∙_}
 use mathlib.Core.List.{List, []}
-use Prim.Native.Nat.{ℕ, _+_}
+use mathlib.Core.Bool.{true}
+use Prim.Native.Nat.{ℕ, _+_, _≤_}
 use native.Mathlib.Omega.{arith}
-use lib.ListN.{length}
-use Rattle.tree.specs.Tree.{nodes}
+use lib.ListN.{length, take}
+use Rattle.tree.specs.Tree.{across, nodes}
 use Rattle.leaf.specs.declared.context.Ctx.{Ctx}
 use Rattle.leaf.specs.declared.visit.Job.{Job}
 use Rattle.leaf.specs.declared.visit.Found.{Found}
 use Rattle.leaf.specs.declared.walk.Answer.{Answer}
-use Rattle.leaf.specs.Walk.{root, rootFlags, walk, leaves}
-use Rattle.leaf.specs.Visiting.{keepAll}
-use Rattle.leaf.specs.Walking.{Lists, Ready, ReadyTree, rootCtx, noFound, Walks, WalksTree, walked}
+use Rattle.leaf.specs.Walk.{alongList, besideList, root, leaves}
+use Rattle.leaf.specs.Walking.{Lie, Lists, Ready, ReadyTree, rootCtx, noFound, Walks, WalksTree, walked}
 
-module _ (job : Job) (s : List ℕ) (ls : Lists) (len : ℕ) (q : ReadyTree job s ls len) (x : Ctx) (xe : x ≡ rootCtx) where
-  pub root-ready : Ready job s ls x len
+module _ (job : Job) (s : List ℕ) (ls : Lists) (len : ℕ) (q : ReadyTree job s ls len) (x : Ctx) (xe : x ≡ rootCtx)
+    (al be : List ℕ) (ra : 512 ≤ length al) (rb : 512 ≤ length be) (kl : ℕ) (rk : 1024 ≤ kl) where
+  no-pieces : Lie true [] [] al be
+  unfolding alongList besideList
+  no-pieces = record { along = refl; beside = refl }
+
+  pub root-ready : Ready job s ls true x al be kl len
   unfolding root leaves
   root-ready = record {
     tree = q .tree;
@@ -25,15 +30,21 @@ module _ (job : Job) (s : List ℕ) (ls : Lists) (len : ℕ) (q : ReadyTree job 
     sizes = q .sizes;
     few-h = omega arith;
     few-v = omega arith;
+    lie = no-pieces;
+    room-along = ra;
+    room-beside = rb;
+    room-kept = rk;
     room = omega (arith, q .few);
     low-line = omega arith;
     low-column = omega arith;
     asks = q .asks;
   }
 
-  pub root-answers : (f : Found) → f ≡ noFound → (r : Answer) (o₀ o : List ℕ) → Walks job f (root-ready .at .node + nodes (root-ready .tree)) (walked root-ready) r o₀ o → WalksTree job (leaves (job .settings) (q .tree)) (r .found) o₀ o
+  pub root-answers : (f : Found) → f ≡ noFound → (k₀ : List ℕ) (r : Answer) (al₁ be₁ k o₀ o : List ℕ) → Walks job true f k₀ (root-ready .at .node + nodes (root-ready .tree)) (walked root-ready) r al₁ be₁ k o₀ o
+      → WalksTree job (leaves (job .settings) (q .tree)) (r .found) k o₀ o
   unfolding root-ready leaves
-  root-answers f fe r o₀ o k = record {
-    found = ap (λ (y : Answer). y .found) (k .answer) ∙ ap (λ (y : Found). keepAll job y (walk (job .settings) (q .tree) (root (job .settings) (q .tree)) .leaves)) fe;
-    out = k .out;
+  root-answers f fe k₀ r al₁ be₁ k o₀ o w = record {
+    few-is = w .few-is (rw fe (omega arith, omega arith));
+    found-is = w .found-is ∙ rw fe;
+    out-is = w .out-is;
   }

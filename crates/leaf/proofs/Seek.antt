@@ -11,35 +11,34 @@ use lib.Dec.{eqb}
 use borrow.Author.Tests.{eq-eqb, ne-eqb, eqb-true}
 use Rattle.common.specs.Choice.{pick}
 use Rattle.leaf.specs.declared.visit.Job.{Job}
-use Rattle.leaf.specs.declared.visit.Found.{Found}
 use Rattle.tree.specs.Tree.{Tree}
 use Rattle.sizes.proofs.Elems.{elem-none}
 use Rattle.block.specs.Block.{block}
 use Rattle.leaf.specs.declared.visit.Purpose.{Purpose}
 use Rattle.leaf.specs.Walk.{Placed, leafOf, leaves}
-use Rattle.leaf.specs.Visiting.{ctxOf, foundOf, keeps, keepAll, printed, shows, showAll}
+use Rattle.leaf.specs.Visiting.{Kept, keptAt, keeps, keepAll, printed, shows, showAll}
 use Rattle.leaf.specs.Answers.{numbered}
 use Rattle.leaf.proofs.Entries.{Rising}
 use Rattle.leaf.proofs.Named.{LeafAt, leaves-rise, rising-from}
 
 -- the record of a leaf, or what was kept before
-abbrev pub keptOf : Found → Option Placed → Found
-keptOf f none = f
-keptOf f (some l) = foundOf (ctxOf (l .at)) (l .at .size)
+abbrev pub soughtOf : Kept → Option Placed → Kept
+soughtOf f none = f
+soughtOf f (some l) = keptAt (l .at)
 
 -- no leaf after the wanted number's is the wanted one
-keep-above : (job : Job) (f : Found) (b : ℕ) (ls : List Placed) → Rising b ls → job .wanted < b → keepAll job f ls ≡ f
+keep-above : (job : Job) (f : Kept) (b : ℕ) (ls : List Placed) → Rising b ls → job .wanted < b → keepAll job f ls ≡ f
 unfolding keepAll
 keep-above job f b [] r h = refl
 keep-above job f b (l ∷ ls) r h =
     rw (ne-eqb (l .at .node) (job .wanted) (λ e. omega (arith, r))) (keep-above job f (suc (l .at .node)) ls (r .1) (omega (arith, r)))
 
-keep-case : (job : Job) (f : Found) (b : ℕ) (l : Placed) (ls : List Placed) (x : Bool) → eqb (l .at .node) (job .wanted) ≡ x → Rising b (l ∷ ls) → keepAll job f ls ≡ keptOf f (numbered (job .wanted) ls)
-    → keepAll job (pick x (foundOf (ctxOf (l .at)) (l .at .size)) f) ls ≡ keptOf f (pick x (some l) (numbered (job .wanted) ls))
-keep-case job f b l ls true e r ih = let w = eqb-true (l .at .node) (job .wanted) e in keep-above job (foundOf (ctxOf (l .at)) (l .at .size)) (suc (l .at .node)) ls (r .1) (omega arith)
+keep-case : (job : Job) (f : Kept) (b : ℕ) (l : Placed) (ls : List Placed) (x : Bool) → eqb (l .at .node) (job .wanted) ≡ x → Rising b (l ∷ ls) → keepAll job f ls ≡ soughtOf f (numbered (job .wanted) ls)
+    → keepAll job (pick x (keptAt (l .at)) f) ls ≡ soughtOf f (pick x (some l) (numbered (job .wanted) ls))
+keep-case job f b l ls true e r ih = let w = eqb-true (l .at .node) (job .wanted) e in keep-above job (keptAt (l .at)) (suc (l .at .node)) ls (r .1) (omega arith)
 keep-case job f b l ls false e r ih = ih
 
-pub keep-numbered : (job : Job) (f : Found) (b : ℕ) (ls : List Placed) → Rising b ls → keepAll job f ls ≡ keptOf f (numbered (job .wanted) ls)
+pub keep-numbered : (job : Job) (f : Kept) (b : ℕ) (ls : List Placed) → Rising b ls → keepAll job f ls ≡ soughtOf f (numbered (job .wanted) ls)
 unfolding keepAll numbered
 keep-numbered job f b [] r = refl
 keep-numbered job f b (l ∷ ls) r = keep-case job f b l ls (eqb (l .at .node) (job .wanted)) refl r (keep-numbered job f (suc (l .at .node)) ls (r .1))

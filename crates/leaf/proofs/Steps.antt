@@ -3,7 +3,7 @@ use mathlib.Core.Path.{_≡_, refl, sym, ap, _∙_}
 use mathlib.Core.List.{List, [], _∷_, _++_}
 use Prim.Native.Nat.{ℕ, zero, suc, _+_, _-_, _≤_, _<_}
 use native.Mathlib.Omega.{arith}
-use mathlib.Core.Bool.{Bool, true, false}
+use mathlib.Core.Bool.{Bool, true, false, Bool·beq}
 use lib.ListN.{length, getD, take, drop, length-drop}
 use lib.Dec.{eqb}
 use borrow.Author.Tests.{eq-eqb, ne-eqb}
@@ -12,23 +12,11 @@ use Rattle.settings.specs.declared.Settings.{Settings}
 use Rattle.tree.specs.Tree.{Axis, across, down, Tree, cell, group, Trees, none, more, count}
 use Rattle.tree.specs.Bytes.{Is, Are, lengthAt, axisOf}
 use Rattle.tree.proofs.Fronts.{is-whole}
-use Rattle.splits.specs.declared.SplitList.{SplitList}
-use Rattle.splits.specs.Splits.{shortSplits3}
-use Rattle.splits.specs.Lists.{listOf, splitList}
-use Rattle.splits.proofs.Lists.{list-of}
 use Rattle.sizes.specs.declared.Size.{Size}
 use Rattle.sizes.specs.Sizes.{natural, sep, childSize}
-use Rattle.leaf.specs.declared.context.Spot.{Spot}
-use Rattle.leaf.specs.declared.context.Ctx.{Ctx}
-use Rattle.leaf.specs.declared.visit.Job.{Job}
-use Rattle.leaf.specs.declared.visit.Found.{Found}
-use Rattle.leaf.specs.declared.walk.Answer.{Answer}
-use Rattle.leaf.specs.declared.walk.Going.{Going}
-use Rattle.leaf.specs.declared.walk.Planned.{Planned}
-use Rattle.leaf.specs.Walk.{Context, Walked, alongList, besideList, child}
-use Rattle.leaf.specs.Visiting.{spotOf, ctxOf, keepAll}
-use Rattle.leaf.specs.Walking.{childSpot, childCtx, planOf, extentAt, advanceOf, finishOf, answerOf, Lists, Here, Allotted}
-use Rattle.leaf.proofs.Outcome.{alongW, besideW}
+use Rattle.leaf.specs.Walk.{Context, alongList, besideList, child}
+use Rattle.leaf.specs.Visiting.{spotOf, ctxOf}
+use Rattle.leaf.specs.Walking.{childSpot, childCtx, extentAt, Lie, Lists, Here, Allotted}
 
 pub here-of : (s : Settings) (t : Tree) (z : Size) (node : ℕ) (ls : Lists) → Allotted s t z node ls → Here (natural s t) z node ls
 unfolding Allotted
@@ -51,8 +39,8 @@ sep-is s = refl
 
 -- ---- a child's context
 
-child-ctx : (a : Bool) (c : Context) (first last old : Bool) (node offset e : ℕ) (taken handed : List ℕ)
-    → ctxOf (child (axisOf a) c first last old node offset e taken handed) ≡ childCtx a node (childSpot a (spotOf c) offset first last old) (splitList taken) (splitList handed)
+pub child-ctx : (a : Bool) (c : Context) (first last old : Bool) (node offset e : ℕ) (taken handed : List ℕ)
+    → ctxOf (child (axisOf a) c first last old node offset e taken handed) ≡ childCtx a node (childSpot a (spotOf c) offset first last old) (length taken) (length handed)
 unfolding child
 child-ctx true c first last old node offset e taken handed = refl
 child-ctx false c first last old node offset e taken handed = refl
@@ -91,69 +79,66 @@ extent-small false ws hs i k = k .1
 
 -- ---- lists by the axis
 
-pub start-cut : (a : Bool) (h v : List ℕ) → pick a (splitList h) (splitList v) ≡ splitList (alongList (axisOf a) h v)
-unfolding alongList
-start-cut true h v = refl
-start-cut false h v = refl
-
-pub start-handed : (a : Bool) (h v : List ℕ) → pick a (splitList v) (splitList h) ≡ splitList (besideList (axisOf a) h v)
-unfolding besideList
-start-handed true h v = refl
-start-handed false h v = refl
-
-end-h : (a : Bool) (h v : List ℕ) → pick a (splitList (alongList (axisOf a) h v)) (splitList (besideList (axisOf a) h v)) ≡ splitList h
-unfolding alongList besideList
-end-h true h v = refl
-end-h false h v = refl
-
-end-v : (a : Bool) (h v : List ℕ) → pick a (splitList (besideList (axisOf a) h v)) (splitList (alongList (axisOf a) h v)) ≡ splitList v
-unfolding alongList besideList
-end-v true h v = refl
-end-v false h v = refl
+pub child-along : (a : Axis) (c : Context) (first last old : Bool) (node offset e : ℕ) (taken handed : List ℕ)
+    → let k = child a c first last old node offset e taken handed in (alongList a (k .horizontal) (k .vertical) ≡ taken) × (besideList a (k .horizontal) (k .vertical) ≡ handed)
+unfolding child alongList besideList
+child-along across c first last old node offset e taken handed = (refl, refl)
+child-along down c first last old node offset e taken handed = (refl, refl)
 
 pub axis-few : (a : Axis) (h v : List ℕ) (m : ℕ) → length h ≤ m → length v ≤ m → (length (alongList a h v) ≤ m) × (length (besideList a h v) ≤ m)
 unfolding alongList besideList
 axis-few across h v m x y = (x, y)
 axis-few down h v m x y = (y, x)
 
--- ---- what the functions of a turn answer, where their lists are padded
+-- the counts of two lists, along the axis and beside it, and back
+pub along-count : (a : Bool) (h v : List ℕ) → pick a (length h) (length v) ≡ length (alongList (axisOf a) h v)
+unfolding alongList
+along-count true h v = refl
+along-count false h v = refl
 
-pub plan-is : (a : Bool) (g : Going) (c : Context) (b : Spot) (cut handed : List ℕ) (offset : ℕ) (last last₁ first₁ : Bool) (ext e used : ℕ)
-    → b ≡ spotOf c → g .offset ≡ offset → g .first ≡ first₁ → last ≡ last₁ → ext ≡ e → g .cut ≡ splitList cut → g .handed ≡ splitList handed
-    → planOf g b a last ext used ≡ record {
-      used = used;
-      offset = offset + e + 1;
-      child = ctxOf (child (axisOf a) c first₁ last₁ (g .old) (g .node) offset e (shortSplits3 cut e .taken) handed);
-      split = shortSplits3 cut e .split;
-      left = splitList (shortSplits3 cut e .left);
-    }
-plan-is a g c b cut handed offset last last₁ first₁ ext e used h₁ h₀ h₂ h₃ h₄ h₅ h₆ =
-    rw (child-ctx a c first₁ last₁ (g .old) (g .node) offset e (shortSplits3 cut e .taken) handed, h₁, h₀, h₂, h₃, h₄, h₅, list-of cut, h₆)
+pub beside-count : (a : Bool) (h v : List ℕ) → pick a (length v) (length h) ≡ length (besideList (axisOf a) h v)
+unfolding besideList
+beside-count true h v = refl
+beside-count false h v = refl
 
-pub advance-is : (a : Bool) (g : Going) (y : Planned) (r : Answer) (joined : List ℕ) (split : Bool) (left : SplitList) (w : Walked) (job : Job) (next offset : ℕ)
-    → y .offset ≡ offset → g .joined ≡ splitList joined → y .split ≡ split → y .left ≡ left → r ≡ answerOf job (g .found) next w
-    → advanceOf g y r a ≡ record {
-      node = next;
-      offset = offset;
-      first = false;
-      old = split;
-      cut = left;
-      handed = splitList (besideW (axisOf a) w);
-      joined = splitList (joined ++ alongW (axisOf a) w);
-      found = keepAll job (g .found) (w .leaves);
-    }
-advance-is a g y r joined split left w job next offset h₀ h₁ h₂ h₃ h₄ =
-    rw (h₀, h₁, h₂, h₃, h₄, start-cut a (w .horizontal) (w .vertical), start-handed a (w .horizontal) (w .vertical), list-of joined, list-of (alongW (axisOf a) w))
+pub horizontal-count : (a : Bool) (h v : List ℕ) → pick a (length (alongList (axisOf a) h v)) (length (besideList (axisOf a) h v)) ≡ length h
+unfolding alongList besideList
+horizontal-count true h v = refl
+horizontal-count false h v = refl
 
-pub finish-is : (a : Bool) (g : Going) (w : Walked) (job : Job) (next : ℕ) (f₀ : Found)
-    → g .node ≡ next → g .joined ≡ splitList (alongW (axisOf a) w) → g .handed ≡ splitList (besideW (axisOf a) w) → g .found ≡ keepAll job f₀ (w .leaves) → finishOf g a ≡ answerOf job f₀ next w
-finish-is a g w job next f₀ h₁ h₂ h₃ h₄ = rw (h₁, h₂, h₃, h₄, end-h a (w .horizontal) (w .vertical), end-v a (w .horizontal) (w .vertical))
+pub vertical-count : (a : Bool) (h v : List ℕ) → pick a (length (besideList (axisOf a) h v)) (length (alongList (axisOf a) h v)) ≡ length v
+unfolding alongList besideList
+vertical-count true h v = refl
+vertical-count false h v = refl
 
--- the bound on the joined list, by the axis
-pub few-across : (a : Bool) (n : ℕ) (h v : SplitList) → a ≡ true → n + pick a h v .count ≤ 512 → n + h .count ≤ 512
-few-across true n h v e k = k
-few-across false n h v e k = let z : _≡_ {A = ℕ} 0 1 = cc in absurd (omega arith)
+-- what the test of two axes says
+pub same-axis : (a b : Bool) → Bool·beq a b ≡ true → a ≡ b
+same-axis true true e = refl
+same-axis true false e = let z : _≡_ {A = ℕ} 0 1 = cc in absurd (omega arith)
+same-axis false true e = let z : _≡_ {A = ℕ} 0 1 = cc in absurd (omega arith)
+same-axis false false e = refl
 
-pub few-down : (a : Bool) (n : ℕ) (h v : SplitList) → a ≡ false → n + pick a h v .count ≤ 512 → n + v .count ≤ 512
-few-down true n h v e k = let z : _≡_ {A = ℕ} 0 1 = cc in absurd (omega arith)
-few-down false n h v e k = k
+pub other-axis : (a b : Bool) → Bool·beq a b ≡ false → a ≡ b → ⊥
+other-axis true true e f = let z : _≡_ {A = ℕ} 0 1 = cc in omega arith
+other-axis true false e f = let z : _≡_ {A = ℕ} 0 1 = cc in omega arith
+other-axis false true e f = let z : _≡_ {A = ℕ} 0 1 = cc in omega arith
+other-axis false false e f = let z : _≡_ {A = ℕ} 0 1 = cc in omega arith
+
+-- the same memory, by the other axis
+pub turned : (a b : Bool) (h v al be : List ℕ) → (a ≡ b → ⊥) → Lie b h v al be → Lie a h v be al
+unfolding alongList besideList
+turned true true h v al be n k = absurd (n refl)
+turned true false h v al be n k = record { along = k .beside; beside = k .along }
+turned false true h v al be n k = record { along = k .beside; beside = k .along }
+turned false false h v al be n k = absurd (n refl)
+
+-- a horizontal and a vertical list, by the axis
+pub lie-picks : (a : Bool) (h v al be : List ℕ) → Lie a h v al be → (take (length h) (pick a al be) ≡ h) × (take (length v) (pick a be al) ≡ v)
+unfolding alongList besideList
+lie-picks true h v al be k = (k .along, k .beside)
+lie-picks false h v al be k = (k .beside, k .along)
+
+pub picks-lie : (a : Bool) (h v al be : List ℕ) → take (length h) (pick a al be) ≡ h → take (length v) (pick a be al) ≡ v → Lie a h v al be
+unfolding alongList besideList
+picks-lie true h v al be x y = record { along = x; beside = y }
+picks-lie false h v al be x y = record { along = y; beside = x }

@@ -1,24 +1,21 @@
 -- What a turn of the loop over a group's children does, over plain lists and trees. Assumes nothing.
-use mathlib.Core.Path.{_≡_, refl, sym, ap, _∙_}
+use mathlib.Core.Path.{_≡_, refl, sym, ap, subst, _∙_}
 use mathlib.Core.List.{List, [], _∷_, _++_, append-assoc, append-nil}
 use Prim.Native.Nat.{ℕ, zero, suc, _+_, _-_, _*_, _≤_, _<_}
 use native.Mathlib.Omega.{arith}
 use native.Mathlib.Numerals.{add-one}
 use mathlib.Core.Bool.{Bool, true, false}
 use lib.ListN.{length, getD, take, drop, length-append, length-drop}
-use lib.Seq.{drop-drop}
+use lib.Seq.{paste, take-paste, drop-drop, take-append-add, length-take-le}
 use lib.Dec.{eqb}
 use borrow.Author.Tests.{ne-eqb}
 use Rattle.common.specs.Choice.{pick}
-use Rattle.common.specs.Arrays.{padded}
 use Rattle.settings.specs.declared.Settings.{Settings}
 use Rattle.tree.specs.Tree.{Axis, Tree, Trees, none, more, count, nodes, nodes*}
 use Rattle.tree.specs.Bytes.{Is, Are, lengthAt, axisOf}
 use Rattle.tree.proofs.Fronts.{is-whole, nodes-low}
-use Rattle.splits.specs.declared.SplitList.{SplitList}
 use Rattle.splits.specs.Splits.{Cut, shortSplits3}
-use Rattle.splits.specs.Lists.{listOf, splitList}
-use Rattle.splits.proofs.Lists.{list-of, is-padded, cut-few}
+use Rattle.splits.proofs.Lists.{cut-few}
 use Rattle.sizes.specs.declared.Size.{Size}
 use Rattle.sizes.specs.Sizes.{sep, natural, allot, spareOf, childSize}
 use Rattle.block.proofs.Every.{Every, every-front, every-back}
@@ -30,14 +27,14 @@ use Rattle.leaf.specs.declared.walk.Answer.{Answer}
 use Rattle.leaf.specs.declared.walk.Going.{Going}
 use Rattle.leaf.specs.declared.walk.Planned.{Planned}
 use Rattle.leaf.specs.Walk.{Context, Placed, Walked, alongList, besideList, child, joinWalked, walk, children}
-use Rattle.leaf.specs.Visiting.{spotOf, ctxOf, keepAll, showAll, Asks}
-use Rattle.leaf.specs.Walking.{planOf, lookOf, extentAt, startOf, advanceOf, finishOf, answerOf, Walks, Lists, Here, Allotted, AllottedIn, Ready, ReadyIn, walked, grouped, walkedIn}
+use Rattle.leaf.specs.Visiting.{spotOf, ctxOf, keptOf, Few, keepAll, showAll, Asks}
+use Rattle.leaf.specs.Walking.{childSpot, childCtx, cutOf, Plans, Looks, extentAt, startOf, advanceOf, finishOf, Lie, Walks, Lists, Here, Allotted, AllottedIn, Ready, ReadyIn, walked, grouped, walkedIn}
 use Rattle.leaf.proofs.Outcome.{alongW, besideW, join-along, join-beside, join-leaves, none-along, none-beside, none-leaves, childAt, children-none, children-more, few-beside, walk-few, children-few, keep-append, keep-nil, show-append, show-nil}
-use Rattle.leaf.proofs.Steps.{here-of, last-is, sep-is, child-node, child-size, child-low, child-few, extent-is, extent-small, start-cut, start-handed, axis-few, plan-is, advance-is, finish-is}
+use Rattle.leaf.proofs.Steps.{here-of, last-is, sep-is, child-ctx, child-node, child-size, child-low, child-few, child-along, extent-is, extent-small, axis-few, along-count, beside-count, horizontal-count, vertical-count}
 
 -- ---- the loop over a group's children
 
-module _ (job : Job) (s : List ℕ) (ls : Lists) (a : Bool) (x : Ctx) (len : ℕ) (q : ReadyIn job s ls a x len) (f₀ : Found) (o₀ : List ℕ) where
+module _ (job : Job) (s : List ℕ) (ls : Lists) (a : Bool) (x : Ctx) (al₀ be₀ : List ℕ) (kl len : ℕ) (q : ReadyIn job s ls a x al₀ be₀ kl len) (f₀ : Found) (k₀ o₀ : List ℕ) where
   abbrev A : Axis
   A = axisOf a
 
@@ -52,7 +49,7 @@ module _ (job : Job) (s : List ℕ) (ls : Lists) (a : Bool) (x : Ctx) (len : ℕ
   restOf ts i old node offset cut handed = children (job .settings) ts A (q .at) spare n i old node offset cut handed
 
   -- where the loop stands at byte `at`: these trees are left, and the whole outcome is what is done joined with theirs
-  pub record Loop (at : ℕ) (g : Going) (o : List ℕ) (rest : Trees) : Type 0 where
+  pub record Loop (at : ℕ) (g : Going) (al be jo kept o : List ℕ) (rest : Trees) : Type 0 where
     pub i : ℕ
     pub offset : ℕ
     pub cut : List ℕ
@@ -64,22 +61,30 @@ module _ (job : Job) (s : List ℕ) (ls : Lists) (a : Bool) (x : Ctx) (len : ℕ
     pub offset-is : g .offset ≡ offset
     pub low-offset : offset + 65537 * suc (q .at .node) ≤ 65537 * g .node
     pub first : g .first ≡ eqb i 0
-    pub cut-is : g .cut ≡ splitList cut
-    pub handed-is : g .handed ≡ splitList handed
-    pub joined-is : g .joined ≡ splitList joined
+    pub cut-is : cutOf g al ≡ cut
+    pub cut-in : g .from + g .left ≤ length al
+    pub handed-is : take (g .handed) be ≡ handed
+    pub handed-count : g .handed ≡ length handed
+    pub joined-is : take (g .joined) jo ≡ joined
+    pub joined-count : g .joined ≡ length joined
+    pub room-along : 512 ≤ length al
+    pub room-beside : 512 ≤ length be
+    pub room-joined : length jo ≡ 1024
     pub few-cut : length cut ≤ 512
     pub few-handed : length handed ≤ 512
+    pub few-joined : length joined ≤ 512
     pub sizes : AllottedIn (job .settings) rest A (q .at .size) spare n i (g .node) ls
     pub room : g .node + nodes* rest ≡ suc (q .at .node) + nodes* (q .trees)
     pub along : alongW A (walkedIn q) ≡ joined ++ alongW A (restOf rest i (g .old) (g .node) offset cut handed)
     pub beside : besideW A (walkedIn q) ≡ besideW A (restOf rest i (g .old) (g .node) offset cut handed)
-    pub found : keepAll job f₀ (walkedIn q .leaves) ≡ keepAll job (g .found) (restOf rest i (g .old) (g .node) offset cut handed .leaves)
+    pub few-found : Few f₀ → Few (g .found)
+    pub found : keepAll job (keptOf f₀ k₀) (walkedIn q .leaves) ≡ keepAll job (keptOf (g .found) kept) (restOf rest i (g .old) (g .node) offset cut handed .leaves)
     pub asks : Every (Asks job len) (restOf rest i (g .old) (g .node) offset cut handed .leaves)
     pub painted : showAll job o₀ (walkedIn q .leaves) ≡ showAll job o (restOf rest i (g .old) (g .node) offset cut handed .leaves)
 
-  pub record Some (at : ℕ) (g : Going) (o : List ℕ) : Type 0 where
+  pub record Some (at : ℕ) (g : Going) (al be jo kept o : List ℕ) : Type 0 where
     pub rest : Trees
-    pub loop : Loop at g o rest
+    pub loop : Loop at g al be jo kept o rest
 
   -- the loop begins
   abbrev opened : Going
@@ -88,26 +93,27 @@ module _ (job : Job) (s : List ℕ) (ls : Lists) (a : Bool) (x : Ctx) (len : ℕ
     offset = 0;
     first = true;
     old = false;
-    cut = splitList (alongList A (q .at .horizontal) (q .at .vertical));
-    handed = splitList (besideList A (q .at .horizontal) (q .at .vertical));
-    joined = splitList [];
+    from = 0;
+    left = length (alongList A (q .at .horizontal) (q .at .vertical));
+    handed = length (besideList A (q .at .horizontal) (q .at .vertical));
+    joined = 0;
     found = f₀;
   }
 
   opens : startOf x a f₀ ≡ opened
-  opens = ap (λ (y : Ctx). startOf y a f₀) (q .ctx) ∙ rw (start-cut a (q .at .horizontal) (q .at .vertical), start-handed a (q .at .horizontal) (q .at .vertical), add-one (q .at .node))
+  opens = ap (λ (y : Ctx). startOf y a f₀) (q .ctx) ∙ rw (along-count a (q .at .horizontal) (q .at .vertical), beside-count a (q .at .horizontal) (q .at .vertical), add-one (q .at .node))
 
   pub start-asks : x .node < 512
   start-asks = omega (arith, q .room, ap (λ (y : Ctx). y .node) (q .ctx))
 
-  pub begins : (g : Going) → g ≡ startOf x a f₀ → Some 0 g o₀
-  begins g e =
+  pub begins : (g : Going) → g ≡ startOf x a f₀ → (jo : List ℕ) → length jo ≡ 1024 → Some 0 g al₀ be₀ jo k₀ o₀
+  begins g e jo je =
       let c = q .at in
       let few = axis-few A (c .horizontal) (c .vertical) 512 (q .few-h) (q .few-v) in
-      let k : g ≡ opened = e ∙ opens in
+      let m : g ≡ opened = e ∙ opens in
       record {
         rest = q .trees;
-        loop = rw k (record {
+        loop = rw m (record {
           i = 0;
           offset = 0;
           cut = alongList A (c .horizontal) (c .vertical);
@@ -119,15 +125,23 @@ module _ (job : Job) (s : List ℕ) (ls : Lists) (a : Bool) (x : Ctx) (len : ℕ
           offset-is = refl;
           low-offset = omega arith;
           first = refl;
-          cut-is = refl;
-          handed-is = refl;
+          cut-is = q .lie .along;
+          cut-in = omega (arith, few, q .room-along);
+          handed-is = q .lie .beside;
+          handed-count = refl;
           joined-is = refl;
+          joined-count = refl;
+          room-along = q .room-along;
+          room-beside = q .room-beside;
+          room-joined = je;
           few-cut = few .0;
           few-handed = few .1;
+          few-joined = omega arith;
           sizes = q .sizes;
           room = refl;
           along = refl;
           beside = refl;
+          few-found = λ h. h;
           found = refl;
           asks = q .asks;
           painted = refl;
@@ -135,7 +149,7 @@ module _ (job : Job) (s : List ℕ) (ls : Lists) (a : Bool) (x : Ctx) (len : ℕ
       }
 
   -- a turn: the first tree that is left
-  module _ (at : ℕ) (g : Going) (o : List ℕ) (t : Tree) (ts : Trees) (l : Loop at g o (more t ts)) where
+  module _ (at : ℕ) (g : Going) (al be jo kept o : List ℕ) (t : Tree) (ts : Trees) (l : Loop at g al be jo kept o (more t ts)) where
     abbrev part : List ℕ
     part = drop at s
 
@@ -191,8 +205,8 @@ module _ (job : Job) (s : List ℕ) (ls : Lists) (a : Bool) (x : Ctx) (len : ℕ
     along : alongW A (walkedIn q) ≡ (l .joined ++ alongW A w) ++ alongW A later
     along = l .along ∙ rw (step, join-along A w later, append-assoc (l .joined) (alongW A w) (alongW A later))
 
-    few-joined : length (l .joined) + length (alongW A w) ≤ 512
-    few-joined =
+    few-all : length (l .joined) + length (alongW A w) ≤ 512
+    few-all =
         let c = q .at in
         let f = children-few (job .settings) (q .trees) A c spare n 0 false (suc (c .node)) 0 (alongList A (c .horizontal) (c .vertical)) (besideList A (c .horizontal) (c .vertical)) in
         let m : length (alongW A (walkedIn q)) ≡ length (l .joined) + length (alongW A w) + length (alongW A later) =
@@ -211,27 +225,36 @@ module _ (job : Job) (s : List ℕ) (ls : Lists) (a : Bool) (x : Ctx) (len : ℕ
     unfolding nodes
     next-room = omega (arith, l .room)
 
+    cut-length : g .left ≡ length (l .cut)
+    cut-length =
+        let m : length (drop (g .from) al) ≡ length al - g .from = length-drop (g .from) al in
+        sym (ap length (sym (l .cut-is)) ∙ length-take-le (g .left) (drop (g .from) al) (omega (arith, l .cut-in)))
+
     -- as the code has them: the part, the place and the plan
-    module _ (p : List ℕ) (pe : p ≡ drop at s) (b : Spot) (be : b ≡ x .spot) where
+    module _ (p : List ℕ) (pe : p ≡ drop at s) (b : Spot) (be₁ : b ≡ x .spot) where
       spot-is : b ≡ spotOf (q .at)
-      spot-is = be ∙ ap (λ (z : Ctx). z .spot) (q .ctx)
+      spot-is = be₁ ∙ ap (λ (z : Ctx). z .spot) (q .ctx)
 
       near : (q .at .line + l .offset ≤ 65537 * g .node) × (q .at .column + l .offset ≤ 65537 * g .node)
       near = (omega (arith, l .low-offset, q .low-line), omega (arith, l .low-offset, q .low-column))
 
-      pub look-asks : ((2 < length p) × (g .node < length (ls .ws)) × (g .node < length (ls .hs)) × (g .cut .count ≤ 512)) × ((b .line + g .offset < 4294967296) × (b .column + g .offset < 4294967296))
+      pub look-asks : ((2 < length p) × (g .node < length (ls .ws)) × (g .node < length (ls .hs))) × (((b .line + g .offset < 4294967296) × (b .column + g .offset < 4294967296)) × ((g .from + g .left ≤ length al) × (g .joined + g .left ≤ length jo)))
       look-asks =
-          let m : length p ≡ length part = ap length pe in
-          ((omega (arith, whole), here .in-w, here .in-h, rw (l .cut-is) (l .few-cut)), rw (spot-is, l .offset-is) (omega (arith, near .0, room), omega (arith, near .1, room)))
+          let m : length p ≡ length part = ap length pe in (
+            (omega (arith, whole), here .in-w, here .in-h),
+            (rw (spot-is, l .offset-is) (omega (arith, near .0, room), omega (arith, near .1, room)), (l .cut-in, omega (arith, l .room-joined, l .few-joined, l .joined-count, l .few-cut, cut-length))),
+          )
 
-      module _ (y : Planned) (ye : y ≡ lookOf p (ls .ws) (ls .hs) g b a) where
-        planned : y ≡ record { used = used; offset = l .offset + e + 1; child = ctxOf kid; split = k .split; left = splitList (k .left) }
-        planned = ye ∙ rw pe (plan-is a g (q .at) b (l .cut) (l .handed) (l .offset) (eqb used (length part)) (eqb (suc (l .i)) n) (eqb (l .i) 0) (extentAt a (ls .ws) (ls .hs) (g .node)) e used
-            spot-is (l .offset-is) (l .first) last (extent-is a (natural (job .settings) t) (q .at .size) e (g .node) ls here) (l .cut-is) (l .handed-is))
+      module _ (y : Planned) (al₁ jo₁ : List ℕ) (ye : Looks p (ls .ws) (ls .hs) g b a y al al₁ jo jo₁) where
+        plan : Plans g b a (eqb (suc (l .i)) n) e used y al al₁ jo jo₁
+        plan = rw (pe, last, extent-is a (natural (job .settings) t) (q .at .size) e (g .node) ls here) at ye
+
+        child-is : y .child ≡ ctxOf kid
+        child-is = plan .child-is ∙ rw (child-ctx a (q .at) (eqb (l .i) 0) (eqb (suc (l .i)) n) (g .old) (g .node) (l .offset) e (k .taken) (l .handed), spot-is, l .offset-is, l .first, l .cut-is, l .handed-count)
 
         pub used-is : (3 ≤ y .used) × (at + y .used ≤ length s)
         used-is =
-            let u : y .used ≡ used = ap (λ (z : Planned). z .used) planned in
+            let u = plan .used-is in
             let m : length part ≡ length s - at = length-drop at s in
             (omega arith, omega (arith, whole, l .within))
 
@@ -247,101 +270,151 @@ module _ (job : Job) (s : List ℕ) (ls : Lists) (a : Bool) (x : Ctx) (len : ℕ
         size-is : kid .size ≡ childSize A (q .at .size) e
         size-is = child-size A (q .at) (eqb (l .i) 0) (eqb (suc (l .i)) n) (g .old) (g .node) (l .offset) e (k .taken) (l .handed)
 
+        lists-are : (alongList A (kid .horizontal) (kid .vertical) ≡ k .taken) × (besideList A (kid .horizontal) (kid .vertical) ≡ l .handed)
+        lists-are = child-along A (q .at) (eqb (l .i) 0) (eqb (suc (l .i)) n) (g .old) (g .node) (l .offset) e (k .taken) (l .handed)
+
+        taken-is : take (length (k .taken)) (drop (g .joined) jo₁) ≡ k .taken
+        taken-is = rw (← l .cut-is) (plan .taken-is)
+
         kid-asks : Every (Asks job len) (w .leaves)
         kid-asks = every-front (Asks job len) (w .leaves) (later .leaves) (rw (step, join-leaves A w later) at (l .asks))
 
-        pub kid-ready : (len′ : ℕ) → len′ ≡ len → Ready job p ls (y .child) len′
-        kid-ready len′ le = record {
-          tree = t;
-          at = kid;
-          is = rw pe is;
-          short = rw (pe, length-drop) (omega (arith, q .short));
-          ctx = ap (λ (z : Planned). z .child) planned;
-          sizes = rw (node-is, size-is) sizes;
-          few-h = few-kid .0;
-          few-v = few-kid .1;
-          room = omega (arith, node-is, room);
-          low-line = rw node-is (low-kid .0);
-          low-column = rw node-is (low-kid .1);
-          asks = rw le kid-asks;
-        }
+        -- the child's pieces lie after the joined ones
+        module _ (len₁ : ℕ) (le : len₁ ≡ len) (kl₁ : ℕ) (ke : kl₁ ≡ kl) (fresh : List ℕ) (fe : fresh ≡ drop (g .joined) jo₁) (je : length jo₁ ≡ 1024) where
+          fresh-room : 512 ≤ length fresh
+          fresh-room = let m : length fresh ≡ 1024 - g .joined = ap length fe ∙ length-drop (g .joined) jo₁ ∙ rw je in omega (arith, l .joined-count, l .few-joined)
 
-        -- what the child's walk answers
-        module _ (len′ : ℕ) (le : len′ ≡ len) (r : Answer) (o₁ : List ℕ)
-            (re₀ : Walks job (g .found) (kid-ready len′ le .at .node + nodes (kid-ready len′ le .tree)) (walked (kid-ready len′ le)) r o o₁) where
-          oe : o₁ ≡ showAll job o (w .leaves)
-          unfolding kid-ready
-          oe = re₀ .out
+          pub kid-ready : Ready job p ls a (y .child) fresh be kl₁ len₁
+          kid-ready = record {
+            tree = t;
+            at = kid;
+            is = rw pe is;
+            short = rw (pe, length-drop) (omega (arith, q .short));
+            ctx = child-is;
+            sizes = rw (node-is, size-is) sizes;
+            few-h = few-kid .0;
+            few-v = few-kid .1;
+            lie = record { along = rw (lists-are .0, fe) taken-is; beside = rw (lists-are .1, ← l .handed-count) (l .handed-is) };
+            room-along = fresh-room;
+            room-beside = l .room-beside;
+            room-kept = omega (arith, ke, q .room-kept);
+            room = omega (arith, node-is, room);
+            low-line = rw node-is (low-kid .0);
+            low-column = rw node-is (low-kid .1);
+            asks = rw le kid-asks;
+          }
 
-          re : r ≡ answerOf job (g .found) (kid .node + nodes t) w
-          unfolding kid-ready
-          re = re₀ .answer
+          -- what the child's walk answers, and what the lent memory then holds
+          module _ (r : Answer) (fresh₁ be₂ kept₁ o₁ : List ℕ) (re₀ : Walks job a (g .found) kept (kid-ready .at .node + nodes (kid-ready .tree)) (walked kid-ready) r fresh₁ be₂ kept₁ o o₁) where
+            re : Walks job a (g .found) kept (kid .node + nodes t) w r fresh₁ be₂ kept₁ o o₁
+            unfolding kid-ready
+            re = re₀
 
-          pub advance-asks : (g .joined .count + pick a (r .horizontal) (r .vertical) .count ≤ 512) × (g .joined .pieces ≡ padded (listOf (g .joined)))
-          advance-asks =
-              let c : pick a (r .horizontal) (r .vertical) ≡ splitList (alongW A w) = rw re (start-cut a (w .horizontal) (w .vertical)) in
-              (rw (c, l .joined-is) few-joined, is-padded (g .joined) (l .joined) (l .joined-is))
+            along-given : pick a (r .horizontal) (r .vertical) ≡ length (alongW A w)
+            along-given = rw (re .horizontal-is, re .vertical-is) (along-count a (w .horizontal) (w .vertical))
 
-          pub next : ((i : ℕ) → (getD (ls .ws) i 0 < 65536) × (getD (ls .hs) i 0 < 65536)) → (h : Going) → h ≡ advanceOf g y r a → Some (at + y .used) h o₁
-          next small h he =
-              let m : h ≡ record { node = g .node + nodes t; offset = l .offset + e + sep (job .settings); first = false; old = k .split; cut = splitList (k .left); handed = splitList (besideW A w); joined = splitList (l .joined ++ alongW A w); found = keepAll job (g .found) (w .leaves) }
-              = he ∙ advance-is a g y r (l .joined) (k .split) (splitList (k .left)) w job (g .node + nodes t) (l .offset + e + sep (job .settings)) (ap (λ (z : Planned). z .offset) planned ∙ rw (sep-is (job .settings))) (l .joined-is) (ap (λ (z : Planned). z .split) planned) (ap (λ (z : Planned). z .left) planned) (re ∙ rw node-is) in
-              let u : y .used ≡ used = ap (λ (z : Planned). z .used) planned in
-              let es : e < 65536 = rw (← extent-is a (natural (job .settings) t) (q .at .size) e (g .node) ls here) (extent-small a (ls .ws) (ls .hs) (g .node) (small (g .node))) in
-              record {
-                rest = ts;
-                loop = rw m (record {
-                  i = suc (l .i);
-                  offset = l .offset + e + sep (job .settings);
-                  cut = k .left;
-                  handed = besideW A w;
-                  joined = l .joined ++ alongW A w;
-                  within = used-is .1;
-                  are = rw (u, ← drop-drop used at s) are;
-                  left = next-left;
-                  offset-is = refl;
-                  low-offset = omega (arith, l .low-offset, nodes-low t, sep-is (job .settings), es);
-                  first = sym (ne-eqb (suc (l .i)) 0 (λ z. omega arith));
-                  cut-is = refl;
-                  handed-is = refl;
-                  joined-is = refl;
-                  few-cut = omega (arith, cut-few (l .cut) e .1, l .few-cut);
-                  few-handed = omega (arith, few-beside A w (nodes t) (walk-few (job .settings) t kid), room);
-                  sizes = next-sizes;
-                  room = next-room;
-                  along = along;
-                  beside = l .beside ∙ rw (step, join-beside A w later);
-                  found = l .found ∙ rw (step, join-leaves A w later, keep-append job (g .found) (w .leaves) (later .leaves));
-                  asks = every-back (Asks job len) (w .leaves) (later .leaves) (rw (step, join-leaves A w later) at (l .asks));
-                  painted = l .painted ∙ rw (step, join-leaves A w later, oe, show-append job o (w .leaves) (later .leaves));
-                });
-              }
+            beside-given : pick a (r .vertical) (r .horizontal) ≡ length (besideW A w)
+            beside-given = rw (re .horizontal-is, re .vertical-is) (beside-count a (w .horizontal) (w .vertical))
+
+            pub advance-asks : g .joined + pick a (r .horizontal) (r .vertical) ≤ 512
+            advance-asks = omega (arith, along-given, l .joined-count, few-all)
+
+            front-is : take (g .joined) jo₁ ≡ l .joined
+            front-is = plan .front-is ∙ l .joined-is
+
+            joins : (jo₂ : List ℕ) → jo₂ ≡ take (g .joined) jo₁ ++ fresh₁ → take (g .joined + pick a (r .horizontal) (r .vertical)) jo₂ ≡ l .joined ++ alongW A w
+            joins jo₂ e₂ = rw (along-given, e₂, front-is, l .joined-count, take-append-add (l .joined) fresh₁ (length (alongW A w))) (ap (λ (z : List ℕ). l .joined ++ z) (re .lie .along))
+
+            pub next : ((i : ℕ) → (getD (ls .ws) i 0 < 65536) × (getD (ls .hs) i 0 < 65536)) → (jo₂ : List ℕ) → jo₂ ≡ take (g .joined) jo₁ ++ fresh₁ → length jo₂ ≡ 1024 → length al₁ ≡ length al → length be₂ ≡ length be
+                → (h : Going) → h ≡ advanceOf g y r a → Some (at + y .used) h al₁ be₂ jo₂ kept₁ o₁
+            next small jo₂ joe jl ale bel h he =
+                let u = plan .used-is in
+                let of : y .offset ≡ l .offset + e + 1 = plan .offset-is ∙ rw (l .offset-is) in
+                let es : e < 65536 = rw (← extent-is a (natural (job .settings) t) (q .at .size) e (g .node) ls here) (extent-small a (ls .ws) (ls .hs) (g .node) (small (g .node))) in
+                let nx : r .next ≡ g .node + nodes t = re .next-is ∙ rw node-is in
+                let sp : y .split ≡ k .split = plan .split-is ∙ rw (l .cut-is) in
+                let cl : take (y .left) (drop (y .from) al₁) ≡ k .left = plan .left-is ∙ rw (l .cut-is) in
+                record {
+                  rest = ts;
+                  loop = rw he (rw (nx, sp) (record {
+                    i = suc (l .i);
+                    offset = l .offset + e + sep (job .settings);
+                    cut = k .left;
+                    handed = besideW A w;
+                    joined = l .joined ++ alongW A w;
+                    within = used-is .1;
+                    are = rw (u, ← drop-drop used at s) are;
+                    left = next-left;
+                    offset-is = of ∙ rw (sep-is (job .settings));
+                    low-offset = omega (arith, l .low-offset, nodes-low t, sep-is (job .settings), es);
+                    first = sym (ne-eqb (suc (l .i)) 0 (λ z. omega arith));
+                    cut-is = cl;
+                    cut-in = omega (arith, plan .same-end, l .cut-in, ale);
+                    handed-is = rw beside-given (re .lie .beside);
+                    handed-count = beside-given;
+                    joined-is = joins jo₂ joe;
+                    joined-count = rw (along-given, l .joined-count) (sym (length-append (l .joined) (alongW A w)));
+                    room-along = omega (arith, ale, l .room-along);
+                    room-beside = omega (arith, bel, l .room-beside);
+                    room-joined = jl;
+                    few-cut = omega (arith, cut-few (l .cut) e .1, l .few-cut);
+                    few-handed = omega (arith, few-beside A w (nodes t) (walk-few (job .settings) t kid), room);
+                    few-joined = rw (length-append (l .joined) (alongW A w)) few-all;
+                    sizes = next-sizes;
+                    room = next-room;
+                    along = along;
+                    beside = l .beside ∙ rw (step, join-beside A w later);
+                    few-found = λ z. re .few-is (l .few-found z);
+                    found = l .found ∙ rw (step, join-leaves A w later, keep-append job (keptOf (g .found) kept) (w .leaves) (later .leaves), ← re .found-is);
+                    asks = every-back (Asks job len) (w .leaves) (later .leaves) (rw (step, join-leaves A w later) at (l .asks));
+                    painted = l .painted ∙ rw (step, join-leaves A w later, re .out-is, show-append job o (w .leaves) (later .leaves));
+                  }));
+                }
 
   -- the loop turns or ends
-  pub record Turn (at : ℕ) (g : Going) (o : List ℕ) : Type 0 where
+  pub record Turn (at : ℕ) (g : Going) (al be jo kept o : List ℕ) : Type 0 where
     pub tree : Tree
     pub rest : Trees
-    pub loop : Loop at g o (more tree rest)
+    pub loop : Loop at g al be jo kept o (more tree rest)
 
-  turn-at : (at : ℕ) (g : Going) (o : List ℕ) (rest : Trees) → Loop at g o rest → at < length s → Turn at g o
-  unfolding Is
-  turn-at at g o none l h = let z : length s - at ≡ 0 = rw length-drop at (l .are) in absurd (omega arith)
-  turn-at at g o (more t ts) l h = record { tree = t; rest = ts; loop = l }
+  module _ (at : ℕ) (g : Going) (al be jo kept o : List ℕ) where
+    turn-at : (rest : Trees) → Loop at g al be jo kept o rest → at < length s → Turn at g al be jo kept o
+    unfolding Is
+    turn-at none l h = let z : length s - at ≡ 0 = rw length-drop at (l .are) in absurd (omega arith)
+    turn-at (more t ts) l h = record { tree = t; rest = ts; loop = l }
 
-  pub turn : (at : ℕ) (g : Going) (o : List ℕ) → Some at g o → at < length s → Turn at g o
-  turn at g o k h = turn-at at g o (k .rest) (k .loop) h
+    pub turn : Some at g al be jo kept o → at < length s → Turn at g al be jo kept o
+    turn k h = turn-at (k .rest) (k .loop) h
 
-  end-at : (at : ℕ) (g : Going) (o : List ℕ) (rest : Trees) → Loop at g o rest → length s ≤ at → Walks job f₀ (suc (q .at .node) + nodes* (q .trees)) (walkedIn q) (finishOf g a) o₀ o
-  unfolding Is nodes
-  end-at at g o none l h =
-      let c = children-none (job .settings) A (q .at) spare n (l .i) (g .old) (g .node) (l .offset) (l .cut) (l .handed) in
-      let x₁ : alongW A (walkedIn q) ≡ l .joined = l .along ∙ rw (c, none-along A (l .handed), append-nil (l .joined)) in
-      let x₂ : besideW A (walkedIn q) ≡ l .handed = l .beside ∙ rw (c, none-beside A (l .handed)) in
-      let x₃ : keepAll job f₀ (walkedIn q .leaves) ≡ g .found = l .found ∙ rw (c, none-leaves A (l .handed)) (keep-nil job (g .found)) in
-      let x₄ : showAll job o₀ (walkedIn q .leaves) ≡ o = l .painted ∙ rw (c, none-leaves A (l .handed)) (show-nil job o) in
-      record { out = sym x₄; answer = finish-is a g (walkedIn q) job (suc (q .at .node) + nodes* (q .trees)) f₀ (omega (arith, l .room)) (l .joined-is ∙ ap splitList (sym x₁)) (l .handed-is ∙ ap splitList (sym x₂)) (sym x₃) }
-  end-at at g o (more t ts) l h =
-      let z : 3 + lengthAt (drop at s) ≤ length s - at = rw length-drop at (is-whole t (drop at s) (l .are .0)) in absurd (omega arith)
+    pub few-in : Some at g al be jo kept o → (g .joined ≤ 512) × (512 ≤ length al) × (length jo ≡ 1024)
+    few-in k = let l = k .loop in (omega (arith, l .joined-count, l .few-joined), l .room-along, l .room-joined)
 
-  pub ends : (at : ℕ) (g : Going) (o : List ℕ) → Some at g o → length s ≤ at → (r : Answer) → r ≡ finishOf g a → Walks job f₀ (suc (q .at .node) + nodes* (q .trees)) (walkedIn q) r o₀ o
-  ends at g o k h r e = rw e (end-at at g o (k .rest) (k .loop) h)
+    -- the joined pieces go to the front of the list along the axis
+    module _ (al₁ : List ℕ) (ale : al₁ ≡ paste al 0 jo (g .joined)) where
+      given-back : (rest : Trees) (l : Loop at g al be jo kept o rest) → take (length (l .joined)) al₁ ≡ l .joined
+      given-back rest l =
+          let z : 0 + g .joined ≡ g .joined = omega arith in
+          let tp : take (g .joined) (paste al 0 jo (g .joined)) ≡ take (g .joined) jo =
+          subst (λ (m : ℕ). take m (paste al 0 jo (g .joined)) ≡ take (g .joined) jo) z (take-paste al 0 jo (g .joined) (omega arith) (omega (arith, l .room-joined, l .joined-count, l .few-joined))) in
+          rw (← l .joined-count, ale) (tp ∙ l .joined-is)
+
+      end-at : (rest : Trees) → Loop at g al be jo kept o rest → length s ≤ at → Walks job a f₀ k₀ (suc (q .at .node) + nodes* (q .trees)) (walkedIn q) (finishOf g a) al₁ be kept o₀ o
+      unfolding Is nodes
+      end-at none l h =
+          let c = children-none (job .settings) A (q .at) spare n (l .i) (g .old) (g .node) (l .offset) (l .cut) (l .handed) in
+          let x₁ : alongW A (walkedIn q) ≡ l .joined = l .along ∙ rw (c, none-along A (l .handed), append-nil (l .joined)) in
+          let x₂ : besideW A (walkedIn q) ≡ l .handed = l .beside ∙ rw (c, none-beside A (l .handed)) in
+          record {
+            next-is = omega (arith, l .room);
+            horizontal-is = rw (l .joined-count, l .handed-count, ← x₁, ← x₂) (horizontal-count a (walkedIn q .horizontal) (walkedIn q .vertical));
+            vertical-is = rw (l .joined-count, l .handed-count, ← x₁, ← x₂) (vertical-count a (walkedIn q .horizontal) (walkedIn q .vertical));
+            lie = record { along = rw x₁ (given-back none l); beside = rw (x₂, ← l .handed-count) (l .handed-is) };
+            few-is = l .few-found;
+            found-is = sym (l .found ∙ rw (c, none-leaves A (l .handed)) (keep-nil job (keptOf (g .found) kept)));
+            out-is = sym (l .painted ∙ rw (c, none-leaves A (l .handed)) (show-nil job o));
+          }
+      end-at (more t ts) l h =
+          let z : 3 + lengthAt (drop at s) ≤ length s - at = rw length-drop at (is-whole t (drop at s) (l .are .0)) in absurd (omega arith)
+
+      pub ends : Some at g al be jo kept o → length s ≤ at → (r : Answer) → r ≡ finishOf g a → Walks job a f₀ k₀ (suc (q .at .node) + nodes* (q .trees)) (walkedIn q) r al₁ be kept o₀ o
+      ends k h r e = rw e (end-at (k .rest) (k .loop) h)

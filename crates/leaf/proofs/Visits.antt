@@ -4,33 +4,45 @@ use Prim.Native.Nat.{ℕ, _+_, _-_, _*_, _≤_, _<_}
 use native.Mathlib.Omega.{arith}
 use native.Mathlib.Nat.{mul-le-mul}
 use mathlib.Core.Bool.{Bool, true, false}
-use mathlib.Core.List.{List, [], _∷_, _++_}
+use mathlib.Core.List.{List, [], _∷_, _++_, append-assoc}
 use lib.ListN.{length, drop}
+use lib.Seq.{paste, take-length, take-append-seam, drop-append-seam, drop-append-add, drop-drop}
 use lib.Dec.{eqb}
 use borrow.Author.Tests.{lt-ltb, le-ltb, eq-eqb, ne-eqb}
 use Rattle.settings.specs.declared.Settings.{Settings}
 use Rattle.common.specs.Choice.{pick}
-use Rattle.splits.specs.Lists.{listOf, splitList}
 use Rattle.sizes.specs.declared.Size.{Size}
 use Rattle.sizes.specs.Sizes.{sep}
 use Rattle.sizes.proofs.Either.{either}
 use Rattle.block.specs.declared.Flags.{Flags}
 use Rattle.block.specs.Content.{feeds}
 use Rattle.block.specs.Block.{block, tall, wide}
-use Rattle.block.specs.Paint.{pasted, Paintable}
-use Rattle.leaf.specs.declared.context.Ctx.{Ctx}
+use Rattle.block.specs.Paint.{pasted, leafWith, Paintable}
+use Rattle.leaf.specs.declared.context.Spot.{Spot}
 use Rattle.leaf.specs.declared.visit.Job.{Job}
-use Rattle.leaf.specs.declared.visit.Found.{Found}
 use Rattle.leaf.specs.declared.visit.Purpose.{Purpose}
 use Rattle.leaf.specs.Walk.{Placed, leafOf}
-use Rattle.leaf.specs.Visiting.{placedOf, foundOf, keeps, printed, shows, blockBytes, Printable}
+use Rattle.leaf.specs.Visiting.{contextOf, placedOf, Kept, keptOf, keptLists, keptAt, keeps, printed, shows, blockBytes, Printable}
 use Rattle.leaf.proofs.Prints.{block-bytes}
 
--- the record that is kept has the context's own lists
-pub kept : (job : Job) (t : List ℕ) (x : Ctx) (z : Size) (f : Found) → x .horizontal ≡ splitList (listOf (x .horizontal)) → x .vertical ≡ splitList (listOf (x .vertical))
-    → pick (eqb (x .node) (job .wanted)) (foundOf x z) f ≡ keeps job f (placedOf t x z)
+-- ---- the record that is kept
+
+-- both lists stored at the front, one after the other
+pub lists-kept : (h v k : List ℕ) {k₁ k₂ : List ℕ} → k₁ ≡ paste k 0 h (length h) → k₂ ≡ paste k₁ (length h) v (length v) → k₂ ≡ keptLists h v k
+lists-kept h v k e₁ e₂ =
+    let z : 0 + length h ≡ length h = omega arith in
+    let x : paste k 0 h (length h) ≡ h ++ drop (length h) k = rw (z, take-length h) in
+    e₂ ∙ rw (e₁ ∙ x, take-append-seam h (drop (length h) k), take-length v, drop-append-add h (drop (length h) k) (length v), drop-drop (length v) (length h) k)
+
+-- they are the lists of the record
+pub record-kept : (node : ℕ) (p : Spot) (z : Size) (h v k : List ℕ) → keptOf (record { hit = true; node = node; size = z; horizontal = length h; vertical = length v; flags = p .flags }) (keptLists h v k) ≡ keptAt (contextOf node p z h v)
+record-kept node p z h v k =
+    let r = drop (length h + length v) k in
+    rw (append-assoc h v r, take-append-seam h (v ++ r), drop-append-seam h (v ++ r), take-append-seam v r)
+
+pub kept : (job : Job) (t : List ℕ) (node : ℕ) (p : Spot) (z : Size) (h v : List ℕ) (f : Kept) → pick (eqb node (job .wanted)) (keptAt (contextOf node p z h v)) f ≡ keeps job f (placedOf t node p z h v)
 unfolding keeps
-kept job t x z f h v = rw (← h, ← v)
+kept job t node p z h v f = refl
 
 -- ---- the bytes of a block
 
@@ -71,33 +83,32 @@ module _ (o : List ℕ) (x : List (List ℕ)) where
 
 -- ---- what `print_block` hands on
 
-module _ (s : Settings) (t : List ℕ) (n z : Size) (x : Ctx) (p : Printable s t n z x) (m : ℕ) (me : m ≡ blockBytes s z (x .spot .flags)) where
+module _ (s : Settings) (t : List ℕ) (n z : Size) (f : Flags) (h v : List ℕ) (p : Printable s t n z h v) (m : ℕ) (me : m ≡ blockBytes s z f) where
   abbrev lines : List (List ℕ)
-  lines = block s (leafOf (placedOf t x z))
+  lines = block s (leafWith t z f h v)
 
   pub bytes-are : length (feeds lines) ≡ m
-  bytes-are = block-bytes s (leafOf (placedOf t x z)) (rw (p .natural) at (p .fits)) ∙ sym me
+  bytes-are = block-bytes s (leafWith t z f h v) (rw (p .natural) at (p .fits)) ∙ sym me
 
   some-width : (m ≡ 0 → ⊥) → 0 < z .width
   unfolding blockBytes
   some-width h = either 1 (z .width) (λ k. k) (λ k. absurd (h (me ∙ rw (eq-eqb (z .width) 0 (omega arith)))))
 
-  bytes-is : (m ≡ 0 → ⊥) → m ≡ tall s z (x .spot .flags) * (wide s z (x .spot .flags) + 1) - 1
+  bytes-is : (m ≡ 0 → ⊥) → m ≡ tall s z f * (wide s z f + 1) - 1
   unfolding blockBytes
   bytes-is h = let k = some-width h in me ∙ rw (ne-eqb (z .width) 0 (λ e. omega arith))
 
-  pub paintable : (len : ℕ) → (m ≡ 0 → ⊥) → m ≤ len → Paintable s t n z (x .spot .flags) (x .horizontal) (x .vertical) 0 (wide s z (x .spot .flags) + 1) len
-  paintable len h l =
-      let f = x .spot .flags in
+  pub paintable : (len : ℕ) → (m ≡ 0 → ⊥) → m ≤ len → Paintable s t n z f h v 0 (wide s z f + 1) len
+  paintable len i l =
       let w = wide-small s z f in
       let a = tall-small s z f in
       let b = bytes-fit (tall s z f) (wide s z f) (a .0) (omega (arith, a .1, p .height-small)) (omega (arith, w, p .width-small)) in
-      let e = bytes-is h in
+      let e = bytes-is i in
       record {
         natural-is = p .natural;
         fits = p .fits;
         text-small = p .text-small;
-        some-width = some-width h;
+        some-width = some-width i;
         width-small = p .width-small;
         height-small = p .height-small;
         few-horizontal = p .few-h;

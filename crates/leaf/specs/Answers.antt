@@ -16,9 +16,8 @@ use Rattle.block.specs.Content.{feeds}
 use Rattle.block.specs.Block.{block}
 use Rattle.leaf.specs.declared.LeafRecord.{LeafRecord}
 use Rattle.leaf.specs.declared.Written.{Written}
-use Rattle.leaf.specs.declared.visit.Found.{Found}
 use Rattle.leaf.specs.Walk.{Placed, leafOf, leaves, W, H}
-use Rattle.leaf.specs.Visiting.{blockBytes}
+use Rattle.leaf.specs.Visiting.{Kept, blockBytes}
 
 -- W over 400 or H over 160
 unfoldable pub tooLarge : Settings → Tree → Bool
@@ -92,11 +91,11 @@ abbrev pub largeOf : Core → Bool
 largeOf c = pick (ltb 400 (getD (c .«natural_widths») 0 0 + 2)) true (ltb 160 (getD (c .«natural_heights») 0 0 + 2))
 
 -- the record that a walk kept, as the answer
-abbrev pub foundRecord : Found → LeafRecord
-foundRecord f = pick (f .hit) (record { number = 0; node = f .node; size = f .size; horizontal = f .horizontal; vertical = f .vertical; flags = f .flags }) (noRecord 9)
+abbrev pub foundRecord : Kept → LeafRecord
+foundRecord f = pick (f .hit) (record { number = 0; node = f .node; size = f .size; horizontal = splitList (f .horizontal); vertical = splitList (f .vertical); flags = f .flags }) (noRecord 9)
 
 -- what is answered for the leaf that a block's walk kept, with an output of len bytes
-abbrev pub foundWritten : Settings → Found → ℕ → Written
+abbrev pub foundWritten : Settings → Kept → ℕ → Written
 foundWritten s f len =
     pick (f .hit)
     (pick (ltb len (blockBytes s (f .size) (f .flags))) (record { number = 8; count = 0 }) (record { number = 0; count = blockBytes s (f .size) (f .flags) }))

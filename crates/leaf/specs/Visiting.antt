@@ -3,11 +3,10 @@ use mathlib.Core.Path.{_≡_}
 use Prim.Native.Nat.{ℕ, _+_, _*_, _-_, _≤_, _<_}
 use mathlib.Core.Bool.{Bool, true, false}
 use mathlib.Core.List.{List, [], _∷_, _++_}
-use lib.ListN.{length, drop}
+use lib.ListN.{length, take, drop}
 use lib.Dec.{eqb, ltb}
 use Rattle.common.specs.Choice.{pick}
 use Rattle.settings.specs.declared.Settings.{Settings}
-use Rattle.splits.specs.Lists.{listOf, splitList}
 use Rattle.sizes.specs.declared.Size.{Size}
 use Rattle.sizes.specs.Sizes.{Fits, leafSize}
 use Rattle.block.specs.declared.Flags.{Flags}
@@ -27,24 +26,44 @@ abbrev pub spotOf : Context → Spot
 spotOf c = record { line = c .line; column = c .column; flags = c .flags }
 
 abbrev pub ctxOf : Context → Ctx
-ctxOf c = record { node = c .node; spot = spotOf c; horizontal = splitList (c .horizontal); vertical = splitList (c .vertical) }
+ctxOf c = record { node = c .node; spot = spotOf c; horizontal = length (c .horizontal); vertical = length (c .vertical) }
 
--- the leaf with that text, in that context, of that size
-abbrev pub placedOf : List ℕ → Ctx → Size → Placed
-placedOf t x z = record {
-  text = t;
-  at = record { node = x .node; line = x .spot .line; column = x .spot .column; size = z; horizontal = listOf (x .horizontal); vertical = listOf (x .vertical); flags = x .spot .flags };
-}
+abbrev pub contextOf : ℕ → Spot → Size → List ℕ → List ℕ → Context
+contextOf n p z h v = record { node = n; line = p .line; column = p .column; size = z; horizontal = h; vertical = v; flags = p .flags }
+
+-- the leaf with that text
+abbrev pub placedOf : List ℕ → ℕ → Spot → Size → List ℕ → List ℕ → Placed
+placedOf t n p z h v = record { text = t; at = contextOf n p z h v }
 
 -- ---- the record of the wanted leaf
 
-abbrev pub foundOf : Ctx → Size → Found
-foundOf x z = record { hit = true; node = x .node; size = z; horizontal = x .horizontal; vertical = x .vertical; flags = x .spot .flags }
+-- what is kept of it, once it was met
+pub record Kept : Type 0 where
+  pub hit : Bool
+  pub node : ℕ
+  pub size : Size
+  pub horizontal : List ℕ
+  pub vertical : List ℕ
+  pub flags : Flags
 
-unfoldable pub keeps : Job → Found → Placed → Found
-keeps job f l = pick (eqb (l .at .node) (job .wanted)) (foundOf (ctxOf (l .at)) (l .at .size)) f
+-- as the code has it: the pieces lie at the front of k, those of the horizontal list first
+abbrev pub keptOf : Found → List ℕ → Kept
+keptOf f k = record { hit = f .hit; node = f .node; size = f .size; horizontal = take (f .horizontal) k; vertical = take (f .vertical) (drop (f .horizontal) k); flags = f .flags }
 
-unfoldable pub keepAll : Job → Found → List Placed → Found
+-- a record's lists are no longer than 512
+abbrev pub Few : Found → Type 0
+Few f = (f .horizontal ≤ 512) × (f .vertical ≤ 512)
+
+abbrev pub keptLists : List ℕ → List ℕ → List ℕ → List ℕ
+keptLists h v k = h ++ v ++ drop (length h + length v) k
+
+abbrev pub keptAt : Context → Kept
+keptAt c = record { hit = true; node = c .node; size = c .size; horizontal = c .horizontal; vertical = c .vertical; flags = c .flags }
+
+unfoldable pub keeps : Job → Kept → Placed → Kept
+keeps job f l = pick (eqb (l .at .node) (job .wanted)) (keptAt (l .at)) f
+
+unfoldable pub keepAll : Job → Kept → List Placed → Kept
 unfolding keeps
 keepAll job f [] = f
 keepAll job f (l ∷ ls) = keepAll job (keeps job f l) ls
@@ -81,22 +100,20 @@ pub record Asks (job : Job) (len : ℕ) (l : Placed) : Type 0 where
   pub fits : Fits (leafSize (job .settings) (l .text)) (l .at .size)
   pub in-sheet : job .purpose ≡ Purpose.Sheet → InSheet (job .settings) (job .stride) len l
 
--- what a leaf's printing is handed: its natural size n, its allotted size z
-pub record Printable (s : Settings) (t : List ℕ) (n z : Size) (x : Ctx) : Type 0 where
+-- what a leaf's printing is handed: its natural size n, its allotted size z, its split lists h and v
+pub record Printable (s : Settings) (t : List ℕ) (n z : Size) (h v : List ℕ) : Type 0 where
   pub text-small : length t < 65536
   pub width-small : z .width < 65536
   pub height-small : z .height < 65536
-  pub few-h : x .horizontal .count ≤ 512
-  pub few-v : x .vertical .count ≤ 512
+  pub few-h : length h ≤ 512
+  pub few-v : length v ≤ 512
   pub natural : n ≡ leafSize s t
   pub fits : Fits n z
 
 -- what `visit` is handed
-pub record Visitable (job : Job) (t : List ℕ) (n z : Size) (x : Ctx) (len : ℕ) : Type 0 where
-  pub prints : Printable (job .settings) t n z x
-  pub whole-h : x .horizontal ≡ splitList (listOf (x .horizontal))
-  pub whole-v : x .vertical ≡ splitList (listOf (x .vertical))
-  pub in-sheet : job .purpose ≡ Purpose.Sheet → InSheet (job .settings) (job .stride) len (placedOf t x z)
+pub record Visitable (job : Job) (t : List ℕ) (n z : Size) (node : ℕ) (p : Spot) (h v : List ℕ) (len : ℕ) : Type 0 where
+  pub prints : Printable (job .settings) t n z h v
+  pub in-sheet : job .purpose ≡ Purpose.Sheet → InSheet (job .settings) (job .stride) len (placedOf t node p z h v)
 
 -- the bytes of a block of that size: (columns + 1) × lines − 1, none for width 0
 unfoldable pub blockBytes : Settings → Size → Flags → ℕ

@@ -1,6 +1,5 @@
-// What a node is handed: its number, its start, its flags and both split lists.
+// What a node is handed: its number, its start, its flags, and how many pieces its split lists have.
 use block::Flags;
-use splits::SplitList;
 ghost use mathlib.Core.Path.{_≡_};
 ghost use Prim.Native.Nat.{_+_, _<_};
 ghost use Rattle.tree.specs.Tree.{across, down};
@@ -14,12 +13,12 @@ pub struct Spot {
     pub flags: Flags,
 }
 
-// `PrintContext`; the size stands in the lists of sizes.
+// `PrintContext`; the size stands in the lists of sizes, the pieces of the split lists in lent memory.
 pub struct Ctx {
     pub node: usize,
     pub spot: Spot,
-    pub horizontal: SplitList,
-    pub vertical: SplitList,
+    pub horizontal: usize,
+    pub vertical: usize,
 }
 
 // The flags of a Row's child.
@@ -85,8 +84,8 @@ pub fn child_spot(across: bool, b: Spot, offset: usize, first: bool, last: bool,
     }
 }
 
-// The child's context: the pieces taken lie along the axis, the list handed on beside it.
-pub fn child_ctx(across: bool, node: usize, spot: Spot, taken: SplitList, handed: SplitList) -> Ctx
+// The child's context: the pieces taken lie along the axis, those handed on beside it.
+pub fn child_ctx(across: bool, node: usize, spot: Spot, taken: usize, handed: usize) -> Ctx
     ensures { λ r. ⌜ r ≡ childCtx across node spot taken handed ⌝ }
 {
     if across {

@@ -9,12 +9,16 @@ use settings::Settings;
 use sizes::Core;
 use sizes::Size;
 use splits::SplitList;
+use splits::lent::list_at;
 use visit::Found;
 use visit::Job;
 use visit::Purpose;
 ghost use mathlib.Core.Path.{_≡_};
-ghost use Prim.Native.Nat.{_<_};
+ghost use Prim.Native.Nat.{_≤_, _<_};
+ghost use mathlib.Core.List.{[]};
+ghost use lib.ListN.{length};
 ghost use Rattle.sizes.specs.Input.{inputOf};
+ghost use Rattle.leaf.specs.Visiting.{keptOf, Few};
 ghost use Rattle.leaf.specs.Answers.{noRecord, foundRecord, leafRecordOf, foundWritten, leafPrintOf, largeOf};
 
 // A leaf's record: node, allotted size, both split lists as handed to the leaf, eight flags; or a refusal with 0 or no elsewhere.
@@ -65,14 +69,15 @@ fn no_record(number: u8) -> LeafRecord
     }
 }
 
-// The record that the walk kept; 9 where the number names no leaf.
-fn record_of(found: Found) -> LeafRecord
-    ensures { λ r. ⌜ r ≡ foundRecord found ⌝ }
+// The record that the walk kept, its pieces at the front of `kept`; 9 where the number names no leaf.
+fn record_of(found: Found, kept: &[u16]) -> LeafRecord
+    requires { ⌜ Few found × (1024 ≤ length (now kept)) ⌝ }
+    ensures { λ r. ⌜ r ≡ foundRecord (keptOf found (now (kept .entry))) ⌝ }
 {
     if found.hit {
         let size = found.size;
-        let h = found.horizontal;
-        let v = found.vertical;
+        let h = list_at(kept, 0, found.horizontal);
+        let v = list_at(kept, found.horizontal, found.vertical);
         let flags = found.flags;
         return LeafRecord {
             number: 0,
@@ -89,7 +94,7 @@ fn record_of(found: Found) -> LeafRecord
 // The bytes of the block that the walk printed; 9 where the number names no leaf, 8 where the output is too short.
 fn written_of(s: Settings, found: Found, len: usize) -> Written
     requires { ⌜ (found .size .width < 65536) × (found .size .height < 65536) ⌝ }
-    ensures { λ r. ⌜ r ≡ foundWritten s found len ⌝ }
+    ensures { λ r. ⌜ r ≡ foundWritten s (keptOf found []) len ⌝ }
 {
     if found.hit {
         let size = found.size;
@@ -132,8 +137,9 @@ pub fn leaf_record(settings: &[u8], tree: &[u8], node: usize) -> LeafRecord
         stride: 0,
     };
     let mut nothing = [0u8; 1];
-    let found = root::walk_core(tree, core, job, &mut nothing);
-    record_of(found)
+    let mut kept = [0u16; 1024];
+    let found = root::walk_core(tree, core, job, &mut kept, &mut nothing);
+    record_of(found, &kept)
 }
 
 // The block of the leaf with that number, its lines joined by 0A, at the start of the output.
@@ -162,6 +168,7 @@ pub fn print_leaf(settings: &[u8], tree: &[u8], node: usize, out: &mut [u8]) -> 
         wanted: node,
         stride: 0,
     };
-    let found = root::walk_core(tree, core, job, out);
+    let mut kept = [0u16; 1024];
+    let found = root::walk_core(tree, core, job, &mut kept, out);
     written_of(s, found, out.len())
 }

@@ -8,6 +8,7 @@ use block::Flags;
 use sizes::Core;
 use sizes::Size;
 ghost use mathlib.Core.Path.{_≡_};
+ghost use Prim.Native.Nat.{_≤_};
 ghost use lib.ListN.{length};
 ghost use Rattle.leaf.specs.Answers.{noFlags};
 ghost use Rattle.leaf.specs.Walk.{leaves};
@@ -31,13 +32,11 @@ fn root_ctx() -> Ctx
         column: 0,
         flags: flags,
     };
-    let h = splits::no_pieces();
-    let v = splits::no_pieces();
     Ctx {
         node: 0,
         spot: spot,
-        horizontal: h,
-        vertical: v,
+        horizontal: 0,
+        vertical: 0,
     }
 }
 
@@ -60,8 +59,6 @@ fn no_found() -> Found
     ensures { λ r. ⌜ r ≡ noFound ⌝ }
 {
     let flags = no_flags();
-    let h = splits::no_pieces();
-    let v = splits::no_pieces();
     let size = Size {
         width: 0,
         height: 0,
@@ -70,8 +67,8 @@ fn no_found() -> Found
         hit: false,
         node: 0,
         size: size,
-        horizontal: h,
-        vertical: v,
+        horizontal: 0,
+        vertical: 0,
         flags: flags,
     }
 }
@@ -84,31 +81,38 @@ pub fn walk_tree(
     widths: &[u16],
     heights: &[u16],
     job: Job,
+    kept: &mut [u16],
     out: &mut [u8],
 ) -> Found
-    requires { ⌜ ReadyTree job (now tree) (listsOf (now «natural_widths») (now «natural_heights») (now widths) (now heights)) (length (now out)) ⌝ }
-    ensures { λ r. ⌜ ((q : ReadyTree job (now (tree .entry)) (listsOf (now («natural_widths» .entry)) (now («natural_heights» .entry)) (now (widths .entry)) (now (heights .entry))) (length (now (out .entry)))) → WalksTree job (leaves (job .settings) (q .tree)) r (now (out .entry)) (now (out .exit))) ⌝ }
+    requires { ⌜ ReadyTree job (now tree) (listsOf (now «natural_widths») (now «natural_heights») (now widths) (now heights)) (length (now out)) × (1024 ≤ length (now kept)) ⌝ }
+    ensures { λ r. ⌜ ((q : ReadyTree job (now (tree .entry)) (listsOf (now («natural_widths» .entry)) (now («natural_heights» .entry)) (now (widths .entry)) (now (heights .entry))) (length (now (out .entry)))) → WalksTree job (leaves (job .settings) (q .tree)) r (now (kept .exit)) (now (out .entry)) (now (out .exit))) ⌝ }
 {
     let x = root_ctx();
     let nothing = no_found();
+    let mut horizontal = [0u16; 512];
+    let mut vertical = [0u16; 512];
     let r = walk::walk_node(
         tree,
         natural_widths,
         natural_heights,
         widths,
         heights,
+        true,
         job,
         x,
         nothing,
+        &mut horizontal,
+        &mut vertical,
+        kept,
         out,
     );
     r.found
 }
 
 // The same, with the sizes that were measured.
-pub fn walk_core(tree: &[u8], core: Core, job: Job, out: &mut [u8]) -> Found
-    requires { ⌜ ReadyTree job (now tree) (coreLists core) (length (now out)) ⌝ }
-    ensures { λ r. ⌜ ((q : ReadyTree job (now (tree .entry)) (coreLists core) (length (now (out .entry)))) → WalksTree job (leaves (job .settings) (q .tree)) r (now (out .entry)) (now (out .exit))) ⌝ }
+pub fn walk_core(tree: &[u8], core: Core, job: Job, kept: &mut [u16], out: &mut [u8]) -> Found
+    requires { ⌜ ReadyTree job (now tree) (coreLists core) (length (now out)) × (1024 ≤ length (now kept)) ⌝ }
+    ensures { λ r. ⌜ ((q : ReadyTree job (now (tree .entry)) (coreLists core) (length (now (out .entry)))) → WalksTree job (leaves (job .settings) (q .tree)) r (now (kept .exit)) (now (out .entry)) (now (out .exit))) ⌝ }
 {
     let natural_widths = core.natural_widths;
     let natural_heights = core.natural_heights;
@@ -121,6 +125,7 @@ pub fn walk_core(tree: &[u8], core: Core, job: Job, out: &mut [u8]) -> Found
         &widths,
         &heights,
         job,
+        kept,
         out,
     )
 }

@@ -1,18 +1,17 @@
 // What a walk does at a leaf: it keeps the record of the wanted leaf, and shows the leaf's block where the walk is for that.
-use crate::context::Ctx;
+use crate::context::Spot;
 use block::Flags;
 use settings::Settings;
 use sizes::Size;
-use splits::SplitList;
+use splits::lent::copy_pieces;
 ghost use mathlib.Core.Path.{_≡_};
-ghost use Prim.Native.Nat.{_+_, _*_, _<_};
+ghost use Prim.Native.Nat.{_+_, _*_, _≤_, _<_};
 ghost use lib.ListN.{length};
 ghost use lib.Dec.{eqb};
 ghost use Rattle.common.specs.Choice as choice;
 ghost use Rattle.block.specs.Block.{block};
-ghost use Rattle.block.specs.Paint.{pasted};
-ghost use Rattle.leaf.specs.Walk.{leafOf};
-ghost use Rattle.leaf.specs.Visiting.{foundOf, placedOf, keeps, printed, shows, blockBytes, Printable, InSheet, Visitable};
+ghost use Rattle.block.specs.Paint.{pasted, leafWith};
+ghost use Rattle.leaf.specs.Visiting.{keptLists, keptOf, keptAt, Few, contextOf, placedOf, keeps, printed, shows, blockBytes, Printable, InSheet, Visitable};
 
 // What a walk is for: a leaf's record alone, its block too, or the whole sheet.
 pub enum Purpose {
@@ -29,32 +28,49 @@ pub struct Job {
     pub stride: usize,
 }
 
-// The wanted leaf's record, once it was met.
+// The wanted leaf's record, once it was met; its pieces lie at the front of lent memory, those of the horizontal list first.
 pub struct Found {
     pub hit: bool,
     pub node: usize,
     pub size: Size,
-    pub horizontal: SplitList,
-    pub vertical: SplitList,
+    pub horizontal: usize,
+    pub vertical: usize,
     pub flags: Flags,
 }
 
-// The record of the leaf, if it is the wanted one.
-pub fn keep(wanted: usize, ctx: Ctx, size: Size, found: Found) -> Found
-    ensures { λ r. ⌜ r ≡ choice.pick (eqb (ctx .node) wanted) (foundOf ctx size) found ⌝ }
+// The pieces of both lists at the front of `kept`.
+fn keep_lists(horizontal: &[u16], vertical: &[u16], kept: &mut [u16])
+    requires { ⌜ length (now horizontal) + length (now vertical) ≤ length (now kept) ⌝ }
+    ensures { λ _. ⌜ now (kept .exit) ≡ keptLists (now (horizontal .entry)) (now (vertical .entry)) (now (kept .entry)) ⌝ }
 {
-    let node = ctx.node;
+    copy_pieces(kept, 0, horizontal, horizontal.len());
+    copy_pieces(kept, horizontal.len(), vertical, vertical.len());
+}
+
+// The record of the leaf, if it is the wanted one.
+fn keep(
+    wanted: usize,
+    node: usize,
+    spot: Spot,
+    size: Size,
+    found: Found,
+    horizontal: &[u16],
+    vertical: &[u16],
+    kept: &mut [u16],
+) -> Found
+    requires { ⌜ (length (now horizontal) ≤ 512) × (length (now vertical) ≤ 512) × (1024 ≤ length (now kept)) ⌝ }
+    ensures few { λ r. ⌜ (Few found → Few r) ⌝ }
+    ensures { λ r. ⌜ keptOf r (now (kept .exit)) ≡ choice.pick (eqb node wanted) (keptAt (contextOf node spot size (now (horizontal .entry)) (now (vertical .entry)))) (keptOf found (now (kept .entry))) ⌝ }
+{
     if node == wanted {
-        let horizontal = ctx.horizontal;
-        let vertical = ctx.vertical;
-        let spot = ctx.spot;
+        keep_lists(horizontal, vertical, kept);
         let flags = spot.flags;
         return Found {
             hit: true,
             node: node,
             size: size,
-            horizontal: horizontal,
-            vertical: vertical,
+            horizontal: horizontal.len(),
+            vertical: vertical.len(),
             flags: flags,
         };
     }
@@ -76,12 +92,19 @@ pub fn block_bytes(s: Settings, size: Size, f: Flags) -> usize
 }
 
 // The leaf's block at the start of the output, where it fits.
-fn print_block(s: Settings, text: &[u8], natural: Size, size: Size, ctx: Ctx, out: &mut [u8])
-    requires { ⌜ Printable s (now text) natural size ctx ⌝ }
-    ensures { λ _. ⌜ now (out .exit) ≡ printed (now (out .entry)) (block s (leafOf (placedOf (now (text .entry)) ctx size))) ⌝ }
+fn print_block(
+    s: Settings,
+    text: &[u8],
+    natural: Size,
+    size: Size,
+    flags: Flags,
+    horizontal: &[u16],
+    vertical: &[u16],
+    out: &mut [u8],
+)
+    requires { ⌜ Printable s (now text) natural size (now horizontal) (now vertical) ⌝ }
+    ensures { λ _. ⌜ now (out .exit) ≡ printed (now (out .entry)) (block s (leafWith (now (text .entry)) size flags (now (horizontal .entry)) (now (vertical .entry)))) ⌝ }
 {
-    let spot = ctx.spot;
-    let flags = spot.flags;
     let n = block_bytes(s, size, flags);
     if n == 0 {
         return;
@@ -89,8 +112,6 @@ fn print_block(s: Settings, text: &[u8], natural: Size, size: Size, ctx: Ctx, ou
     if out.len() < n {
         return;
     }
-    let horizontal = ctx.horizontal;
-    let vertical = ctx.vertical;
     block::print_leaf(out, s, text, natural, size, flags, horizontal, vertical);
 }
 
@@ -101,17 +122,17 @@ fn paint_in_sheet(
     text: &[u8],
     natural: Size,
     size: Size,
-    ctx: Ctx,
+    node: usize,
+    spot: Spot,
+    horizontal: &[u16],
+    vertical: &[u16],
     out: &mut [u8],
 )
-    requires { ⌜ Printable s (now text) natural size ctx × InSheet s stride (length (now out)) (placedOf (now text) ctx size) ⌝ }
-    ensures { λ _. ⌜ now (out .exit) ≡ pasted (now (out .entry)) (ctx .spot .line * stride + ctx .spot .column) stride (block s (leafOf (placedOf (now (text .entry)) ctx size))) ⌝ }
+    requires { ⌜ Printable s (now text) natural size (now horizontal) (now vertical) × InSheet s stride (length (now out)) (placedOf (now text) node spot size (now horizontal) (now vertical)) ⌝ }
+    ensures { λ _. ⌜ now (out .exit) ≡ pasted (now (out .entry)) (spot .line * stride + spot .column) stride (block s (leafWith (now (text .entry)) size (spot .flags) (now (horizontal .entry)) (now (vertical .entry)))) ⌝ }
 {
-    let spot = ctx.spot;
     let flags = spot.flags;
     let base = spot.line * stride + spot.column;
-    let horizontal = ctx.horizontal;
-    let vertical = ctx.vertical;
     block::paint_block(
         out,
         base,
@@ -127,20 +148,42 @@ fn paint_in_sheet(
 }
 
 // What the leaf shows in the output, by the walk's purpose.
-fn show(job: Job, text: &[u8], natural: Size, size: Size, ctx: Ctx, out: &mut [u8])
-    requires { ⌜ Visitable job (now text) natural size ctx (length (now out)) ⌝ }
-    ensures { λ _. ⌜ now (out .exit) ≡ shows job (now (out .entry)) (placedOf (now (text .entry)) ctx size) ⌝ }
+fn show(
+    job: Job,
+    text: &[u8],
+    natural: Size,
+    size: Size,
+    node: usize,
+    spot: Spot,
+    horizontal: &[u16],
+    vertical: &[u16],
+    out: &mut [u8],
+)
+    requires { ⌜ Visitable job (now text) natural size node spot (now horizontal) (now vertical) (length (now out)) ⌝ }
+    ensures { λ _. ⌜ now (out .exit) ≡ shows job (now (out .entry)) (placedOf (now (text .entry)) node spot size (now (horizontal .entry)) (now (vertical .entry))) ⌝ }
 {
     let purpose = job.purpose;
     let s = job.settings;
+    let flags = spot.flags;
     match purpose {
         Purpose::Record => {}
         Purpose::Block => {
-            if ctx.node == job.wanted {
-                print_block(s, text, natural, size, ctx, out);
+            if node == job.wanted {
+                print_block(s, text, natural, size, flags, horizontal, vertical, out);
             }
         }
-        Purpose::Sheet => paint_in_sheet(s, job.stride, text, natural, size, ctx, out),
+        Purpose::Sheet => paint_in_sheet(
+            s,
+            job.stride,
+            text,
+            natural,
+            size,
+            node,
+            spot,
+            horizontal,
+            vertical,
+            out,
+        ),
     }
 }
 
@@ -150,14 +193,38 @@ pub fn visit(
     text: &[u8],
     natural: Size,
     size: Size,
-    ctx: Ctx,
+    node: usize,
+    spot: Spot,
     found: Found,
+    horizontal: &[u16],
+    vertical: &[u16],
+    kept: &mut [u16],
     out: &mut [u8],
 ) -> Found
-    requires { ⌜ Visitable job (now text) natural size ctx (length (now out)) ⌝ }
-    ensures { λ r. ⌜ r ≡ keeps job found (placedOf (now (text .entry)) ctx size) ⌝ }
-    ensures shown { λ _. ⌜ now (out .exit) ≡ shows job (now (out .entry)) (placedOf (now (text .entry)) ctx size) ⌝ }
+    requires { ⌜ Visitable job (now text) natural size node spot (now horizontal) (now vertical) (length (now out)) × (1024 ≤ length (now kept)) ⌝ }
+    ensures few { λ r. ⌜ (Few found → Few r) ⌝ }
+    ensures { λ r. ⌜ keptOf r (now (kept .exit)) ≡ keeps job (keptOf found (now (kept .entry))) (placedOf (now (text .entry)) node spot size (now (horizontal .entry)) (now (vertical .entry))) ⌝ }
+    ensures shown { λ _. ⌜ now (out .exit) ≡ shows job (now (out .entry)) (placedOf (now (text .entry)) node spot size (now (horizontal .entry)) (now (vertical .entry))) ⌝ }
 {
-    show(job, text, natural, size, ctx, out);
-    keep(job.wanted, ctx, size, found)
+    show(
+        job,
+        text,
+        natural,
+        size,
+        node,
+        spot,
+        horizontal,
+        vertical,
+        out,
+    );
+    keep(
+        job.wanted,
+        node,
+        spot,
+        size,
+        found,
+        horizontal,
+        vertical,
+        kept,
+    )
 }

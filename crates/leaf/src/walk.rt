@@ -1,4 +1,5 @@
 // The walk over a tree's bytes: `_build_table`, `generate_table_row` and `generate_table_column`, with what is done at each leaf.
+// The pieces of the split lists lie in lent memory: `along` the parent's axis, and `beside` it. A node finds there what it is handed, and leaves what it gives back.
 use crate::context;
 use crate::context::Ctx;
 use crate::context::Spot;
@@ -6,33 +7,34 @@ use crate::visit;
 use crate::visit::Found;
 use crate::visit::Job;
 use sizes::Size;
-use splits::SplitList;
+use splits::cut::cut_pieces;
+use splits::lent::copy_pieces;
 ghost use mathlib.Core.Path.{_≡_};
 ghost use Prim.Native.Nat.{suc, _+_, _≤_, _<_};
 ghost use Rattle.tree.specs.Tree.{nodes, nodes*};
 ghost use lib.ListN.{length};
-ghost use Rattle.common.specs.Arrays.{padded};
 ghost use Rattle.common.specs.Choice as choice;
-ghost use Rattle.splits.specs.Lists.{listOf};
-ghost use Rattle.leaf.specs.Walking.{leafAnswer, startOf, planOf, lookOf, advanceOf, finishOf, sizeIn, listsOf, LeafReady, Leaves, Ready, ReadyIn, walked, walkedIn, Walks};
+ghost use Rattle.leaf.specs.Walking.{startOf, extentAt, Looks, advanceOf, finishOf, sizeIn, listsOf, LeafReady, LeafReadyBy, Leaves, LeavesBy, Ready, ReadyIn, walked, walkedIn, Walks};
 
-// What a node gives back: `CellData`, the next node's number, and the record once it was met.
+// What a node gives back: the next node's number, how many pieces its lists have (`CellData`), and the record once it was met.
 pub struct Answer {
     pub next: usize,
-    pub horizontal: SplitList,
-    pub vertical: SplitList,
+    pub horizontal: usize,
+    pub vertical: usize,
     pub found: Found,
 }
 
-// Where the walk over a group's children stands: `cut` and `joined` along the axis, `handed` beside it.
+// Where the walk over a group's children stands: along the axis `left` pieces are still to be cut, from `from` on, and `joined` were given back;
+// beside it `handed` pieces lie.
 pub struct Going {
     pub node: usize,
     pub offset: usize,
     pub first: bool,
     pub old: bool,
-    pub cut: SplitList,
-    pub handed: SplitList,
-    pub joined: SplitList,
+    pub from: usize,
+    pub left: usize,
+    pub handed: usize,
+    pub joined: usize,
     pub found: Found,
 }
 
@@ -42,22 +44,8 @@ pub struct Planned {
     pub offset: usize,
     pub child: Ctx,
     pub split: bool,
-    pub left: SplitList,
-}
-
-// `generate_value_cell`: what a leaf gives back.
-fn leaf_answer(node: usize, size: Size, found: Found) -> Answer
-    requires { ⌜ (node < 512) × (size .width < 65536) × (size .height < 65536) ⌝ }
-    ensures { λ r. ⌜ r ≡ leafAnswer node size found ⌝ }
-{
-    let h = splits::one_piece(size.width as u16);
-    let v = splits::one_piece(size.height as u16);
-    Answer {
-        next: node + 1,
-        horizontal: h,
-        vertical: v,
-        found: found,
-    }
+    pub from: usize,
+    pub left: usize,
 }
 
 // Before the first child.
@@ -66,18 +54,16 @@ fn start(ctx: Ctx, across: bool, found: Found) -> Going
     ensures { λ r. ⌜ r ≡ startOf ctx across found ⌝ }
 {
     let node = ctx.node + 1;
-    let h = ctx.horizontal;
-    let v = ctx.vertical;
-    let joined = splits::no_pieces();
     if across {
         return Going {
             node: node,
             offset: 0,
             first: true,
             old: false,
-            cut: h,
-            handed: v,
-            joined: joined,
+            from: 0,
+            left: ctx.horizontal,
+            handed: ctx.vertical,
+            joined: 0,
             found: found,
         };
     }
@@ -86,83 +72,87 @@ fn start(ctx: Ctx, across: bool, found: Found) -> Going
         offset: 0,
         first: true,
         old: false,
-        cut: v,
-        handed: h,
-        joined: joined,
+        from: 0,
+        left: ctx.vertical,
+        handed: ctx.horizontal,
+        joined: 0,
         found: found,
     }
 }
 
-// The child at `g.node`, of that extent along the axis, whose element takes `used` bytes.
-fn plan(g: Going, b: Spot, across: bool, last: bool, extent: u16, used: usize) -> Planned
-    requires { ⌜ (b .line + g .offset < 4294967296) × (b .column + g .offset < 4294967296) × (g .cut .count ≤ 512) ⌝ }
-    ensures { λ r. ⌜ r ≡ planOf g b across last extent used ⌝ }
+// A node's extent along the axis.
+fn extent_at(widths: &[u16], heights: &[u16], node: usize, across: bool) -> u16
+    requires { ⌜ (node < length (now widths)) × (node < length (now heights)) ⌝ }
+    ensures { λ r. ⌜ r ≡ extentAt across (now (widths .entry)) (now (heights .entry)) node ⌝ }
 {
-    let cut = g.cut;
-    let k = splits::short_splits3(cut, extent);
-    let spot = context::child_spot(across, b, g.offset, g.first, last, g.old);
-    let taken = k.taken;
-    let handed = g.handed;
-    let child = context::child_ctx(across, g.node, spot, taken, handed);
-    let left = k.left;
-    let split = k.split;
-    let offset = g.offset + common::wide16(extent) + 1;
-    Planned {
-        used: used,
-        offset: offset,
-        child: child,
-        split: split,
-        left: left,
+    if across {
+        return widths[node];
     }
+    heights[node]
 }
 
-// The next child of the group that starts at `b`: `s` has the bytes of the children that are left.
-fn look(s: &[u8], widths: &[u16], heights: &[u16], g: Going, b: Spot, across: bool) -> Planned
-    requires { ⌜ (2 < length (now s)) × (g .node < length (now widths)) × (g .node < length (now heights)) × (g .cut .count ≤ 512) ⌝ }
+// The next child of the group that starts at `b`: `s` has the bytes of the children that are left. Its pieces are cut off those of `along`, and go after the joined ones.
+fn look(
+    s: &[u8],
+    widths: &[u16],
+    heights: &[u16],
+    g: Going,
+    b: Spot,
+    across: bool,
+    along: &mut [u16],
+    joined: &mut [u16],
+) -> Planned
+    requires { ⌜ (2 < length (now s)) × (g .node < length (now widths)) × (g .node < length (now heights)) ⌝ }
     requires { ⌜ (b .line + g .offset < 4294967296) × (b .column + g .offset < 4294967296) ⌝ }
-    ensures { λ r. ⌜ r ≡ lookOf (now (s .entry)) (now (widths .entry)) (now (heights .entry)) g b across ⌝ }
+    requires { ⌜ (g .from + g .left ≤ length (now along)) × (g .joined + g .left ≤ length (now joined)) ⌝ }
+    ensures { λ r. ⌜ Looks (now (s .entry)) (now (widths .entry)) (now (heights .entry)) g b across r (now (along .entry)) (now (along .exit)) (now (joined .entry)) (now (joined .exit)) ⌝ }
 {
     let used = 3 + tree::front::length_at(s);
     let last = used == s.len();
-    let node = g.node;
-    if across {
-        return plan(g, b, across, last, widths[node], used);
+    let extent = extent_at(widths, heights, g.node, across);
+    let from = g.from;
+    let at = g.joined;
+    let k = cut_pieces(&mut along[from..], g.left, extent, &mut joined[at..]);
+    let spot = context::child_spot(across, b, g.offset, g.first, last, g.old);
+    let child = context::child_ctx(across, g.node, spot, k.taken, g.handed);
+    Planned {
+        used: used,
+        offset: g.offset + common::wide16(extent) + 1,
+        child: child,
+        split: k.split,
+        from: from + k.gone,
+        left: g.left - k.gone,
     }
-    plan(g, b, across, last, heights[node], used)
 }
 
 // What a child gave back is joined along the axis, and handed on beside it.
 fn advance(g: Going, p: Planned, r: Answer, across: bool) -> Going
-    requires { ⌜ (g .joined .count + choice.pick across (r .horizontal) (r .vertical) .count ≤ 512) × (g .joined .pieces ≡ padded (listOf (g .joined))) ⌝ }
+    requires { ⌜ g .joined + choice.pick across (r .horizontal) (r .vertical) ≤ 512 ⌝ }
     ensures { λ q. ⌜ q ≡ advanceOf g p r across ⌝ }
 {
-    let h = r.horizontal;
-    let v = r.vertical;
     let found = r.found;
-    let left = p.left;
-    let before = g.joined;
     if across {
-        let joined = splits::append(before, h);
         return Going {
             node: r.next,
             offset: p.offset,
             first: false,
             old: p.split,
-            cut: left,
-            handed: v,
-            joined: joined,
+            from: p.from,
+            left: p.left,
+            handed: r.vertical,
+            joined: g.joined + r.horizontal,
             found: found,
         };
     }
-    let joined = splits::append(before, v);
     Going {
         node: r.next,
         offset: p.offset,
         first: false,
         old: p.split,
-        cut: left,
-        handed: h,
-        joined: joined,
+        from: p.from,
+        left: p.left,
+        handed: r.horizontal,
+        joined: g.joined + r.vertical,
         found: found,
     }
 }
@@ -171,21 +161,19 @@ fn advance(g: Going, p: Planned, r: Answer, across: bool) -> Going
 fn finish(g: Going, across: bool) -> Answer
     ensures { λ r. ⌜ r ≡ finishOf g across ⌝ }
 {
-    let joined = g.joined;
-    let handed = g.handed;
     let found = g.found;
     if across {
         return Answer {
             next: g.node,
-            horizontal: joined,
-            vertical: handed,
+            horizontal: g.joined,
+            vertical: g.handed,
             found: found,
         };
     }
     Answer {
         next: g.node,
-        horizontal: handed,
-        vertical: joined,
+        horizontal: g.handed,
+        vertical: g.joined,
         found: found,
     }
 }
@@ -204,8 +192,8 @@ fn size_at(widths: &[u16], heights: &[u16], node: usize) -> Size
     }
 }
 
-// A leaf, with its sizes from the lists.
-fn walk_leaf(
+// `generate_value_cell`: a leaf, with its sizes from the lists; it gives back its width and its height as one piece each.
+fn leaf_at(
     text: &[u8],
     natural_widths: &[u16],
     natural_heights: &[u16],
@@ -214,16 +202,92 @@ fn walk_leaf(
     job: Job,
     ctx: Ctx,
     found: Found,
+    horizontal: &mut [u16],
+    vertical: &mut [u16],
+    kept: &mut [u16],
     out: &mut [u8],
 ) -> Answer
-    requires { ⌜ LeafReady job (now text) (listsOf (now «natural_widths») (now «natural_heights») (now widths) (now heights)) ctx (length (now out)) ⌝ }
-    ensures { λ r. ⌜ Leaves job (now (text .entry)) (sizeIn (now (widths .entry)) (now (heights .entry)) (ctx .node)) ctx found r (now (out .entry)) (now (out .exit)) ⌝ }
+    requires { ⌜ LeafReady job (now text) (listsOf (now «natural_widths») (now «natural_heights») (now widths) (now heights)) ctx (now horizontal) (now vertical) (length (now kept)) (length (now out)) ⌝ }
+    ensures { λ r. ⌜ Leaves job (now (text .entry)) (sizeIn (now (widths .entry)) (now (heights .entry)) (ctx .node)) ctx found (now (kept .entry)) r (now (horizontal .entry)) (now (horizontal .exit)) (now (vertical .entry)) (now (vertical .exit)) (now (kept .exit)) (now (out .entry)) (now (out .exit)) ⌝ }
 {
     let node = ctx.node;
+    let spot = ctx.spot;
     let natural = size_at(natural_widths, natural_heights, node);
     let size = size_at(widths, heights, node);
-    let kept = visit::visit(job, text, natural, size, ctx, found, out);
-    leaf_answer(node, size, kept)
+    let h = ctx.horizontal;
+    let v = ctx.vertical;
+    let met = visit::visit(
+        job,
+        text,
+        natural,
+        size,
+        node,
+        spot,
+        found,
+        &horizontal[..h],
+        &vertical[..v],
+        kept,
+        out,
+    );
+    horizontal[0] = size.width as u16;
+    vertical[0] = size.height as u16;
+    Answer {
+        next: node + 1,
+        horizontal: 1,
+        vertical: 1,
+        found: met,
+    }
+}
+
+// The same, by the axis.
+fn walk_leaf(
+    text: &[u8],
+    natural_widths: &[u16],
+    natural_heights: &[u16],
+    widths: &[u16],
+    heights: &[u16],
+    across: bool,
+    job: Job,
+    ctx: Ctx,
+    found: Found,
+    along: &mut [u16],
+    beside: &mut [u16],
+    kept: &mut [u16],
+    out: &mut [u8],
+) -> Answer
+    requires { ⌜ LeafReadyBy across job (now text) (listsOf (now «natural_widths») (now «natural_heights») (now widths) (now heights)) ctx (now along) (now beside) (length (now kept)) (length (now out)) ⌝ }
+    ensures { λ r. ⌜ LeavesBy across job (now (text .entry)) (sizeIn (now (widths .entry)) (now (heights .entry)) (ctx .node)) ctx found (now (kept .entry)) r (now (along .entry)) (now (along .exit)) (now (beside .entry)) (now (beside .exit)) (now (kept .exit)) (now (out .entry)) (now (out .exit)) ⌝ }
+{
+    if across {
+        return leaf_at(
+            text,
+            natural_widths,
+            natural_heights,
+            widths,
+            heights,
+            job,
+            ctx,
+            found,
+            along,
+            beside,
+            kept,
+            out,
+        );
+    }
+    leaf_at(
+        text,
+        natural_widths,
+        natural_heights,
+        widths,
+        heights,
+        job,
+        ctx,
+        found,
+        beside,
+        along,
+        kept,
+        out,
+    )
 }
 
 // `_build_table`: the tree at the start of `s`, in this context.
@@ -233,13 +297,17 @@ pub fn walk_node(
     natural_heights: &[u16],
     widths: &[u16],
     heights: &[u16],
+    across: bool,
     job: Job,
     ctx: Ctx,
     found: Found,
+    along: &mut [u16],
+    beside: &mut [u16],
+    kept: &mut [u16],
     out: &mut [u8],
 ) -> Answer
-    requires { ⌜ Ready job (now s) (listsOf (now «natural_widths») (now «natural_heights») (now widths) (now heights)) ctx (length (now out)) ⌝ }
-    ensures { λ r. ⌜ ((q : Ready job (now (s .entry)) (listsOf (now («natural_widths» .entry)) (now («natural_heights» .entry)) (now (widths .entry)) (now (heights .entry))) ctx (length (now (out .entry)))) → Walks job found (q .at .node + nodes (q .tree)) (walked q) r (now (out .entry)) (now (out .exit))) ⌝ }
+    requires { ⌜ Ready job (now s) (listsOf (now «natural_widths») (now «natural_heights») (now widths) (now heights)) across ctx (now along) (now beside) (length (now kept)) (length (now out)) ⌝ }
+    ensures { λ r. ⌜ ((q : Ready job (now (s .entry)) (listsOf (now («natural_widths» .entry)) (now («natural_heights» .entry)) (now (widths .entry)) (now (heights .entry))) across ctx (now (along .entry)) (now (beside .entry)) (length (now (kept .entry))) (length (now (out .entry)))) → Walks job across found (now (kept .entry)) (q .at .node + nodes (q .tree)) (walked q) r (now (along .exit)) (now (beside .exit)) (now (kept .exit)) (now (out .entry)) (now (out .exit))) ⌝ }
 {
     let t = tree::front::read_front(s);
     let end = t.end;
@@ -250,9 +318,30 @@ pub fn walk_node(
             natural_heights,
             widths,
             heights,
+            across,
             job,
             ctx,
             found,
+            along,
+            beside,
+            kept,
+            out,
+        );
+    }
+    if t.across == across {
+        return walk_group(
+            &s[3..end],
+            natural_widths,
+            natural_heights,
+            widths,
+            heights,
+            t.across,
+            job,
+            ctx,
+            found,
+            along,
+            beside,
+            kept,
             out,
         );
     }
@@ -266,6 +355,9 @@ pub fn walk_node(
         job,
         ctx,
         found,
+        beside,
+        along,
+        kept,
         out,
     )
 }
@@ -281,31 +373,41 @@ fn walk_group(
     job: Job,
     ctx: Ctx,
     found: Found,
+    along: &mut [u16],
+    beside: &mut [u16],
+    kept: &mut [u16],
     out: &mut [u8],
 ) -> Answer
-    requires { ⌜ ReadyIn job (now s) (listsOf (now «natural_widths») (now «natural_heights») (now widths) (now heights)) across ctx (length (now out)) ⌝ }
-    ensures { λ r. ⌜ ((q : ReadyIn job (now (s .entry)) (listsOf (now («natural_widths» .entry)) (now («natural_heights» .entry)) (now (widths .entry)) (now (heights .entry))) across ctx (length (now (out .entry)))) → Walks job found (suc (q .at .node) + nodes* (q .trees)) (walkedIn q) r (now (out .entry)) (now (out .exit))) ⌝ }
+    requires { ⌜ ReadyIn job (now s) (listsOf (now «natural_widths») (now «natural_heights») (now widths) (now heights)) across ctx (now along) (now beside) (length (now kept)) (length (now out)) ⌝ }
+    ensures { λ r. ⌜ ((q : ReadyIn job (now (s .entry)) (listsOf (now («natural_widths» .entry)) (now («natural_heights» .entry)) (now (widths .entry)) (now (heights .entry))) across ctx (now (along .entry)) (now (beside .entry)) (length (now (kept .entry))) (length (now (out .entry)))) → Walks job across found (now (kept .entry)) (suc (q .at .node) + nodes* (q .trees)) (walkedIn q) r (now (along .exit)) (now (beside .exit)) (now (kept .exit)) (now (out .entry)) (now (out .exit))) ⌝ }
 {
     let b = ctx.spot;
     let mut g = start(ctx, across, found);
+    let mut joined = [0u16; 1024];
     let mut at: usize = 0;
     while at < s.len() {
-        let p = look(&s[at..], widths, heights, g, b, across);
+        let p = look(&s[at..], widths, heights, g, b, across, along, &mut joined);
         let child = p.child;
         let before = g.found;
+        let end = g.joined;
         let r = walk_node(
             &s[at..],
             natural_widths,
             natural_heights,
             widths,
             heights,
+            across,
             job,
             child,
             before,
+            &mut joined[end..],
+            beside,
+            kept,
             out,
         );
         g = advance(g, p, r, across);
         at = at + p.used;
     }
+    copy_pieces(along, 0, &joined, g.joined);
     finish(g, across)
 }

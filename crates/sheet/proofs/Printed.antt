@@ -159,20 +159,20 @@ module _ (bs ts : List ℕ) (o : List ℕ) (m : Measured) (me : m ≡ measuredOf
         pub sheet-ready : (len : ℕ) → len ≡ length o → ReadyTree (sheetJob s (p .stride)) ts (coreLists (m .core)) len
         sheet-ready len le = tree-ready (sheetJob s (p .stride)) ts t (m .core) len (call-takes bs ts m me h) core-is (asks len le)
 
-        sheet-shown : (len : ℕ) (le : len ≡ length o) (f : Found) (o₁ o₂ : List ℕ) → o₁ ≡ sets o 0 (replicate (p .count) 10)
-            → WalksTree (sheetJob s (p .stride)) (leaves s (sheet-ready len le .tree)) f o₁ o₂ → o₂ ≡ sheet s t ++ drop n o
+        sheet-shown : (len : ℕ) (le : len ≡ length o) (f : Found) (kept o₁ o₂ : List ℕ) → o₁ ≡ sets o 0 (replicate (p .count) 10)
+            → WalksTree (sheetJob s (p .stride)) (leaves s (sheet-ready len le .tree)) f kept o₁ o₂ → o₂ ≡ sheet s t ++ drop n o
         unfolding sheet-ready tree-ready
-        sheet-shown len le f o₁ o₂ oe w =
-            w .out
+        sheet-shown len le f kept o₁ o₂ oe w =
+            w .out-is
             ∙ show-painted s (p .stride) o₁ (leaves s t)
             ∙ rw (oe, filled o (p .count) (omega (arith, fits)), stride-of, count-is, bytes-is s t (m .core) core-is) (sheet-painted s t (drop ((W s t + 1) * H s t - 1) o) widths)
 
-        pub sheet-answers : (len : ℕ) (le : len ≡ length o) (f : Found) (o₁ o₂ : List ℕ) → o₁ ≡ sets o 0 (replicate (p .count) 10)
-            → WalksTree (sheetJob s (p .stride)) (leaves s (sheet-ready len le .tree)) f o₁ o₂
+        pub sheet-answers : (len : ℕ) (le : len ≡ length o) (f : Found) (kept o₁ o₂ : List ℕ) → o₁ ≡ sets o 0 (replicate (p .count) 10)
+            → WalksTree (sheetJob s (p .stride)) (leaves s (sheet-ready len le .tree)) f kept o₁ o₂
             → (_≡_ {A = Written} (record { number = 0; count = p .count }) (sheetOf (inputOf bs ts) o .answer)) × (o₂ ≡ sheetOf (inputOf bs ts) o .out)
-        sheet-answers len le f o₁ o₂ oe w =
+        sheet-answers len le f kept o₁ o₂ oe w =
             let e : sheetOf (inputOf bs ts) o ≡ whole = sheet-is ∙ rw (passed .first, passed .second, passed .third) in
-            (rw (e, count-is), sheet-shown len le f o₁ o₂ oe w ∙ rw e)
+            (rw (e, count-is), sheet-shown len le f kept o₁ o₂ oe w ∙ rw e)
 
 -- ---- no more bytes are written than were lent
 

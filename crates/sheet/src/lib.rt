@@ -96,7 +96,8 @@ pub fn print_sheet(settings: &[u8], tree: &[u8], out: &mut [u8]) -> Written
         stride: p.stride,
     };
     block::bytes::fill(out, 0, p.count, 10);
-    leaf::root::walk_core(tree, core, job, out);
+    let mut kept = [0u16; 1024];
+    leaf::root::walk_core(tree, core, job, &mut kept, out);
     Written {
         number: 0,
         count: p.count,

@@ -1,21 +1,23 @@
 -- What the cuts answer, from where their loops stop. Assumes nothing.
-use mathlib.Core.Path.{_≡_}
-use mathlib.Core.Bool.{true, false}
+use mathlib.Core.Path.{_≡_, _∙_}
+use mathlib.Core.Bool.{Bool, true, false}
 use mathlib.Core.List.{List, [], _∷_}
 use Prim.Native.Nat.{ℕ, _+_, _-_, _≤_, _<_}
 use native.Mathlib.Numerals.{add-one}
 use native.Mathlib.Omega.{arith}
-use lib.ListN.{length, take, drop, getD, drop-of-length-le}
-use lib.Seq.{drop-cons, length-take-le, getD-take}
+use lib.ListN.{length, take, drop, getD, set, replicate, length-set, drop-of-length-le}
+use lib.Seq.{drop-cons, length-take-le, getD-take, getD-set-same, take-take, take-set-lt, drop-set-lt}
 use borrow.Author.Tests.{lt-leb, le-leb, eq-eqb, ne-eqb}
 use Rattle.splits.specs.declared.SplitList.{SplitList}
-use Rattle.splits.specs.declared.CutParts.{CutParts}
 use Rattle.splits.specs.declared.ShortParts.{ShortParts}
-use Rattle.splits.specs.declared.cut.Taken.{Taken}
+use Rattle.splits.specs.declared.CutParts.{CutParts}
+use Rattle.splits.specs.declared.cut.Stop.{Stop}
+use Rattle.splits.specs.declared.cut.CutAt.{CutAt}
 use Rattle.splits.specs.declared.short.Listed.{Listed}
 use Rattle.splits.specs.Splits.{closed, shortSplits3, loses, shortSplits}
 use Rattle.splits.specs.Lists.{listOf, splitList}
-use Rattle.splits.specs.Cuts.{Took, Told, answered, refusedCut, cutOf, refusedShort, shortOf}
+use Rattle.splits.proofs.Lists.{drop-replicate}
+use Rattle.splits.specs.Cuts.{Took, CutsIn, Told, answered, refusedCut, cutOf, refusedShort, shortOf}
 
 -- what is left from entry k on
 module _ (n : ℕ) (s : List ℕ) (long : n ≤ length s) (k : ℕ) where
@@ -29,26 +31,38 @@ module _ (n : ℕ) (s : List ℕ) (long : n ≤ length s) (k : ℕ) where
       let len : length (take n s) ≡ n = length-take-le n s long in
       rw (add-one k, ← getD-take n s k 0 h) (drop-cons (take n s) k 0 (omega arith))
 
--- the parts are the answer of `short_splits3`
-abbrev IsCut : ℕ → SplitList → CutParts → Type 0
-IsCut w list c = c ≡ answered (shortSplits3 (listOf list) w)
+-- the three ends of `short_splits3`
+module _ {w n : ℕ} {s : List ℕ} {k : Stop} {o₀ o : List ℕ} (t : Took w n s k o₀ o) (long : n ≤ length s) where
+  abbrev taken : List ℕ
+  taken = take (k .count) (take n s)
 
--- the three ends of `short_splits3`, with the lists that the code has made
-module _ {w : ℕ} {list : SplitList} {k : Taken} (t : Took w list k) (long : list .count ≤ length (list .pieces)) {left : SplitList} where
-  pub cut-none : left ≡ splitList [] → list .count ≤ k .list .count → IsCut w list (record { number = 0; split = false; taken = k .list; left = left })
+  pub cut-none : n ≤ k .count → shortSplits3 (take n s) w ≡ record { split = false; taken = taken; left = [] }
   unfolding shortSplits3 closed
-  cut-none l h = rw (t .taken, l, t .stops .left, t .stops .reached, left-none (list .count) (list .pieces) long (k .list .count) h)
+  cut-none h = rw (t .stops .taken, t .stops .left, t .stops .reached, left-none n s long (k .count) h)
 
-  pub cut-yes : left ≡ splitList (drop (k .list .count + 1) (listOf list)) → k .list .count < list .count → getD (list .pieces) (k .list .count) 0 - (w - k .pos) ≡ 0
-      → IsCut w list (record { number = 0; split = true; taken = k .list; left = left })
+  pub cut-yes : k .count < n → getD s (k .count) 0 - (w - k .pos) ≡ 0 → shortSplits3 (take n s) w ≡ record { split = true; taken = taken; left = drop (k .count + 1) (take n s) }
   unfolding shortSplits3 closed
-  cut-yes l h z = rw (t .taken, l, t .stops .left, t .stops .reached, left-more (list .count) (list .pieces) long (k .list .count) h, eq-eqb _ 0 z)
+  cut-yes h z = rw (t .stops .taken, t .stops .left, t .stops .reached, left-more n s long (k .count) h, eq-eqb _ 0 z)
 
-  pub cut-no : left ≡ splitList ((getD (list .pieces) (k .list .count) 0 - (w - k .pos) - 1) ∷ drop (k .list .count + 1) (listOf list))
-      → k .list .count < list .count → (getD (list .pieces) (k .list .count) 0 - (w - k .pos) ≡ 0 → ⊥)
-      → IsCut w list (record { number = 0; split = false; taken = k .list; left = left })
+  pub cut-no : k .count < n → (getD s (k .count) 0 - (w - k .pos) ≡ 0 → ⊥)
+      → shortSplits3 (take n s) w ≡ record { split = false; taken = taken; left = (getD s (k .count) 0 - (w - k .pos) - 1) ∷ drop (k .count + 1) (take n s) }
   unfolding shortSplits3 closed
-  cut-no l h z = rw (t .taken, l, t .stops .left, t .stops .reached, left-more (list .count) (list .pieces) long (k .list .count) h, ne-eqb _ 0 z)
+  cut-no h z = rw (t .stops .taken, t .stops .left, t .stops .reached, left-more n s long (k .count) h, ne-eqb _ 0 z)
+
+  -- as the code answers it
+  pub cuts-in : (b : Bool) (l : List ℕ) → shortSplits3 (take n s) w ≡ record { split = b; taken = taken; left = l }
+      → (gone : ℕ) (s₁ : List ℕ) → gone ≤ n → drop gone (take n s₁) ≡ l → CutsIn n w (record { split = b; taken = k .count; gone = gone }) s s₁ o₀ o
+  cuts-in b l e gone s₁ h f =
+      let m : length (take n s) ≡ n = length-take-le n s long in
+      let c : length taken ≡ k .count = length-take-le (k .count) (take n s) (omega (arith, t .stops .within)) in
+      let u : taken ≡ take (k .count) s = take-take (k .count) n s (t .stops .within) in
+      record { split = rw e; taken = rw (e, c); stored = rw (e, u) (t .stored); within = h; left = rw e f }
+
+-- the piece that is shortened where it stands
+pub first-set : (n : ℕ) (s : List ℕ) (k v : ℕ) → n ≤ length s → k < n → drop k (take n (set s k v)) ≡ v ∷ drop (k + 1) (take n s)
+first-set n s k v long h =
+    let m : length (set s k v) ≡ length s = length-set s k v in
+    left-more n (set s k v) (omega arith) k h ∙ rw (getD-set-same s k v 0 (omega arith), take-set-lt n s k v h, drop-set-lt (k + 1) (take n s) k v (omega arith))
 
 pub cut-over : (list : SplitList) (w : ℕ) → 512 < list .count → cutOf list w ≡ refusedCut
 unfolding cutOf
@@ -68,3 +82,9 @@ pub short-within : {w : ℕ} {list : SplitList} {k : Listed} → Told w list k �
     → _≡_ {A = ShortParts} (record { number = 0; positions = k .positions; left = left }) (shortOf list w)
 unfolding shortOf shortSplits
 short-within {list = list} t few l = rw (t .listed, l, le-leb (list .count) 512 few, t .stops .left, t .stops .reached)
+
+-- the cut by value, over memory that held zeros
+pub cut-whole : (list : SplitList) (w : ℕ) (r : CutAt) (s o : List ℕ) → CutsIn (list .count) w r (list .pieces) s (replicate 512 0) o → list .count ≤ 512
+    → (left : SplitList) → left ≡ splitList (drop (r .gone) (take (list .count) s))
+    → _≡_ {A = CutParts} (record { number = 0; split = r .split; taken = record { pieces = o; count = r .taken }; left = left }) (cutOf list w)
+cut-whole list w r s o k few left e = rw (cut-within list w few, k .stored, k .split, k .taken, e, k .left, drop-replicate (length (shortSplits3 (take (list .count) (list .pieces)) w .taken)) 512 0)

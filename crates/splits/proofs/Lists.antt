@@ -2,11 +2,11 @@
 use mathlib.Core.Path.{_≡_, _∙_}
 use mathlib.Core.List.{List, [], _∷_, _++_, append-assoc}
 use mathlib.Core.Bool.{Bool, true, false}
-use Prim.Native.Nat.{ℕ, suc, _+_, _-_, _≤_, _<_}
+use Prim.Native.Nat.{ℕ, zero, suc, _+_, _-_, _≤_, _<_}
 use native.Mathlib.Numerals.{add-one}
 use native.Mathlib.Omega.{arith}
 use lib.ListN.{length, take, drop, getD, set, replicate, length-append, length-drop}
-use lib.Seq.{take-suc, take-add, drop-cons, drop-at, getD-drop, set-at, take-append-seam, length-take-le}
+use lib.Seq.{paste, take-suc, take-add, drop-cons, drop-at, getD-drop, set-at, take-append-seam, length-take-le}
 use lib.Dec.{ltb, eqb}
 use Rattle.common.specs.Arrays.{padded}
 use Rattle.common.specs.Choice.{pick}
@@ -25,6 +25,18 @@ is-padded x l e = rw (e, list-of l)
 -- an array of n pieces, then zeros, with the count n
 pub split-list : (l : List ℕ) {out : List ℕ} {n : ℕ} → out ≡ padded l → length l ≡ n → _≡_ {A = SplitList} (record { pieces = out; count = n }) (splitList l)
 split-list l o e = rw (o, ← e)
+
+pub drop-replicate : (n m x : ℕ) → drop n (replicate m x) ≡ replicate (m - n) x
+drop-replicate zero m x = let e : m - 0 ≡ m = omega arith in rw e
+drop-replicate (suc n) zero x = let e : 0 - suc n ≡ 0 = omega arith in rw e
+drop-replicate (suc n) (suc m) x = let e : suc m - suc n ≡ m - n = omega arith in rw e (drop-replicate n m x)
+
+-- pieces pasted over zeros
+pub paste-zeros : (s : List ℕ) (n : ℕ) → n ≤ length s → {out : List ℕ} → out ≡ paste (replicate 512 0) 0 s n → _≡_ {A = SplitList} (record { pieces = out; count = n }) (splitList (take n s))
+paste-zeros s n h o =
+    let z : 0 + n ≡ n = omega arith in
+    let e : length (take n s) ≡ n = length-take-le n s h in
+    split-list (take n s) (o ∙ rw (z, e, drop-replicate n 512 0)) e
 
 -- ---- one more number stored
 

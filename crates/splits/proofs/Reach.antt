@@ -7,14 +7,14 @@ use native.Mathlib.Omega.{arith}
 use native.Mathlib.Nat.{lt-of-not-le}
 use native.Mathlib.Decide.{decLe}
 use lib.ListN.{length, take, drop, getD, set, replicate, length-set, drop-of-length-le}
-use lib.Seq.{take-suc, take-suc-set, drop-cons, length-take-le, getD-take}
+use lib.Seq.{take-suc, take-suc-set, drop-cons, set-at, length-take-le, getD-take}
 use borrow.Author.Tests.{lt-ltb, le-ltb}
 use Rattle.common.specs.Arrays.{padded}
 use Rattle.splits.specs.declared.SplitList.{SplitList}
 use Rattle.splits.specs.Splits.{Reached, took, reach}
 use Rattle.splits.specs.Lists.{listOf}
 use Rattle.splits.specs.Cuts.{Stops, Took, Told}
-use Rattle.splits.proofs.Lists.{padded-snoc, store, split-list}
+use Rattle.splits.proofs.Lists.{padded-snoc}
 
 -- where the loop stops at once
 abbrev stopped : List ℕ → ℕ → Reached
@@ -93,29 +93,23 @@ module _ {step w n : ℕ} {s : List ℕ} {i pos : ℕ} (g : Goes step w n s i po
 
 -- ---- `short_splits3` stores the pieces taken
 
-pub record Takes (w n : ℕ) (s : List ℕ) (i pos : ℕ) (out : List ℕ) : Type 0 where
+-- the loop has stored i pieces at the front of memory that held o₀
+pub record Takes (w n : ℕ) (s : List ℕ) (i pos : ℕ) (o₀ o : List ℕ) : Type 0 where
   pub goes : Goes 1 w n s i pos
-  pub stored : out ≡ padded (take i (take n s))
+  pub stored : o ≡ take i s ++ drop i o₀
 
-pub takes-first : (w n : ℕ) (s : List ℕ) → Takes w n s 0 0 (replicate 512 0)
-takes-first w n s = record { goes = goes-first 1 w n s; stored = refl }
+pub takes-first : (w n : ℕ) (s o₀ : List ℕ) → Takes w n s 0 0 o₀ o₀
+takes-first w n s o₀ = record { goes = goes-first 1 w n s; stored = refl }
 
-pub takes-on : {w n : ℕ} {s : List ℕ} {i pos : ℕ} {out : List ℕ} → Takes w n s i pos out → n ≤ length s → n ≤ 512 → i < n → pos + getD s i 0 < w
-    → (next : ℕ) → next ≡ pos + (getD s i 0 + 1) → Takes w n s (i + 1) next (set out i (getD s i 0))
-takes-on {w} {n} {s} {i} {pos} {out} t long few h b next q =
-    let len : length (take n s) ≡ n = length-take-le n s long in
-    record {
-      goes = goes-on (t .goes) long next (omega arith) h b q;
-      stored = rw (t .stored, ← getD-take n s i 0 h) (store [] (take n s) i i (length-take-le i (take n s) (omega arith)) (omega arith) (omega arith));
-    }
+pub takes-on : {w n : ℕ} {s : List ℕ} {i pos : ℕ} {o₀ o : List ℕ} → Takes w n s i pos o₀ o → n ≤ length s → n ≤ length o₀ → i < n → pos + getD s i 0 < w
+    → (next : ℕ) → next ≡ pos + (getD s i 0 + 1) → Takes w n s (i + 1) next o₀ (set o i (getD s i 0))
+takes-on {s = s} {i = i} {o₀ = o₀} t long room h b next q = record {
+  goes = goes-on (t .goes) long next (omega arith) h b q;
+  stored = rw (t .stored, add-one i, take-suc s i 0 (omega arith), drop-cons o₀ i 0 (omega arith), append-assoc) (set-at (take i s) (getD o₀ i 0) (drop (suc i) o₀) (getD s i 0) i (length-take-le i s (omega arith)));
+}
 
-pub takes-stops : (list : SplitList) {w i pos : ℕ} {out : List ℕ} → Takes w (list .count) (list .pieces) i pos out → list .count ≤ length (list .pieces)
-    → (i < list .count → w ≤ pos + getD (list .pieces) i 0) → Took w list (record { list = record { pieces = out; count = i }; pos = pos })
-takes-stops list {w} {i} t long h =
-    let len : length (listOf list) ≡ list .count = length-take-le (list .count) (list .pieces) long in
-    let at = goes-stops (t .goes) long h in
-    let all : i ≤ list .count = at .within in
-    record { stops = at; taken = rw (at .taken) (split-list (take i (listOf list)) (t .stored) (length-take-le i (listOf list) (omega arith))) }
+pub takes-stops : {w n : ℕ} {s : List ℕ} {i pos : ℕ} {o₀ o : List ℕ} → Takes w n s i pos o₀ o → n ≤ length s → (i < n → w ≤ pos + getD s i 0) → Took w n s (record { count = i; pos = pos }) o₀ o
+takes-stops t long h = record { stops = goes-stops (t .goes) long h; stored = t .stored }
 
 -- ---- `short_splits` lists the positions
 

@@ -2,16 +2,17 @@
 use Prim.Native.Nat.{ℕ, _+_, _≤_, _<_}
 use mathlib.Core.Path.{_≡_}
 use mathlib.Core.Bool.{false}
-use mathlib.Core.List.{List, []}
+use mathlib.Core.List.{List, [], _++_}
 use lib.Dec.{leb}
-use lib.ListN.{take, drop, getD}
+use lib.ListN.{length, take, drop, getD}
 use Rattle.common.specs.Choice.{pick}
 use Rattle.splits.specs.declared.SplitList.{SplitList}
 use Rattle.splits.specs.declared.CutParts.{CutParts}
 use Rattle.splits.specs.declared.ShortParts.{ShortParts}
 use Rattle.splits.specs.declared.Positions.{Positions}
 use Rattle.splits.specs.declared.Kept.{Kept}
-use Rattle.splits.specs.declared.cut.Taken.{Taken}
+use Rattle.splits.specs.declared.cut.Stop.{Stop}
+use Rattle.splits.specs.declared.cut.CutAt.{CutAt}
 use Rattle.splits.specs.declared.short.Listed.{Listed}
 use Rattle.splits.specs.Splits.{reach, Cut, shortSplits3, Short, shortSplits}
 use Rattle.splits.specs.Lists.{listOf, splitList, positionList}
@@ -25,10 +26,18 @@ pub record Stops (step w n : ℕ) (s : List ℕ) (at pos : ℕ) : Type 0 where
   pub left : reach step w (take n s) 0 .left ≡ drop at (take n s)
   pub reached : reach step w (take n s) 0 .pos ≡ pos
 
--- what the loop of `short_splits3` answers
-pub record Took (w : ℕ) (list : SplitList) (r : Taken) : Type 0 where
-  pub stops : Stops 1 w (list .count) (list .pieces) (r .list .count) (r .pos)
-  pub taken : r .list ≡ splitList (reach 1 w (listOf list) 0 .taken)
+-- what the loop of `short_splits3` answers over the first n of s; the lent memory held o₀, and then holds o
+pub record Took (w n : ℕ) (s : List ℕ) (r : Stop) (o₀ o : List ℕ) : Type 0 where
+  pub stops : Stops 1 w n s (r .count) (r .pos)
+  pub stored : o ≡ take (r .count) s ++ drop (r .count) o₀
+
+-- what `short_splits3` of the first n of s₀ answers: the pieces taken stand at the front of o, those left in s, past the ones that are gone
+pub record CutsIn (n w : ℕ) (r : CutAt) (s₀ s o₀ o : List ℕ) : Type 0 where
+  pub split : r .split ≡ shortSplits3 (take n s₀) w .split
+  pub taken : r .taken ≡ length (shortSplits3 (take n s₀) w .taken)
+  pub stored : o ≡ shortSplits3 (take n s₀) w .taken ++ drop (r .taken) o₀
+  pub within : r .gone ≤ n
+  pub left : drop (r .gone) (take n s) ≡ shortSplits3 (take n s₀) w .left
 
 -- what the loop of `short_splits` answers
 pub record Told (w : ℕ) (list : SplitList) (r : Listed) : Type 0 where

@@ -1,89 +1,69 @@
-// The two halves of `short_splits3`.
-use crate::CutParts;
-use crate::SplitList;
-use crate::part;
+// `short_splits3` of pieces that lie in lent memory.
 ghost use mathlib.Core.Path.{_≡_};
 ghost use Prim.Native.Nat.{_≤_};
-ghost use Rattle.splits.specs.Splits.{shortSplits3};
-ghost use Rattle.splits.specs.Lists.{listOf};
-ghost use Rattle.splits.specs.Cuts.{Took, answered};
+ghost use lib.ListN.{length};
+ghost use Rattle.splits.specs.Cuts.{Took, CutsIn};
 
-// Where the loop of `short_splits3` stops: the pieces taken, and the position.
-pub struct Taken {
-    pub list: SplitList,
+// Where the loop of `short_splits3` stops: how many pieces were taken, and the position.
+pub struct Stop {
+    pub count: usize,
     pub pos: u32,
 }
 
-// The loop of `short_splits3`: while position + piece < w, take the piece and add piece + 1.
-pub fn take_pieces(list: SplitList, w: u16) -> Taken
-    requires { ⌜ list .count ≤ 512 ⌝ }
-    ensures { λ r. ⌜ Took w list r ⌝ }
+// A cut: yes or no, how many pieces were taken, and how many are gone from the front of the list.
+pub struct CutAt {
+    pub split: bool,
+    pub taken: usize,
+    pub gone: usize,
+}
+
+// The loop of `short_splits3` over n pieces: while position + piece < w, take the piece and add piece + 1. The pieces taken go to the front of `out`.
+fn take_pieces(pieces: &[u16], n: usize, w: u16, out: &mut [u16]) -> Stop
+    requires { ⌜ (n ≤ length (now pieces)) × (n ≤ length (now out)) ⌝ }
+    ensures { λ r. ⌜ Took w n (now (pieces .entry)) r (now (out .entry)) (now (out .exit)) ⌝ }
 {
-    let n = list.count;
-    let s = list.pieces;
     let end = w as u32;
-    let mut out = [0u16; 512];
     let mut i: usize = 0;
     let mut pos: u32 = 0;
     while i < n {
-        let piece = s[i];
+        let piece = pieces[i];
         let next = pos + piece as u32;
         if end <= next {
-            let taken = SplitList {
-                pieces: out,
-                count: i,
-            };
-            return Taken {
-                list: taken,
-                pos: pos,
-            };
+            return Stop { count: i, pos: pos };
         }
         out[i] = piece;
         pos = next + 1;
         i = i + 1;
     }
-    let taken = SplitList {
-        pieces: out,
-        count: i,
-    };
-    Taken {
-        list: taken,
-        pos: pos,
-    }
+    Stop { count: i, pos: pos }
 }
 
-// The end of `short_splits3`: the first piece not taken loses w − position; it is removed if it is then 0, else it loses 1.
-pub fn close_cut(list: SplitList, w: u16, k: Taken) -> CutParts
-    requires { ⌜ (list .count ≤ 512) × Took w list k ⌝ }
-    ensures { λ r. ⌜ r ≡ answered (shortSplits3 (listOf list) w) ⌝ }
+// `short_splits3` of the first n pieces: the first one not taken loses w − position; it is removed if it is then 0, else it loses 1.
+pub fn cut_pieces(pieces: &mut [u16], n: usize, w: u16, out: &mut [u16]) -> CutAt
+    requires { ⌜ (n ≤ length (now pieces)) × (n ≤ length (now out)) ⌝ }
+    ensures { λ r. ⌜ CutsIn n w r (now (pieces .entry)) (now (pieces .exit)) (now (out .entry)) (now (out .exit)) ⌝ }
 {
-    let taken = k.list;
-    let at = taken.count;
-    if list.count <= at {
-        let left = crate::no_pieces();
-        return CutParts {
-            number: 0,
+    let k = take_pieces(pieces, n, w, out);
+    let at = k.count;
+    if n <= at {
+        return CutAt {
             split: false,
-            taken: taken,
-            left: left,
+            taken: at,
+            gone: at,
         };
     }
-    let s = list.pieces;
-    let short = s[at] as u32 - (w as u32 - k.pos);
+    let short = pieces[at] as u32 - (w as u32 - k.pos);
     if short == 0 {
-        let left = part::rest(list, at + 1);
-        return CutParts {
-            number: 0,
+        return CutAt {
             split: true,
-            taken: taken,
-            left: left,
+            taken: at,
+            gone: at + 1,
         };
     }
-    let left = part::shortened(list, at, (short - 1) as u16);
-    CutParts {
-        number: 0,
+    pieces[at] = (short - 1) as u16;
+    CutAt {
         split: false,
-        taken: taken,
-        left: left,
+        taken: at,
+        gone: at,
     }
 }

@@ -7,7 +7,8 @@ ghost use Rattle.splits.specs.Splits.{named, isNamed};
 ghost use Rattle.splits.specs.Lists.{listOf, splitList};
 ghost use Rattle.splits.specs.Cuts.{refusedCut, cutOf, keptOf, refusedShort, shortOf};
 
-mod cut;
+pub mod cut;
+pub mod lent;
 mod marks;
 mod part;
 mod short;
@@ -114,8 +115,24 @@ pub fn short_splits3(list: SplitList, w: u16) -> CutParts
     if 512 < list.count {
         return refused_cut();
     }
-    let k = cut::take_pieces(list, w);
-    cut::close_cut(list, w, k)
+    let mut pieces = list.pieces;
+    let mut front = [0u16; 512];
+    let k = cut::cut_pieces(&mut pieces, list.count, w, &mut front);
+    let shortened = SplitList {
+        pieces: pieces,
+        count: list.count,
+    };
+    let left = part::rest(shortened, k.gone);
+    let taken = SplitList {
+        pieces: front,
+        count: k.taken,
+    };
+    CutParts {
+        number: 0,
+        split: k.split,
+        taken: taken,
+        left: left,
+    }
 }
 
 // The cut by value, with the list that the caller has afterwards: the list left, or after a refusal the list itself.

@@ -2,7 +2,7 @@ use mathlib.Core.Path.{_≡_, refl, _∙_}
 use Prim.Native.Nat.{ℕ, _+_, _*_, _≤_}
 use native.Mathlib.Omega.{arith}
 use mathlib.Core.List.{List}
-use lib.ListN.{getD, take}
+use lib.ListN.{getD}
 use borrow.Author.Needs.{needs}
 use Rattle.common.specs.Choice.{pick}
 use Rattle.settings.specs.declared.Settings.{Settings}
@@ -68,7 +68,7 @@ returns c =
     let left = c .before .before .before .before .before .before .before .before .before .before .print-left .ensures in
     let text = c .before .before .before .before .before .before .paint-body .ensures in
     let right = c .before .before .print-right .ensures in
-    middle-painted (a .s) (a .text .now) (a .size) (a .b) (take (a .count) (a .pieces .now)) fits (a .out .now) _ _ _ (a .at) (a .stride) _ (omega arith) left text right
+    middle-painted (a .s) (a .text .now) (a .size) (a .b) (a .pieces .now) fits (a .out .now) _ _ _ (a .at) (a .stride) _ (omega arith) left text right
 
 pub paint-middle-spec : {M : Type 1} → statement M
 paint-middle-spec =

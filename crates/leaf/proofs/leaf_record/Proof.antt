@@ -32,14 +32,20 @@ returns-2 c = let e = c .before .before .before .before .before .before .measure
 slice-aggregate-walk-core : tie.Need-slice-aggregate-walk-core
 slice-aggregate-walk-core c = search needs
 
+slice-aggregate-walk-core-2 : tie.Need-slice-aggregate-walk-core-2
+slice-aggregate-walk-core-2 c = search needs
+
 walk-core-requires : tie.Need-walk-core-requires
-walk-core-requires c κs = call-ready _ _ _ (c .before .before .before .before .before .before .before .measure-tree .ensures) (c .before .before .before .before .before .if1 .left) _ _ _ record-no-sheet
+walk-core-requires c κs = (call-ready _ _ _ (c .before .before .before .before .before .before .before .before .measure-tree .ensures) (c .before .before .before .before .before .before .if1 .left) _ _ _ record-no-sheet, search needs)
+
+slice-aggregate-record-of : tie.Need-slice-aggregate-record-of
+slice-aggregate-record-of c = search needs
 
 record-of-requires : tie.Need-record-of-requires
-record-of-requires c κs = search needs
+record-of-requires c κs = let e = c .before .before .before .before .before .before .before .before .before .before .before .before .measure-tree .ensures in let h = c .before .before .before .before .before .before .before .before .before .before .if1 .left in (c .before .before .before .walk-core .ensures (call-ready _ _ _ e h _ _ _ record-no-sheet) .few-is, search needs)
 
 returns-3 : tie.Need-returns-3
-returns-3 c = let e = c .before .before .before .before .before .before .before .before .before .before .measure-tree .ensures in let h = c .before .before .before .before .before .before .before .before .if1 .left in c .record-of .ensures ∙ record-answers _ _ _ e h _ _ record-no-sheet _ _ _ (c .before .before .walk-core .ensures (call-ready _ _ _ e h _ _ _ record-no-sheet)) _ (c .before .before .before .before .before .before .is-large .ensures) (c .before .before .before .before .before .if2 .left)
+returns-3 c = let e = c .before .before .before .before .before .before .before .before .before .before .before .before .before .measure-tree .ensures in let h = c .before .before .before .before .before .before .before .before .before .before .before .if1 .left in c .record-of .ensures ∙ record-answers _ _ _ e h _ _ record-no-sheet _ _ _ _ (c .before .before .before .before .walk-core .ensures (call-ready _ _ _ e h _ _ _ record-no-sheet)) _ (c .before .before .before .before .before .before .before .before .before .is-large .ensures) (c .before .before .before .before .before .before .before .before .if2 .left)
 
 pub leaf-record-spec : {M : Type 1} → statement M
 leaf-record-spec =
@@ -52,6 +58,8 @@ leaf-record-spec =
     no-record-requires-2
     returns-2
     slice-aggregate-walk-core
+    slice-aggregate-walk-core-2
     walk-core-requires
+    slice-aggregate-record-of
     record-of-requires
     returns-3)

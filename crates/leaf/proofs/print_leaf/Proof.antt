@@ -22,17 +22,20 @@ is-large-requires c κs = search needs
 returns-2 : tie.Need-returns-2
 returns-2 c = refusal (print-large _ _ _ _ _ (c .before .before .before .before .before .measure-tree .ensures) (c .before .before .before .if1 .left) _ (c .before .is-large .ensures) (c .if2 .taken))
 
+slice-aggregate-walk-core : tie.Need-slice-aggregate-walk-core
+slice-aggregate-walk-core c = search needs
+
 walk-core-requires : tie.Need-walk-core-requires
-walk-core-requires c κs = call-ready _ _ _ (c .before .before .before .before .before .before .before .measure-tree .ensures) (c .before .before .before .before .before .if1 .left) _ _ _ block-no-sheet
+walk-core-requires c κs = (call-ready _ _ _ (c .before .before .before .before .before .before .before .before .measure-tree .ensures) (c .before .before .before .before .before .before .if1 .left) _ _ _ block-no-sheet, search needs)
 
 written-of-requires : tie.Need-written-of-requires
-written-of-requires c κs = let e = c .before .before .before .before .before .before .before .before .before .before .measure-tree .ensures in let h = c .before .before .before .before .before .before .before .before .if1 .left in found-small _ _ _ _ _ e h _ (c .before .before .before .before .before .before .is-large .ensures) _ _ _ (c .before .before .walk-core .ensures (call-ready _ _ _ e h _ _ _ block-no-sheet))
+written-of-requires c κs = let e = c .before .before .before .before .before .before .before .before .before .before .before .before .measure-tree .ensures in let h = c .before .before .before .before .before .before .before .before .before .before .if1 .left in found-small _ _ _ _ _ e h _ (c .before .before .before .before .before .before .before .before .is-large .ensures) _ _ _ _ (c .before .before .before .walk-core .ensures (call-ready _ _ _ e h _ _ _ block-no-sheet))
 
 same-length : tie.Need-same-length
 same-length c = search needs
 
 returns-3 : tie.Need-returns-3
-returns-3 c = let e = c .before .before .before .before .before .before .before .before .before .before .before .measure-tree .ensures in let h = c .before .before .before .before .before .before .before .before .before .if1 .left in print-answers _ _ _ _ _ e h _ (c .before .before .before .before .before .before .before .is-large .ensures) _ _ _ (c .before .before .before .walk-core .ensures (call-ready _ _ _ e h _ _ _ block-no-sheet)) (c .before .before .before .before .before .before .if2 .left) _ _ (search needs) (c .written-of .ensures)
+returns-3 c = let e = c .before .before .before .before .before .before .before .before .before .before .before .before .before .measure-tree .ensures in let h = c .before .before .before .before .before .before .before .before .before .before .before .if1 .left in print-answers _ _ _ _ _ e h _ (c .before .before .before .before .before .before .before .before .before .is-large .ensures) _ _ _ _ (c .before .before .before .before .walk-core .ensures (call-ready _ _ _ e h _ _ _ block-no-sheet)) (c .before .before .before .before .before .before .before .before .if2 .left) _ _ (search needs) (c .written-of .ensures)
 
 pub print-leaf-spec : {M : Type 1} → statement M
 print-leaf-spec =
@@ -42,6 +45,7 @@ print-leaf-spec =
     returns
     is-large-requires
     returns-2
+    slice-aggregate-walk-core
     walk-core-requires
     written-of-requires
     same-length

@@ -1,18 +1,23 @@
+use mathlib.Core.Path.{_∙_}
 use borrow.Author.Needs.{needs}
 use Rattle.leaf.proofs.record_of.Statement.{statement}
 use Rattle.leaf.proofs.record_of.Tie as tie
-use Rattle.leaf.proofs.record_of.Reads as reads
-use Rattle.leaf.proofs.record_of.Lts as lts
-use Rattle.leaf.proofs.no_record.Reads as no-record-reads
+
+list-at-requires : tie.Need-list-at-requires
+list-at-requires c κs = search needs
+
+list-at-requires-2 : tie.Need-list-at-requires-2
+list-at-requires-2 c κs = search needs
 
 returns : tie.Need-returns
-returns c = rw (c .before .before .before .before .if1 .taken)
+returns c = rw (c .before .before .before .before .if1 .taken, c .before .before .list-at .ensures, c .before .list-at2 .ensures)
 
 no-record-requires : tie.Need-no-record-requires
 no-record-requires c κs = search needs
 
 returns-2 : tie.Need-returns-2
-returns-2 c = rw (c .before .if1 .left, c .no-record .ensures)
+returns-2 c = c .no-record .ensures ∙ rw (c .before .if1 .left)
 
 pub record-of-spec : {M : Type 1} → statement M
-record-of-spec = tie.close (tie.spec returns no-record-requires returns-2)
+record-of-spec =
+    tie.close (tie.spec list-at-requires list-at-requires-2 returns no-record-requires returns-2)

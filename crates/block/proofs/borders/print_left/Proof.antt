@@ -1,6 +1,6 @@
 use mathlib.Core.Path.{_∙_}
 use native.Mathlib.Omega.{arith}
-use lib.ListN.{getD, take}
+use lib.ListN.{getD}
 use borrow.Author.Needs.{needs}
 use Rattle.splits.specs.Splits.{named}
 use Rattle.block.specs.Parts.{leftOf}
@@ -30,7 +30,7 @@ returns c =
     let m = a .t5 .marks in
     record {
       end-is = c .before .before .before .before .before .before .before .stack .ensures .end-is;
-      out-is = c .before .before .cross .ensures ∙ rw (c .before .before .before .before .before .before .before .stack .ensures .out-is) (stack-crossed (named (a .n) (take (a .count) (a .pieces .now))) (a .out .now) (a .at) (a .stride) (a .n) (getD m 13 0) (getD m 2 0) (omega arith));
+      out-is = c .before .before .cross .ensures ∙ rw (c .before .before .before .before .before .before .before .stack .ensures .out-is) (stack-crossed (named (a .n) (a .pieces .now)) (a .out .now) (a .at) (a .stride) (a .n) (getD m 13 0) (getD m 2 0) (omega arith));
     }
 
 pub print-left-spec : {M : Type 1} → statement M

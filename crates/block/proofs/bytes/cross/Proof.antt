@@ -3,7 +3,6 @@ use Prim.Native.Nat.{_-_, _≤_}
 use native.Mathlib.Omega.{arith}
 use mathlib.Core.Logic.{⊎-elim}
 use lib.ListN.{length, take, drop, getD, length-set}
-use lib.Seq.{length-take-le, getD-take}
 use borrow.Author.Needs.{needs}
 use Rattle.splits.specs.Splits.{named}
 use Rattle.splits.proofs.Named.{namedFrom, named-from}
@@ -15,10 +14,10 @@ use Rattle.block.proofs.bytes.cross.Tie as tie
 
 -- the places still to come, named by the pieces from i on, make the whole
 abbrev Inv-loop : tie.InvT-loop
-Inv-loop out₀ at step n pieces count byte pos₀ i₀ out pos i = (i ≤ count) × (pos ≤ n) × (length out ≡ length out₀) × (crossed out₀ at step n (named n (take count pieces)) byte ≡ crossed out at step n (namedFrom n pos i (drop i (take count pieces))) byte)
+Inv-loop out₀ at step n pieces byte pos₀ i₀ out pos i = (i ≤ length pieces) × (pos ≤ n) × (length out ≡ length out₀) × (crossed out₀ at step n (named n pieces) byte ≡ crossed out at step n (namedFrom n pos i (drop i pieces)) byte)
 
 abbrev μ-loop : tie.MeasureT-loop
-μ-loop out₀ at step n pieces count byte pos₀ i₀ out pos i = count - i
+μ-loop out₀ at step n pieces byte pos₀ i₀ out pos i = length pieces - i
 
 loop-holds : tie.Need-loop-holds Inv-loop μ-loop
 loop-holds c = (omega arith, omega arith, refl, rw named-from)
@@ -42,9 +41,8 @@ returns : tie.Need-returns Inv-loop μ-loop
 returns c =
     let a = c .before .before .before .before .before .before .before .args in
     let k = c .before .before .before .before .loop in
-    let l = take (a .count) (a .pieces .now) in
-    let long : length l ≡ a .count = length-take-le _ _ (omega arith) in
-    let here : c .before .wide16 .result ≡ getD l (k .i) 0 = c .before .wide16 .ensures .0 ∙ sym (getD-take (a .count) (a .pieces .now) (k .i) 0 (omega arith)) in
+    let l = a .pieces .now in
+    let here : c .before .wide16 .result ≡ getD l (k .i) 0 = c .before .wide16 .ensures .0 in
     sym (k .inv .3 ∙ cross-stop l (a .at) (a .step) (a .n) (a .byte) (k .out) (k .pos) (k .i) (omega arith) (c .before .wide16 .result) here (omega arith))
 
 add-k : tie.Need-add-k Inv-loop μ-loop
@@ -69,10 +67,9 @@ loop-again : tie.Need-loop-again Inv-loop μ-loop
 loop-again c =
     let a = c .before .before .before .before .before .before .before .before .args in
     let k = c .before .before .before .before .before .loop in
-    let l = take (a .count) (a .pieces .now) in
-    let long : length l ≡ a .count = length-take-le _ _ (omega arith) in
+    let l = a .pieces .now in
     let p = c .before .before .wide16 .result in
-    let here : p ≡ getD l (k .i) 0 = c .before .before .wide16 .ensures .0 ∙ sym (getD-take (a .count) (a .pieces .now) (k .i) 0 (omega arith)) in
+    let here : p ≡ getD l (k .i) 0 = c .before .before .wide16 .ensures .0 in
     ⊎-elim
     (λ w. (omega arith, omega arith, rw (w .1, length-set) (k .inv .2), rw (w .1) (k .inv .3 ∙ cross-in l (a .at) (a .step) (a .n) (a .byte) (k .out) (k .pos) (k .i) (omega arith) p here (omega arith) (w .0 .taken))))
     (λ w. (omega arith, omega arith, rw (w .1) (k .inv .2), rw (w .1) (k .inv .3 ∙ cross-out l (a .at) (a .step) (a .n) (a .byte) (k .out) (k .pos) (k .i) (omega arith) p here (omega arith) (w .0 .left))))
@@ -85,8 +82,7 @@ returns-2 : tie.Need-returns-2 Inv-loop μ-loop
 returns-2 c =
     let a = c .before .before .before .before .args in
     let k = c .before .loop in
-    let l = take (a .count) (a .pieces .now) in
-    let long : length l ≡ a .count = length-take-le _ _ (omega arith) in
+    let l = a .pieces .now in
     sym (k .inv .3 ∙ cross-end l (a .at) (a .step) (a .n) (a .byte) (k .out) (k .pos) (k .i) (omega arith))
 
 pub cross-spec : {M : Type 1} → statement M

@@ -1,12 +1,8 @@
-use borrow.Author.Needs.{needs}
 use mathlib.Core.Path.{sym, _∙_}
 use Rattle.leaf.proofs.Visits.{show-record, show-wanted, show-other, show-sheet}
+use borrow.Author.Needs.{needs}
 use Rattle.leaf.proofs.visit.show.Statement.{statement}
 use Rattle.leaf.proofs.visit.show.Tie as tie
-use Rattle.leaf.proofs.visit.show.Reads as reads
-use Rattle.leaf.proofs.visit.show.Lts as lts
-use Rattle.leaf.proofs.visit.paint_in_sheet.Reads as paint-in-sheet-reads
-use Rattle.leaf.proofs.visit.print_block.Reads as print-block-reads
 
 enum-told : tie.Need-enum-told
 enum-told c = search needs
@@ -21,7 +17,7 @@ enum-told-3 : tie.Need-enum-told-3
 enum-told-3 c = search needs
 
 paint-in-sheet-requires : tie.Need-paint-in-sheet-requires
-paint-in-sheet-requires c κs = let q = c .before .before .before .before .before .before .pre in (q .prints, q .in-sheet (c .before .enum-told3 .given .1))
+paint-in-sheet-requires c κs = let q = c .before .before .before .before .before .before .before .before .before .pre in (q .prints, q .in-sheet (c .before .enum-told3 .given .1))
 
 returns : tie.Need-returns
 returns c = sym (show-record _ _ _ (c .enum-told .given .1))
@@ -30,10 +26,10 @@ same-length : tie.Need-same-length
 same-length c = search needs
 
 returns-2 : tie.Need-returns-2
-returns-2 c = c .before .before .print-block .ensures ∙ sym (show-wanted _ _ _ (c .before .before .before .before .before .before .before .enum-told2 .given .1) (c .before .before .before .before .if1 .taken))
+returns-2 c = c .before .before .print-block .ensures ∙ sym (show-wanted _ _ _ (c .before .before .before .before .before .before .enum-told2 .given .1) (c .before .before .before .before .if1 .taken))
 
 returns-3 : tie.Need-returns-3
-returns-3 c = sym (show-other _ _ _ (c .before .before .before .enum-told2 .given .1) (c .if1 .left))
+returns-3 c = sym (show-other _ _ _ (c .before .before .enum-told2 .given .1) (c .if1 .left))
 
 same-length-2 : tie.Need-same-length-2
 same-length-2 c = search needs

@@ -1,12 +1,8 @@
-use borrow.Author.Needs.{needs}
 use mathlib.Core.Path.{_∙_}
 use Rattle.leaf.proofs.Visits.{kept}
+use borrow.Author.Needs.{needs}
 use Rattle.leaf.proofs.visit.visit.Statement.{statement}
 use Rattle.leaf.proofs.visit.visit.Tie as tie
-use Rattle.leaf.proofs.visit.visit.Reads as reads
-use Rattle.leaf.proofs.visit.visit.Lts as lts
-use Rattle.leaf.proofs.visit.keep.Reads as keep-reads
-use Rattle.leaf.proofs.visit.show.Reads as show-reads
 
 show-requires : tie.Need-show-requires
 show-requires c κs = search needs
@@ -17,10 +13,11 @@ keep-requires c κs = search needs
 same-length : tie.Need-same-length
 same-length c = search needs
 
+same-length-2 : tie.Need-same-length-2
+same-length-2 c = search needs
+
 returns : tie.Need-returns
-returns c =
-    let q = c .before .before .before .before .before .before .before .pre in
-    (c .keep .ensures ∙ kept _ _ _ _ _ (q .whole-h) (q .whole-v), c .before .before .before .show .ensures)
+returns c = (c .before .before .keep .ensures .0, (c .before .before .keep .ensures .1 ∙ kept _ _ _ _ _ _ _ _, c .before .before .before .before .before .before .show .ensures))
 
 pub visit-spec : {M : Type 1} → statement M
-visit-spec = tie.close (tie.spec show-requires keep-requires same-length returns)
+visit-spec = tie.close (tie.spec show-requires keep-requires same-length same-length-2 returns)

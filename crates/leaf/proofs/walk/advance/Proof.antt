@@ -1,21 +1,18 @@
-use Rattle.leaf.proofs.Steps.{few-across, few-down}
+use native.Mathlib.Omega.{arith}
 use Rattle.leaf.proofs.walk.advance.Statement.{statement}
 use Rattle.leaf.proofs.walk.advance.Tie as tie
-use Rattle.leaf.proofs.walk.advance.Reads as reads
-use Rattle.leaf.proofs.walk.advance.Lts as lts
-use Rattle.splits.proofs.append.Reads as append-reads
 
-append-requires : tie.Need-append-requires
-append-requires c κs = let k = c .before .before .before .before .before .before in (few-across _ _ _ _ (c .if1 .taken) (k .pre .0), k .pre .1)
+add-t7 : tie.Need-add-t7
+add-t7 c = omega (arith, rw (c .before .before .if1 .taken) at (c .before .before .before .before .pre))
 
 returns : tie.Need-returns
-returns c = rw (c .before .if1 .taken, c .append .ensures)
+returns c = rw (c .before .before .if1 .taken)
 
-append-requires-2 : tie.Need-append-requires-2
-append-requires-2 c κs = let k = c .before .before .before .before .before .before in (few-down _ _ _ _ (c .if1 .left) (k .pre .0), k .pre .1)
+add-t8 : tie.Need-add-t8
+add-t8 c = omega (arith, rw (c .before .before .if1 .left) at (c .before .before .before .before .pre))
 
 returns-2 : tie.Need-returns-2
-returns-2 c = rw (c .before .if1 .left, c .append2 .ensures)
+returns-2 c = rw (c .before .before .if1 .left)
 
 pub advance-spec : {M : Type 1} → statement M
-advance-spec = tie.close (tie.spec append-requires returns append-requires-2 returns-2)
+advance-spec = tie.close (tie.spec add-t7 returns add-t8 returns-2)

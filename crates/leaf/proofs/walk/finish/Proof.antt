@@ -1,7 +1,5 @@
 use Rattle.leaf.proofs.walk.finish.Statement.{statement}
 use Rattle.leaf.proofs.walk.finish.Tie as tie
-use Rattle.leaf.proofs.walk.finish.Reads as reads
-use Rattle.leaf.proofs.walk.finish.Lts as lts
 
 returns : tie.Need-returns
 returns c = rw (c .if1 .taken)

@@ -1,38 +1,56 @@
 use borrow.Author.Needs.{needs}
-use mathlib.Core.Path.{_∙_}
 use Rattle.leaf.proofs.walk.walk_leaf.Statement.{statement}
 use Rattle.leaf.proofs.walk.walk_leaf.Tie as tie
-use Rattle.leaf.proofs.walk.walk_leaf.Reads as reads
-use Rattle.leaf.proofs.walk.walk_leaf.Lts as lts
-use Rattle.leaf.proofs.visit.visit.Reads as visit-reads
-use Rattle.leaf.proofs.walk.leaf_answer.Reads as leaf-answer-reads
-use Rattle.leaf.proofs.walk.size_at.Reads as size-at-reads
 
-size-at-requires : tie.Need-size-at-requires
-size-at-requires c κs = search needs
-
-size-at-requires-2 : tie.Need-size-at-requires-2
-size-at-requires-2 c κs = search needs
-
-visit-requires : tie.Need-visit-requires
-visit-requires c κs = let k = c .before .before .before .before .before .before .before .before .before in rw (c .before .before .size-at .ensures .0, c .before .size-at2 .ensures .0) (k .pre .visits (rw (c .before .size-at2 .ensures .0) at (c .before .size-at2 .ensures .1)))
-
-leaf-answer-requires : tie.Need-leaf-answer-requires
-leaf-answer-requires c κs = search needs
+leaf-at-requires : tie.Need-leaf-at-requires
+leaf-at-requires c κs = rw (c .before .before .before .before .if1 .taken) at (c .before .before .before .before .before .before .before .before .before .before .before .before .before .before .pre)
 
 same-length : tie.Need-same-length
 same-length c = search needs
 
+same-length-2 : tie.Need-same-length-2
+same-length-2 c = search needs
+
+same-length-3 : tie.Need-same-length-3
+same-length-3 c = search needs
+
+same-length-4 : tie.Need-same-length-4
+same-length-4 c = search needs
+
 returns : tie.Need-returns
-returns c = let z = c .before .before .before .before .before .size-at2 .ensures .0 in record { answer = c .leaf-answer .ensures ∙ rw (c .before .before .before .visit .ensures .0, z); out = c .before .before .before .visit .ensures .1 ∙ rw z }
+returns c = rw (c .before .before .before .before .before .before .before .before .before .before .before .before .before .if1 .taken) (c .before .before .before .before .before .before .before .before .leaf-at .ensures)
+
+leaf-at-requires-2 : tie.Need-leaf-at-requires-2
+leaf-at-requires-2 c κs = rw (c .before .before .before .before .if1 .left) at (c .before .before .before .before .before .before .before .before .before .before .before .before .before .before .pre)
+
+same-length-5 : tie.Need-same-length-5
+same-length-5 c = search needs
+
+same-length-6 : tie.Need-same-length-6
+same-length-6 c = search needs
+
+same-length-7 : tie.Need-same-length-7
+same-length-7 c = search needs
+
+same-length-8 : tie.Need-same-length-8
+same-length-8 c = search needs
+
+returns-2 : tie.Need-returns-2
+returns-2 c = rw (c .before .before .before .before .before .before .before .before .before .before .before .before .before .if1 .left) (c .before .before .before .before .before .before .before .before .leaf-at2 .ensures)
 
 pub walk-leaf-spec : {M : Type 1} → statement M
 walk-leaf-spec =
     tie.close
     (tie.spec
-    size-at-requires
-    size-at-requires-2
-    visit-requires
-    leaf-answer-requires
+    leaf-at-requires
     same-length
-    returns)
+    same-length-2
+    same-length-3
+    same-length-4
+    returns
+    leaf-at-requires-2
+    same-length-5
+    same-length-6
+    same-length-7
+    same-length-8
+    returns-2)
