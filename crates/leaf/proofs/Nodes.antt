@@ -13,6 +13,7 @@ use Rattle.tree.specs.Bytes.{Is, Are, axisOf, frontOf}
 use Rattle.tree.proofs.Fronts.{LeafIs, a-cell, an-empty, leaf-nodes, leaf-at, GroupAt, group-at, inside-shorter}
 use Rattle.sizes.specs.declared.Size.{Size}
 use Rattle.sizes.specs.Sizes.{natural, leafSize, spareOf}
+use Rattle.sizes.specs.Collecting.{sizeAt}
 use Rattle.block.proofs.Every.{Every}
 use Rattle.leaf.specs.declared.context.Ctx.{Ctx}
 use Rattle.leaf.specs.declared.visit.Job.{Job}
@@ -20,7 +21,7 @@ use Rattle.leaf.specs.declared.visit.Found.{Found}
 use Rattle.leaf.specs.declared.walk.Answer.{Answer}
 use Rattle.leaf.specs.Walk.{Context, Placed, Walked, leafWalked, walk}
 use Rattle.leaf.specs.Visiting.{ctxOf, placedOf, keptOf, keeps, keepAll, shows, showAll, Asks}
-use Rattle.leaf.specs.Walking.{sizeIn, Lie, LeafReadyBy, LeavesBy, Walks, Lists, Here, Allotted, AllottedIn, Ready, ReadyIn, walked, grouped, walkedIn}
+use Rattle.leaf.specs.Walking.{Lie, LeafReadyBy, LeavesBy, Walks, Lists, Here, Allotted, AllottedIn, Ready, ReadyIn, walked, grouped, walkedIn}
 use Rattle.leaf.proofs.Outcome.{walk-group}
 use Rattle.leaf.proofs.Steps.{here-of, turned, lie-picks, picks-lie}
 
@@ -70,10 +71,10 @@ module _ (job : Job) (s : List ℕ) (ls : Lists) (a : Bool) (x : Ctx) (al be : L
     leaf : LeafIs (q .tree) part
     leaf = leaf-at (q .tree) s (q .is) v ve h
 
-    size-is : sizeIn (ls .ws) (ls .hs) (x .node) ≡ q .at .size
+    size-is : sizeAt (ls .ws) (ls .hs) (x .node) ≡ q .at .size
     size-is = rw (node-is, here .width, here .height)
 
-    natural-is : sizeIn (ls .nw) (ls .nh) (x .node) ≡ leafSize (job .settings) part
+    natural-is : sizeAt (ls .nw) (ls .nh) (x .node) ≡ leafSize (job .settings) part
     natural-is = rw (node-is, here .natural-width, here .natural-height) (leaf-natural leaf (job .settings))
 
     asked : Asks job len (record { text = part; at = q .at })
@@ -84,7 +85,7 @@ module _ (job : Job) (s : List ℕ) (ls : Lists) (a : Bool) (x : Ctx) (al be : L
     picks = lie-picks a (q .at .horizontal) (q .at .vertical) al be (q .lie)
 
     abbrev size : Size
-    size = sizeIn (ls .ws) (ls .hs) (x .node)
+    size = sizeAt (ls .ws) (ls .hs) (x .node)
 
     leaf-met : placedOf part (x .node) (x .spot) size (take (x .horizontal) (pick a al be)) (take (x .vertical) (pick a be al)) ≡ record { text = part; at = q .at }
     leaf-met = met part (q .at) x size (pick a al be) (pick a be al) (q .ctx) size-is (picks .0) (picks .1)
@@ -104,8 +105,8 @@ module _ (job : Job) (s : List ℕ) (ls : Lists) (a : Bool) (x : Ctx) (al be : L
       visits = λ small. record {
         prints = record {
           text-small = omega (arith, q .short, inside-shorter (q .tree) s (q .is) v ve);
-          width-small = small .0;
-          height-small = small .1;
+          width-small = small .wide;
+          height-small = small .tall;
           few-h = rw (ap (λ (l : Placed). l .at .horizontal) leaf-met) (q .few-h);
           few-v = rw (ap (λ (l : Placed). l .at .vertical) leaf-met) (q .few-v);
           natural = natural-is;

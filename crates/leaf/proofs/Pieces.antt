@@ -1,14 +1,15 @@
 -- A child's pieces, cut off those that lie in lent memory. Assumes nothing.
-use mathlib.Core.Path.{_≡_, refl, sym, _∙_}
+use mathlib.Core.Path.{_≡_, refl, _∙_}
 use mathlib.Core.List.{List, [], _++_, append-nil}
 use Prim.Native.Nat.{ℕ, _+_, _-_, _≤_}
 use native.Mathlib.Omega.{arith}
 use mathlib.Core.Bool.{Bool}
 use borrow.Rule.Slice.PartAt.{part-to-end}
 use lib.ListN.{length, take, drop, length-append, length-drop, drop-of-length-le}
-use lib.Seq.{take-add, take-at, drop-at, take-append-seam, drop-append-add, length-take-le}
+use lib.Seq.{take-at, drop-at, take-append-seam, drop-append-add, length-take-le}
 use Rattle.splits.specs.declared.cut.CutAt.{CutAt}
 use Rattle.splits.specs.Cuts.{CutsIn}
+use Rattle.splits.proofs.Lists.{rest-is}
 use Rattle.leaf.specs.declared.context.Spot.{Spot}
 use Rattle.leaf.specs.declared.walk.Going.{Going}
 use Rattle.leaf.specs.declared.walk.Planned.{Planned}
@@ -24,10 +25,8 @@ part-back xs ys a =
 past : (xs ys : List ℕ) (from gone left : ℕ) → from ≤ length xs → gone ≤ left → left ≤ length ys → take (left - gone) (drop (from + gone) (take from xs ++ ys)) ≡ drop gone (take left ys)
 past xs ys from gone left h k m =
     let e : length (take from xs) ≡ from = length-take-le from xs h in
-    let f : gone + (left - gone) ≡ left = omega arith in
     let x : drop (from + gone) (take from xs ++ ys) ≡ drop gone ys = rw e at (drop-append-add (take from xs) ys gone) in
-    let y : drop gone (take (gone + (left - gone)) ys) ≡ take (left - gone) (drop gone ys) = rw (take-add gone (left - gone) ys) (drop-at (take gone ys) (take (left - gone) (drop gone ys)) gone (length-take-le gone ys (omega arith))) in
-    rw x (sym (rw f at y))
+    rw x (rest-is ys gone left k m)
 
 module _ (g : Going) (b : Spot) (a last : Bool) (e used : ℕ) (k : CutAt) (al s₁ jo o₁ : List ℕ) (c : CutsIn (g .left) e k (drop (g .from) al) s₁ (drop (g .joined) jo) o₁)
     (in-along : g .from + g .left ≤ length al) (in-joined : g .joined + g .left ≤ length jo) (long : length s₁ ≡ length (drop (g .from) al)) where

@@ -13,6 +13,7 @@ use Rattle.splits.specs.Splits.{shortSplits3}
 use Rattle.sizes.specs.declared.Size.{Size}
 use Rattle.sizes.specs.declared.Core.{Core}
 use Rattle.sizes.specs.Sizes.{natural, allot, spareOf, childSize}
+use Rattle.sizes.specs.Collecting.{Small, sizeAt}
 use Rattle.block.proofs.Every.{Every}
 use Rattle.leaf.specs.declared.context.Spot.{Spot}
 use Rattle.leaf.specs.declared.context.Ctx.{Ctx}
@@ -110,10 +111,6 @@ listsOf nw nh ws hs = record { nw = nw; nh = nh; ws = ws; hs = hs }
 abbrev pub coreLists : Core → Lists
 coreLists c = record { nw = c .«natural_widths»; nh = c .«natural_heights»; ws = c .widths; hs = c .heights }
 
--- the size that stands at a node in a list of widths and a list of heights
-abbrev pub sizeIn : List ℕ → List ℕ → ℕ → Size
-sizeIn ws hs i = record { width = getD ws i 0; height = getD hs i 0 }
-
 pub record Here (n z : Size) (node : ℕ) (ls : Lists) : Type 0 where
   pub in-nw : node < length (ls .nw)
   pub in-nh : node < length (ls .nh)
@@ -148,8 +145,8 @@ pub record LeafReady (job : Job) (t : List ℕ) (ls : Lists) (x : Ctx) (h v : Li
   pub room-h : 512 ≤ length h
   pub room-v : 512 ≤ length v
   pub room-kept : 1024 ≤ kept
-  pub visits : (sizeIn (ls .ws) (ls .hs) (x .node) .width < 65536) × (sizeIn (ls .ws) (ls .hs) (x .node) .height < 65536)
-      → Visitable job t (sizeIn (ls .nw) (ls .nh) (x .node)) (sizeIn (ls .ws) (ls .hs) (x .node)) (x .node) (x .spot) (take (x .horizontal) h) (take (x .vertical) v) len
+  pub visits : Small (sizeAt (ls .ws) (ls .hs) (x .node))
+      → Visitable job t (sizeAt (ls .nw) (ls .nh) (x .node)) (sizeAt (ls .ws) (ls .hs) (x .node)) (x .node) (x .spot) (take (x .horizontal) h) (take (x .vertical) v) len
 
 -- what a leaf of that text and size gives back, its width and its height as lists of one piece, and what the lent memory then holds
 pub record Leaves (job : Job) (t : List ℕ) (z : Size) (x : Ctx) (f : Found) (k₀ : List ℕ) (r : Answer) (h₀ h v₀ v k o₀ o : List ℕ) : Type 0 where

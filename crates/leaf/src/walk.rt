@@ -6,7 +6,7 @@ use crate::context::Spot;
 use crate::visit;
 use crate::visit::Found;
 use crate::visit::Job;
-use sizes::Size;
+use sizes::lists::size_at;
 use splits::cut::cut_pieces;
 use splits::lent::copy_pieces;
 ghost use mathlib.Core.Path.{_≡_};
@@ -14,7 +14,8 @@ ghost use Prim.Native.Nat.{suc, _+_, _≤_, _<_};
 ghost use Rattle.tree.specs.Tree.{nodes, nodes*};
 ghost use lib.ListN.{length};
 ghost use Rattle.common.specs.Choice as choice;
-ghost use Rattle.leaf.specs.Walking.{startOf, extentAt, Looks, advanceOf, finishOf, sizeIn, listsOf, LeafReady, LeafReadyBy, Leaves, LeavesBy, Ready, ReadyIn, walked, walkedIn, Walks};
+ghost use Rattle.sizes.specs.Collecting.{sizeAt};
+ghost use Rattle.leaf.specs.Walking.{startOf, extentAt, Looks, advanceOf, finishOf, listsOf, LeafReady, LeafReadyBy, Leaves, LeavesBy, Ready, ReadyIn, walked, walkedIn, Walks};
 
 // What a node gives back: the next node's number, how many pieces its lists have (`CellData`), and the record once it was met.
 pub struct Answer {
@@ -178,20 +179,6 @@ fn finish(g: Going, across: bool) -> Answer
     }
 }
 
-// The size at `node` in two of the lists.
-fn size_at(widths: &[u16], heights: &[u16], node: usize) -> Size
-    requires { ⌜ (node < length (now widths)) × (node < length (now heights)) ⌝ }
-    ensures { λ r. ⌜ r ≡ sizeIn (now (widths .entry)) (now (heights .entry)) node ⌝ }
-    ensures small { λ r. ⌜ (r .width < 65536) × (r .height < 65536) ⌝ }
-{
-    let width = common::wide16(widths[node]);
-    let height = common::wide16(heights[node]);
-    Size {
-        width: width,
-        height: height,
-    }
-}
-
 // `generate_value_cell`: a leaf, with its sizes from the lists; it gives back its width and its height as one piece each.
 fn leaf_at(
     text: &[u8],
@@ -208,7 +195,7 @@ fn leaf_at(
     out: &mut [u8],
 ) -> Answer
     requires { ⌜ LeafReady job (now text) (listsOf (now «natural_widths») (now «natural_heights») (now widths) (now heights)) ctx (now horizontal) (now vertical) (length (now kept)) (length (now out)) ⌝ }
-    ensures { λ r. ⌜ Leaves job (now (text .entry)) (sizeIn (now (widths .entry)) (now (heights .entry)) (ctx .node)) ctx found (now (kept .entry)) r (now (horizontal .entry)) (now (horizontal .exit)) (now (vertical .entry)) (now (vertical .exit)) (now (kept .exit)) (now (out .entry)) (now (out .exit)) ⌝ }
+    ensures { λ r. ⌜ Leaves job (now (text .entry)) (sizeAt (now (widths .entry)) (now (heights .entry)) (ctx .node)) ctx found (now (kept .entry)) r (now (horizontal .entry)) (now (horizontal .exit)) (now (vertical .entry)) (now (vertical .exit)) (now (kept .exit)) (now (out .entry)) (now (out .exit)) ⌝ }
 {
     let node = ctx.node;
     let spot = ctx.spot;
@@ -256,7 +243,7 @@ fn walk_leaf(
     out: &mut [u8],
 ) -> Answer
     requires { ⌜ LeafReadyBy across job (now text) (listsOf (now «natural_widths») (now «natural_heights») (now widths) (now heights)) ctx (now along) (now beside) (length (now kept)) (length (now out)) ⌝ }
-    ensures { λ r. ⌜ LeavesBy across job (now (text .entry)) (sizeIn (now (widths .entry)) (now (heights .entry)) (ctx .node)) ctx found (now (kept .entry)) r (now (along .entry)) (now (along .exit)) (now (beside .entry)) (now (beside .exit)) (now (kept .exit)) (now (out .entry)) (now (out .exit)) ⌝ }
+    ensures { λ r. ⌜ LeavesBy across job (now (text .entry)) (sizeAt (now (widths .entry)) (now (heights .entry)) (ctx .node)) ctx found (now (kept .entry)) r (now (along .entry)) (now (along .exit)) (now (beside .entry)) (now (beside .exit)) (now (kept .exit)) (now (out .entry)) (now (out .exit)) ⌝ }
 {
     if across {
         return leaf_at(

@@ -1,5 +1,5 @@
 -- Lists padded with zeros. Assumes nothing.
-use mathlib.Core.Path.{_≡_, _∙_}
+use mathlib.Core.Path.{_≡_, sym, _∙_}
 use mathlib.Core.List.{List, [], _∷_, _++_, append-assoc}
 use mathlib.Core.Bool.{Bool, true, false}
 use Prim.Native.Nat.{ℕ, zero, suc, _+_, _-_, _≤_, _<_}
@@ -18,9 +18,6 @@ use Rattle.splits.specs.Lists.{listOf, splitList}
 
 pub list-of : (l : List ℕ) → listOf (splitList l) ≡ l
 list-of l = take-append-seam l (replicate (512 - length l) 0)
-
-pub is-padded : (x : SplitList) (l : List ℕ) → x ≡ splitList l → x .pieces ≡ padded (listOf x)
-is-padded x l e = rw (e, list-of l)
 
 -- an array of n pieces, then zeros, with the count n
 pub split-list : (l : List ℕ) {out : List ℕ} {n : ℕ} → out ≡ padded l → length l ≡ n → _≡_ {A = SplitList} (record { pieces = out; count = n }) (splitList l)
@@ -52,38 +49,16 @@ store p l i n e h b = rw (add-one i, take-suc l i 0 h, ← append-assoc p (take 
 
 -- ---- the rest of a list, from `from` on
 
-pub rest-step : (s : List ℕ) (from i : ℕ) {out : List ℕ} → out ≡ padded (take i (drop from s)) → from + i < length s → i < 512
-    → set out i (getD s (from + i) 0) ≡ padded (take (i + 1) (drop from s))
-rest-step s from i o h b =
-    let l : length (drop from s) ≡ length s - from = length-drop from s in
-    rw (o, ← getD-drop from s i 0) (store [] (drop from s) i i (length-take-le i (drop from s) (omega arith)) (omega arith) b)
-
-pub rest-done : (list : SplitList) (from n : ℕ) {out : List ℕ} → out ≡ padded (take n (drop from (list .pieces)))
-    → from + n ≡ list .count → list .count ≤ length (list .pieces) → _≡_ {A = SplitList} (record { pieces = out; count = n }) (splitList (drop from (listOf list)))
-rest-done list from n o e b =
-    let s = list .pieces in
-    let f : drop from (take (from + n) s) ≡ take n (drop from s) = rw (take-add from n s) (drop-at (take from s) (take n (drop from s)) from (length-take-le from s (omega arith))) in
-    let l : length (drop from s) ≡ length s - from = length-drop from s in
-    rw (← e, f) (split-list (take n (drop from s)) o (length-take-le n (drop from s) (omega arith)))
+pub rest-is : (s : List ℕ) (from n : ℕ) → from ≤ n → n ≤ length s → take (n - from) (drop from s) ≡ drop from (take n s)
+rest-is s from n h b =
+    let e : from + (n - from) ≡ n = omega arith in
+    let f : drop from (take (from + (n - from)) s) ≡ take (n - from) (drop from s) = rw (take-add from (n - from) s) (drop-at (take from s) (take (n - from) (drop from s)) from (length-take-le from s (omega arith))) in
+    sym (rw e at f)
 
 -- the first of them stored anew
 pub rest-first : (l : List ℕ) (from v : ℕ) (x : SplitList) → from < length l → x ≡ splitList (drop from l)
     → _≡_ {A = SplitList} (record { pieces = set (x .pieces) 0 v; count = x .count }) (splitList (v ∷ drop (from + 1) l))
 rest-first l from v x h e = rw (e, add-one from, drop-cons l from 0 h)
-
--- ---- two lists joined
-
-module _ (a b : SplitList) (long : length (a .pieces) ≡ 512) (long₂ : length (b .pieces) ≡ 512) (few : a .count + b .count ≤ 512) where
-  joined-length : (i : ℕ) → i ≤ b .count → length (listOf a ++ take i (b .pieces)) ≡ a .count + i
-  joined-length i h = rw (length-append (listOf a) (take i (b .pieces)), length-take-le (a .count) (a .pieces) (omega arith), length-take-le i (b .pieces) (omega arith))
-
-  pub join-step : (i : ℕ) {out : List ℕ} → out ≡ padded (listOf a ++ take i (b .pieces)) → i < b .count
-      → set out (a .count + i) (getD (b .pieces) i 0) ≡ padded (listOf a ++ take (i + 1) (b .pieces))
-  join-step i o h = rw o (store (listOf a) (b .pieces) i (a .count + i) (joined-length i (omega arith)) (omega arith) (omega arith))
-
-  pub join-done : (i : ℕ) {out : List ℕ} → out ≡ padded (listOf a ++ take i (b .pieces)) → i ≡ b .count
-      → _≡_ {A = SplitList} (record { pieces = out; count = a .count + b .count }) (splitList (listOf a ++ listOf b))
-  join-done i o e = split-list (listOf a ++ listOf b) (o ∙ rw e) (joined-length (b .count) (omega arith))
 
 -- ---- what a cut takes and what it leaves is no longer than the list
 

@@ -1,8 +1,7 @@
 // Split lists: the lengths of pieces, handed from sibling to sibling.
 ghost use mathlib.Core.Path.{_≡_};
-ghost use Prim.Native.Nat.{_+_, _≤_};
-ghost use mathlib.Core.List.{[], _∷_, _++_};
-ghost use Rattle.common.specs.Arrays.{padded};
+ghost use Prim.Native.Nat.{_≤_};
+ghost use mathlib.Core.List.{[]};
 ghost use Rattle.splits.specs.Splits.{named, isNamed};
 ghost use Rattle.splits.specs.Lists.{listOf, splitList};
 ghost use Rattle.splits.specs.Cuts.{refusedCut, cutOf, keptOf, refusedShort, shortOf};
@@ -53,18 +52,6 @@ pub struct ShortParts {
     pub left: SplitList,
 }
 
-// A leaf gives back its width and its height as lists of one piece.
-pub fn one_piece(n: u16) -> SplitList
-    ensures { λ r. ⌜ r ≡ splitList (n ∷ []) ⌝ }
-{
-    let mut pieces = [0u16; 512];
-    pieces[0] = n;
-    SplitList {
-        pieces: pieces,
-        count: 1,
-    }
-}
-
 pub fn no_pieces() -> SplitList
     ensures { λ r. ⌜ r ≡ splitList [] ⌝ }
 {
@@ -72,26 +59,6 @@ pub fn no_pieces() -> SplitList
     SplitList {
         pieces: pieces,
         count: 0,
-    }
-}
-
-// The pieces of `a`, then those of `b`: what children give back is joined in the direction of the cut.
-pub fn append(a: SplitList, b: SplitList) -> SplitList
-    requires { ⌜ (a .count + b .count ≤ 512) × (a .pieces ≡ padded (listOf a)) ⌝ }
-    ensures { λ r. ⌜ r ≡ splitList (listOf a ++ listOf b) ⌝ }
-{
-    let n = a.count;
-    let m = b.count;
-    let mut out = a.pieces;
-    let s = b.pieces;
-    let mut i: usize = 0;
-    while i < m {
-        out[n + i] = s[i];
-        i = i + 1;
-    }
-    SplitList {
-        pieces: out,
-        count: n + m,
     }
 }
 

@@ -3,6 +3,8 @@ use crate::lists;
 use crate::tell;
 use splits::CutParts;
 use splits::SplitList;
+use splits::lent::copy_pieces;
+use splits::lent::list_at;
 ghost use Prim.Native.Nat.{_≤_};
 
 // What `short_splits3` is to answer.
@@ -99,11 +101,13 @@ pub fn named(list: SplitList, w: u16, place: u32, want: bool)
     tell::verdict(got == want);
 }
 
-// The list joined to one piece.
+// The list joined to one piece, in lent memory.
 pub fn join(a: u16, b: SplitList, want: SplitList)
     requires { ⌜ b .count ≤ 511 ⌝ }
 {
-    let got = splits::append(splits::one_piece(a), b);
+    let mut room = [a; 512];
+    copy_pieces(&mut room, 1, &b.pieces, b.count);
+    let got = list_at(&room, 0, 1 + b.count);
     tell::text(b"join");
     tell::number(a as u64);
     tell::text(b" and");

@@ -73,19 +73,17 @@ fn is_text_byte(b: u8) -> bool
     true
 }
 
-// Whether every byte of `s` may stand in a text.
+// Whether every byte of `s` may stand in a text. The loop has no way out before the end, so that it can take several bytes at a time.
 fn is_text(s: &[u8]) -> bool
     ensures { λ r. ⌜ r ≡ isText (now (s .entry)) ⌝ }
 {
+    let mut good = true;
     let mut i = 0;
     while i < s.len() {
-        if is_text_byte(s[i]) {
-            i += 1;
-        } else {
-            return false;
-        }
+        good = common::both(good, is_text_byte(s[i]));
+        i += 1;
     }
-    true
+    good
 }
 
 // Reads the element at the start of `s`, which goes to its container's end.
