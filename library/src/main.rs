@@ -1,6 +1,6 @@
 //! The proved library against tabled's `table_pool.rs`: every call, on the oracle's inputs.
 //!
-//!     leg_sheet [SEED [ROUNDS]]
+//!     leg_sheet [SEED [ROUNDS]]      by default seed 1 and 20 rounds of the random inputs
 
 use std::process::ExitCode;
 
@@ -63,8 +63,8 @@ fn compare(seed: u64, rounds: usize) -> (usize, usize) {
 fn main() -> ExitCode {
     let numbers: Result<Vec<u64>, _> = std::env::args().skip(1).map(|word| word.parse()).collect();
     let (seed, rounds) = match numbers.as_deref() {
-        Ok([]) => (1, 1),
-        Ok([seed]) => (*seed, 1),
+        Ok([]) => (1, 20),
+        Ok([seed]) => (*seed, 20),
         Ok([seed, rounds]) => (*seed, *rounds as usize),
         _ => {
             eprintln!("leg_sheet [SEED [ROUNDS]]");
