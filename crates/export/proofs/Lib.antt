@@ -1,2 +1,3 @@
 mod Copies
 mod Few
+mod Parts

@@ -4,7 +4,9 @@ mod fields;
 mod lists;
 
 ghost use mathlib.Core.Path.{_≡_};
-ghost use Rattle.export.specs.Words.{packed};
+ghost use Rattle.export.specs.Words.{packed, partAfter};
+ghost use Rattle.settings.specs.Reading.{priorityOf};
+ghost use Rattle.sizes.specs.Sharing.{shareOf};
 ghost use Rattle.tree.specs.Reading.{answerOf, readTree};
 ghost use Rattle.sizes.specs.Input.{inputOf};
 ghost use Rattle.leaf.specs.Answers.{leafPrintOf};
@@ -176,11 +178,15 @@ pub extern "C" fn leg_share(
     priority: u8,
     index: usize,
     part: &mut u64,
-) -> u64 {
+) -> u64
+    ensures { λ r. ⌜ r ≡ packed (shareOf spare n (priorityOf priority) index .number) 0 ⌝ }
+    ensures shown { λ _. ⌜ now (part .exit) ≡ partAfter spare n (priorityOf priority) index (now (part .entry)) ⌝ }
+{
     let p = fields::priority_of(priority);
     let s = sizes::sharing::share(spare, n, p, index);
-    if s.number == 0 {
-        *part = s.part as u64;
+    if s.number != 0 {
+        return pack(s.number, 0);
     }
-    pack(s.number, 0)
+    *part = s.part as u64;
+    pack(0, 0)
 }
