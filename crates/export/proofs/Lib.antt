@@ -1,3 +1,6 @@
 mod Copies
-mod Few
 mod Parts
+mod Given
+mod Fours
+mod Read
+mod Measured

@@ -9,8 +9,13 @@ use sizes::Core;
 use sizes::Size;
 ghost use mathlib.Core.Path.{_≡_};
 ghost use Prim.Native.Nat.{_*_, _≤_};
+ghost use mathlib.Core.List.{_∷_, []};
 ghost use lib.ListN.{length};
-ghost use Rattle.settings.specs.Reading.{priorityOf};
+ghost use lib.Seq.{sets};
+ghost use Rattle.common.specs.Choice.{pick};
+ghost use Rattle.settings.specs.Reading.{priorityOf, Ranges};
+ghost use Rattle.settings.specs.Defaults.{alignmentNumber, priorityNumber};
+ghost use Rattle.export.specs.Numbers.{settingsNumbers, choiceNumbers, coreNumbers};
 
 // First, Last or List; every number past 1 is List.
 pub fn priority_of(b: u8) -> Priority
@@ -25,13 +30,18 @@ pub fn priority_of(b: u8) -> Priority
     Priority::List
 }
 
-fn widen(b: u8) -> u16
-    ensures { λ r. ⌜ r ≡ b ⌝ }
+fn bit(b: bool) -> u16
+    ensures { λ r. ⌜ r ≡ pick b 1 0 ⌝ }
 {
-    b as u16
+    if b {
+        return 1;
+    }
+    0
 }
 
-fn number_of_priority(p: Priority) -> u16 {
+fn number_of_priority(p: Priority) -> u16
+    ensures { λ r. ⌜ r ≡ priorityNumber p ⌝ }
+{
     match p {
         Priority::First => 0,
         Priority::Last => 1,
@@ -39,7 +49,9 @@ fn number_of_priority(p: Priority) -> u16 {
     }
 }
 
-fn number_of_alignment(a: Alignment) -> u16 {
+fn number_of_alignment(a: Alignment) -> u16
+    ensures { λ r. ⌜ r ≡ alignmentNumber a ⌝ }
+{
     match a {
         Alignment::Start => 0,
         Alignment::Center => 1,
@@ -47,19 +59,18 @@ fn number_of_alignment(a: Alignment) -> u16 {
     }
 }
 
-// The 15 marks.
-fn put_marks(marks: [u8; 15], out: &mut [u16])
-    requires { ⌜ 28 ≤ length (now out) ⌝ }
+// Left, right, top, bottom.
+fn padding(s: Settings) -> [u16; 4]
+    requires { ⌜ Ranges s ⌝ }
+    ensures { λ r. ⌜ r ≡ s .left ∷ s .right ∷ s .top ∷ s .bottom ∷ [] ⌝ }
 {
-    let mut i = 0;
-    while i < 15 {
-        out[i] = widen(marks[i]);
-        i += 1;
-    }
+    [s.left as u16, s.right as u16, s.top as u16, s.bottom as u16]
 }
 
 // Two alignments, the line mode, two priorities.
-fn choices(s: Settings) -> [u16; 5] {
+fn choices(s: Settings) -> [u16; 5]
+    ensures { λ r. ⌜ r ≡ choiceNumbers s ⌝ }
+{
     let horizontal = s.horizontal;
     let vertical = s.vertical;
     let width = s.width_priority;
@@ -67,34 +78,23 @@ fn choices(s: Settings) -> [u16; 5] {
     [
         number_of_alignment(horizontal),
         number_of_alignment(vertical),
-        s.line_mode as u16,
+        bit(s.line_mode),
         number_of_priority(width),
         number_of_priority(height),
     ]
 }
 
-fn padding(s: Settings) -> [u16; 8] {
-    let fills = s.fills;
-    [
-        (s.left % 65536) as u16,
-        (s.right % 65536) as u16,
-        (s.top % 65536) as u16,
-        (s.bottom % 65536) as u16,
-        widen(fills[0]),
-        widen(fills[1]),
-        widen(fills[2]),
-        widen(fills[3]),
-    ]
-}
-
 // The 28 numbers of the settings record.
 pub fn put_settings(s: Settings, out: &mut [u16])
-    requires { ⌜ 28 ≤ length (now out) ⌝ }
+    requires { ⌜ Ranges s × (28 ≤ length (now out)) ⌝ }
+    ensures { λ _. ⌜ now (out .exit) ≡ sets (now (out .entry)) 0 (settingsNumbers s) ⌝ }
 {
     let marks = s.marks;
-    put_marks(marks, out);
+    lists::copy_bytes(&marks, out, 0);
     let sides = padding(s);
     lists::copy(&sides, out, 15);
+    let fills = s.fills;
+    lists::copy_bytes(&fills, out, 19);
     let chosen = choices(s);
     lists::copy(&chosen, out, 23);
 }
@@ -102,6 +102,7 @@ pub fn put_settings(s: Settings, out: &mut [u16])
 // Four numbers a node.
 pub fn put_sizes(core: Core, out: &mut [u16])
     requires { ⌜ (core .count ≤ 512) × (4 * core .count ≤ length (now out)) ⌝ }
+    ensures { λ _. ⌜ now (out .exit) ≡ sets (now (out .entry)) 0 (coreNumbers core) ⌝ }
 {
     let natural_widths = core.natural_widths;
     let natural_heights = core.natural_heights;

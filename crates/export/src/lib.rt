@@ -5,7 +5,8 @@ mod lists;
 
 ghost use mathlib.Core.Path.{_≡_};
 ghost use Rattle.export.specs.Words.{packed, partAfter};
-ghost use Rattle.settings.specs.Reading.{priorityOf};
+ghost use Rattle.export.specs.Numbers.{settingsGiven, sizesGiven};
+ghost use Rattle.settings.specs.Reading.{priorityOf, readSettings};
 ghost use Rattle.sizes.specs.Sharing.{shareOf};
 ghost use Rattle.tree.specs.Reading.{answerOf, readTree};
 ghost use Rattle.sizes.specs.Input.{inputOf};
@@ -20,7 +21,10 @@ fn pack(number: u8, count: usize) -> u64
 }
 
 #[no_mangle]
-pub extern "C" fn leg_read_settings(bytes: &[u8], out: &mut [u16]) -> u64 {
+pub extern "C" fn leg_read_settings(bytes: &[u8], out: &mut [u16]) -> u64
+    ensures { λ r. ⌜ r ≡ settingsGiven (readSettings (now (bytes .entry))) (now (out .entry)) .word ⌝ }
+    ensures shown { λ _. ⌜ now (out .exit) ≡ settingsGiven (readSettings (now (bytes .entry))) (now (out .entry)) .out ⌝ }
+{
     let read = settings::read_settings(bytes);
     if read.number != 0 {
         return pack(read.number, 0);
@@ -42,7 +46,10 @@ pub extern "C" fn leg_read_tree(tree: &[u8]) -> u64
 }
 
 #[no_mangle]
-pub extern "C" fn leg_sizes(settings: &[u8], tree: &[u8], list: &mut [u16]) -> u64 {
+pub extern "C" fn leg_sizes(settings: &[u8], tree: &[u8], list: &mut [u16]) -> u64
+    ensures { λ r. ⌜ r ≡ sizesGiven (inputOf (now (settings .entry)) (now (tree .entry))) (now (list .entry)) .word ⌝ }
+    ensures shown { λ _. ⌜ now (list .exit) ≡ sizesGiven (inputOf (now (settings .entry)) (now (tree .entry))) (now (list .entry)) .out ⌝ }
+{
     let m = sizes::measure_tree(settings, tree);
     if m.number != 0 {
         return pack(m.number, 0);

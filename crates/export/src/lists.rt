@@ -20,6 +20,25 @@ pub fn copy(from: &[u16], out: &mut [u16], at: usize)
     }
 }
 
+fn widen(b: u8) -> u16
+    ensures { λ r. ⌜ r ≡ b ⌝ }
+{
+    b as u16
+}
+
+// The same for bytes.
+pub fn copy_bytes(from: &[u8], out: &mut [u16], at: usize)
+    requires { ⌜ at + length (now from) ≤ length (now out) ⌝ }
+    ensures { λ _. ⌜ now (out .exit) ≡ sets (now (out .entry)) at (now (from .entry)) ⌝ }
+{
+    let n = from.len();
+    let mut i = 0;
+    while i < n {
+        out[at + i] = widen(from[i]);
+        i += 1;
+    }
+}
+
 // The same for numbers of 32 bits.
 fn copy_wide(from: &[u32], out: &mut [u32], at: usize)
     requires { ⌜ at + length (now from) ≤ length (now out) ⌝ }

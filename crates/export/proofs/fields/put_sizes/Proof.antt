@@ -1,19 +1,23 @@
 use borrow.Author.Needs.{needs}
-use mathlib.Core.Path.{_≡_, refl}
+use mathlib.Core.Path.{_≡_, refl, sym, _∙_}
 use Prim.Native.Nat.{ℕ, _*_, _-_, _≤_}
 use native.Mathlib.Omega.{arith}
-use lib.ListN.{length}
+use lib.ListN.{length, drop}
+use lib.Seq.{sets}
+use Rattle.export.specs.Numbers.{fours}
+use Rattle.export.proofs.Fours.{four-step, four-done}
 use Rattle.export.proofs.fields.put_sizes.Statement.{statement}
 use Rattle.export.proofs.fields.put_sizes.Tie as tie
 
 abbrev Inv-loop : tie.InvT-loop
 Inv-loop out₀ natural-widths natural-heights widths heights n i₀ out i = (i ≤ n) × (n ≤ 512) × (4 * n ≤ length out) × (length out ≡ length out₀)
+    × (sets out₀ 0 (fours n natural-widths natural-heights widths heights) ≡ sets out (4 * i) (fours (n - i) (drop i natural-widths) (drop i natural-heights) (drop i widths) (drop i heights)))
 
 abbrev μ-loop : tie.MeasureT-loop
 μ-loop out₀ natural-widths natural-heights widths heights n i₀ out i = n - i
 
 loop-holds : tie.Need-loop-holds Inv-loop μ-loop
-loop-holds c = let p = c .before .before .before .before .before .pre in (omega arith, p .0, p .1, refl)
+loop-holds c = let p = c .before .before .before .before .before .pre in (omega arith, p .0, p .1, refl, let e : c .before .before .before .before .before .args .core .count - 0 ≡ c .before .before .before .before .before .args .core .count = omega arith in rw e)
 
 mul-t11 : tie.Need-mul-t11 Inv-loop μ-loop
 mul-t11 c = search needs
@@ -55,13 +59,24 @@ loop-less : tie.Need-loop-less Inv-loop μ-loop
 loop-less c = search needs
 
 loop-again : tie.Need-loop-again Inv-loop μ-loop
-loop-again c = let v = c .before .before .before .before .before .before .loop .inv in (omega arith, v .1, search needs, search needs)
+loop-again c =
+    let v = c .before .before .before .before .before .before .loop .inv in
+    let k = c .before .before .before .before .before .before .loop in
+    let core = c .before .before .before .before .before .before .before .before .before .before .before .before .args .core in
+    let nw : length (core .«natural_widths») ≡ 512 = search needs in
+    let nh : length (core .«natural_heights») ≡ 512 = search needs in
+    let w : length (core .widths) ≡ 512 = search needs in
+    let h : length (core .heights) ≡ 512 = search needs in
+    (omega arith, v .1, search needs, search needs, v .4 ∙ rw (c .before .before .copy .ensures) (four-step (core .count) (k .i) (k .out) _ _ _ _ (c .before .before .before .before .before .loop-test .taken) (omega arith) (omega arith) (omega arith) (omega arith)))
 
 same-length : tie.Need-same-length Inv-loop μ-loop
 same-length c = search needs
 
 returns : tie.Need-returns Inv-loop μ-loop
-returns c = search needs
+returns c =
+    let k = c .before .loop in
+    let core = c .before .before .before .before .before .before .before .args .core in
+    sym (k .inv .4 ∙ four-done (core .count) (k .i) (k .out) _ _ _ _ (omega arith))
 
 pub put-sizes-spec : {M : Type 1} → statement M
 put-sizes-spec =
