@@ -17,7 +17,7 @@ pub same-refusal : (k : ℕ) {word : ℕ} {o : List ℕ} {g : Gives} → g ≡ r
 unfolding refusal
 same-refusal k e w = rw e (w, refl)
 
-sets-front : (l o : List ℕ) → length l ≤ length o → sets o 0 l ≡ l ++ drop (length l) o
+pub sets-front : (l o : List ℕ) → length l ≤ length o → sets o 0 l ≡ l ++ drop (length l) o
 sets-front l o h = let e : 0 + length l ≡ length l = omega arith in sets-eq l o 0 (omega arith) ∙ rw e
 
 pub same-written : (count : ℕ) (l o p : List ℕ) {word : ℕ} {g : Gives} → g ≡ written count l o → length l ≤ length o → word ≡ packed 0 count → p ≡ sets o 0 l → Same word p g

@@ -4,3 +4,6 @@ mod Given
 mod Fours
 mod Read
 mod Measured
+mod Counts
+mod Split
+mod Record

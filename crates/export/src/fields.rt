@@ -8,14 +8,13 @@ use settings::Settings;
 use sizes::Core;
 use sizes::Size;
 ghost use mathlib.Core.Path.{_≡_};
-ghost use Prim.Native.Nat.{_*_, _≤_};
+ghost use Prim.Native.Nat.{_*_, _≤_, _<_};
 ghost use mathlib.Core.List.{_∷_, []};
 ghost use lib.ListN.{length};
 ghost use lib.Seq.{sets};
-ghost use Rattle.common.specs.Choice.{pick};
 ghost use Rattle.settings.specs.Reading.{priorityOf, Ranges};
 ghost use Rattle.settings.specs.Defaults.{alignmentNumber, priorityNumber};
-ghost use Rattle.export.specs.Numbers.{settingsNumbers, choiceNumbers, coreNumbers};
+ghost use Rattle.export.specs.Numbers.{settingsNumbers, choiceNumbers, coreNumbers, frontNumbers, recordNumbers, Plain};
 
 // First, Last or List; every number past 1 is List.
 pub fn priority_of(b: u8) -> Priority
@@ -28,15 +27,6 @@ pub fn priority_of(b: u8) -> Priority
         return Priority::Last;
     }
     Priority::List
-}
-
-fn bit(b: bool) -> u16
-    ensures { λ r. ⌜ r ≡ pick b 1 0 ⌝ }
-{
-    if b {
-        return 1;
-    }
-    0
 }
 
 fn number_of_priority(p: Priority) -> u16
@@ -78,7 +68,7 @@ fn choices(s: Settings) -> [u16; 5]
     [
         number_of_alignment(horizontal),
         number_of_alignment(vertical),
-        bit(s.line_mode),
+        lists::bit(s.line_mode),
         number_of_priority(width),
         number_of_priority(height),
     ]
@@ -118,25 +108,29 @@ pub fn put_sizes(core: Core, out: &mut [u16])
 }
 
 // Node, width, height, eight flags.
-fn front(node: usize, size: Size, f: Flags) -> [u16; 11] {
+fn front(node: usize, size: Size, f: Flags) -> [u16; 11]
+    requires { ⌜ (node < 65536) × (size .width < 65536) × (size .height < 65536) ⌝ }
+    ensures { λ r. ⌜ r ≡ frontNumbers node size f ⌝ }
+{
     [
-        (node % 65536) as u16,
-        (size.width % 65536) as u16,
-        (size.height % 65536) as u16,
-        f.first_row as u16,
-        f.last_row as u16,
-        f.first_col as u16,
-        f.last_col as u16,
-        f.no_right as u16,
-        f.lean_top as u16,
-        f.top_left as u16,
-        f.top_intersection as u16,
+        node as u16,
+        size.width as u16,
+        size.height as u16,
+        lists::bit(f.first_row),
+        lists::bit(f.last_row),
+        lists::bit(f.first_col),
+        lists::bit(f.last_col),
+        lists::bit(f.no_right),
+        lists::bit(f.lean_top),
+        lists::bit(f.top_left),
+        lists::bit(f.top_intersection),
     ]
 }
 
 // The front, the horizontal list, the vertical list.
 pub fn put_record(r: LeafRecord, out: &mut [u16])
-    requires { ⌜ 1037 ≤ length (now out) ⌝ }
+    requires { ⌜ Plain r × (1037 ≤ length (now out)) ⌝ }
+    ensures { λ _. ⌜ now (out .exit) ≡ sets (now (out .entry)) 0 (recordNumbers r) ⌝ }
 {
     let size = r.size;
     let flags = r.flags;

@@ -1,16 +1,18 @@
 // The public calls as C functions on bytes and numbers; include/leg_sheet.h says what each takes and gives.
 // None of them asks anything of the caller beyond what a C slice is: a pointer to as many items as its length says.
+mod cuts;
 mod fields;
 mod lists;
 
 ghost use mathlib.Core.Path.{_≡_};
 ghost use Rattle.export.specs.Words.{packed, partAfter};
-ghost use Rattle.export.specs.Numbers.{settingsGiven, sizesGiven};
+ghost use Rattle.export.specs.Numbers.{settingsGiven, sizesGiven, recordGiven};
+ghost use Rattle.export.specs.Cuts.{splits3Given, lentGiven, splitsGiven};
 ghost use Rattle.settings.specs.Reading.{priorityOf, readSettings};
 ghost use Rattle.sizes.specs.Sharing.{shareOf};
 ghost use Rattle.tree.specs.Reading.{answerOf, readTree};
 ghost use Rattle.sizes.specs.Input.{inputOf};
-ghost use Rattle.leaf.specs.Answers.{leafPrintOf};
+ghost use Rattle.leaf.specs.Answers.{leafRecordOf, leafPrintOf};
 ghost use Rattle.sheet.specs.Answers.{sheetOf};
 
 // The answer word: the number in the upper half, the count in the lower.
@@ -63,12 +65,10 @@ pub extern "C" fn leg_sizes(settings: &[u8], tree: &[u8], list: &mut [u16]) -> u
 }
 
 #[no_mangle]
-pub extern "C" fn leg_leaf_record(
-    settings: &[u8],
-    tree: &[u8],
-    node: usize,
-    out: &mut [u16],
-) -> u64 {
+pub extern "C" fn leg_leaf_record(settings: &[u8], tree: &[u8], node: usize, out: &mut [u16]) -> u64
+    ensures { λ r. ⌜ r ≡ recordGiven (leafRecordOf (inputOf (now (settings .entry)) (now (tree .entry))) node) (now (out .entry)) .word ⌝ }
+    ensures shown { λ _. ⌜ now (out .exit) ≡ recordGiven (leafRecordOf (inputOf (now (settings .entry)) (now (tree .entry))) node) (now (out .entry)) .out ⌝ }
+{
     let r = leaf::leaf_record(settings, tree, node);
     if r.number != 0 {
         return pack(r.number, 0);
@@ -99,7 +99,10 @@ pub extern "C" fn leg_print_sheet(settings: &[u8], tree: &[u8], out: &mut [u8]) 
 }
 
 #[no_mangle]
-pub extern "C" fn leg_short_splits3(pieces: &[u16], count: usize, w: u16, out: &mut [u16]) -> u64 {
+pub extern "C" fn leg_short_splits3(pieces: &[u16], count: usize, w: u16, out: &mut [u16]) -> u64
+    ensures { λ r. ⌜ r ≡ splits3Given (now (pieces .entry)) count w (now (out .entry)) .word ⌝ }
+    ensures shown { λ _. ⌜ now (out .exit) ≡ splits3Given (now (pieces .entry)) count w (now (out .entry)) .out ⌝ }
+{
     if pieces.len() < 512 {
         return pack(8, 0);
     }
@@ -111,12 +114,7 @@ pub extern "C" fn leg_short_splits3(pieces: &[u16], count: usize, w: u16, out: &
     if cut.number != 0 {
         return pack(cut.number, 0);
     }
-    let split = [cut.split as u16];
-    lists::copy(&split, out, 0);
-    let taken = cut.taken;
-    lists::put_list(taken, out, 1);
-    let left = cut.left;
-    lists::put_list(left, out, 514);
+    cuts::put_cut(cut, out);
     pack(0, 1027)
 }
 
@@ -126,7 +124,11 @@ pub extern "C" fn leg_short_splits3_lent(
     count: usize,
     w: u16,
     out: &mut [u16],
-) -> u64 {
+) -> u64
+    ensures { λ r. ⌜ r ≡ lentGiven (now (pieces .entry)) count w (now (out .entry)) .word ⌝ }
+    ensures left { λ _. ⌜ now (pieces .exit) ≡ lentGiven (now (pieces .entry)) count w (now (out .entry)) .first ⌝ }
+    ensures shown { λ _. ⌜ now (out .exit) ≡ lentGiven (now (pieces .entry)) count w (now (out .entry)) .second ⌝ }
+{
     if pieces.len() < 512 {
         return pack(8, 0);
     }
@@ -142,10 +144,7 @@ pub extern "C" fn leg_short_splits3_lent(
     let left = kept.list;
     let rest = left.pieces;
     lists::copy(&rest, pieces, 0);
-    let first = [answer.split as u16, (left.count % 65536) as u16];
-    lists::copy(&first, out, 0);
-    let taken = answer.taken;
-    lists::put_list(taken, out, 2);
+    cuts::put_kept(kept, out);
     pack(0, 515)
 }
 
@@ -156,7 +155,11 @@ pub extern "C" fn leg_short_splits(
     w: u16,
     positions: &mut [u32],
     left: &mut [u16],
-) -> u64 {
+) -> u64
+    ensures { λ r. ⌜ r ≡ splitsGiven (now (pieces .entry)) count w (now (positions .entry)) (now (left .entry)) .word ⌝ }
+    ensures listed { λ _. ⌜ now (positions .exit) ≡ splitsGiven (now (pieces .entry)) count w (now (positions .entry)) (now (left .entry)) .first ⌝ }
+    ensures rest { λ _. ⌜ now (left .exit) ≡ splitsGiven (now (pieces .entry)) count w (now (positions .entry)) (now (left .entry)) .second ⌝ }
+{
     if pieces.len() < 512 {
         return pack(8, 0);
     }

@@ -6,6 +6,8 @@ ghost use Prim.Native.Nat.{_+_, _≤_, _<_};
 ghost use lib.ListN.{length};
 ghost use lib.Seq.{sets};
 ghost use Rattle.export.specs.Words.{firstPieces};
+ghost use Rattle.export.specs.Numbers.{listNumbers, positionNumbers};
+ghost use Rattle.export.specs.Numbers as numbers;
 
 // The numbers of `out` from `at` on become those of `from`.
 pub fn copy(from: &[u16], out: &mut [u16], at: usize)
@@ -18,6 +20,16 @@ pub fn copy(from: &[u16], out: &mut [u16], at: usize)
         out[at + i] = from[i];
         i += 1;
     }
+}
+
+// Yes is 1, no is 0.
+pub fn bit(b: bool) -> u16
+    ensures { λ r. ⌜ r ≡ numbers.bit b ⌝ }
+{
+    if b {
+        return 1;
+    }
+    0
 }
 
 fn widen(b: u8) -> u16
@@ -71,9 +83,10 @@ pub fn list_of(pieces: &[u16], count: usize) -> SplitList
 
 // A list from `at` on: its count, then its 512 entries.
 pub fn put_list(list: SplitList, out: &mut [u16], at: usize)
-    requires { ⌜ (at < 65536) × (at + 513 ≤ length (now out)) ⌝ }
+    requires { ⌜ (at < 65536) × (list .count ≤ 512) × (at + 513 ≤ length (now out)) ⌝ }
+    ensures { λ _. ⌜ now (out .exit) ≡ sets (now (out .entry)) at (listNumbers list) ⌝ }
 {
-    let count = [(list.count % 65536) as u16];
+    let count = [list.count as u16];
     copy(&count, out, at);
     let pieces = list.pieces;
     copy(&pieces, out, at + 1);
@@ -81,9 +94,10 @@ pub fn put_list(list: SplitList, out: &mut [u16], at: usize)
 
 // Positions in the same form.
 pub fn put_positions(list: Positions, out: &mut [u32])
-    requires { ⌜ 513 ≤ length (now out) ⌝ }
+    requires { ⌜ (list .count ≤ 512) × (513 ≤ length (now out)) ⌝ }
+    ensures { λ _. ⌜ now (out .exit) ≡ sets (now (out .entry)) 0 (positionNumbers list) ⌝ }
 {
-    let count = [(list.count % 65536) as u32];
+    let count = [list.count as u32];
     copy_wide(&count, out, 0);
     let entries = list.entries;
     copy_wide(&entries, out, 1);

@@ -1,12 +1,14 @@
-use mathlib.Core.Path.{_≡_}
-use native.Mathlib.Omega.{arith}
-use lib.ListN.{length}
 use borrow.Author.Needs.{needs}
+use mathlib.Core.Path.{_≡_, refl}
+use native.Mathlib.Omega.{arith}
+use mathlib.Core.List.{[], _∷_}
+use lib.ListN.{length}
+use Rattle.export.proofs.Copies.{stored-on}
 use Rattle.export.proofs.lists.put_list.Statement.{statement}
 use Rattle.export.proofs.lists.put_list.Tie as tie
 
-cast-t7 : tie.Need-cast-t7
-cast-t7 c = search needs
+cast-t6 : tie.Need-cast-t6
+cast-t6 c = search needs
 
 slice-aggregate-copy : tie.Need-slice-aggregate-copy
 slice-aggregate-copy c = search needs
@@ -29,13 +31,15 @@ same-length : tie.Need-same-length
 same-length c = search needs
 
 returns : tie.Need-returns
-returns c = search needs
+returns c =
+    let start = c .before .before .before .before .before .before .before .before .before .before .before .before .before in
+    stored-on (start .args .list .count ∷ []) (start .args .list .pieces) (start .args .out .now) (start .args .at) (c .before .before .before .before .before .before .before .before .copy .ensures) refl (c .before .before .copy2 .ensures)
 
 pub put-list-spec : {M : Type 1} → statement M
 put-list-spec =
     tie.close
     (tie.spec
-    cast-t7
+    cast-t6
     slice-aggregate-copy
     copy-requires
     slice-aggregate-copy-2

@@ -1,12 +1,14 @@
-use mathlib.Core.Path.{_≡_}
-use native.Mathlib.Omega.{arith}
-use lib.ListN.{length}
 use borrow.Author.Needs.{needs}
+use mathlib.Core.Path.{_≡_, refl}
+use native.Mathlib.Omega.{arith}
+use mathlib.Core.List.{[], _∷_}
+use lib.ListN.{length}
+use Rattle.export.proofs.Copies.{stored-on}
 use Rattle.export.proofs.lists.put_positions.Statement.{statement}
 use Rattle.export.proofs.lists.put_positions.Tie as tie
 
-cast-t6 : tie.Need-cast-t6
-cast-t6 c = search needs
+cast-t5 : tie.Need-cast-t5
+cast-t5 c = search needs
 
 slice-aggregate-copy-wide : tie.Need-slice-aggregate-copy-wide
 slice-aggregate-copy-wide c = search needs
@@ -26,13 +28,15 @@ same-length : tie.Need-same-length
 same-length c = search needs
 
 returns : tie.Need-returns
-returns c = search needs
+returns c =
+    let start = c .before .before .before .before .before .before .before .before .before .before .before .before .before in
+    stored-on (start .args .list .count ∷ []) (start .args .list .entries) (start .args .out .now) 0 (c .before .before .before .before .before .before .before .before .copy-wide .ensures) refl (c .before .before .copy-wide2 .ensures)
 
 pub put-positions-spec : {M : Type 1} → statement M
 put-positions-spec =
     tie.close
     (tie.spec
-    cast-t6
+    cast-t5
     slice-aggregate-copy-wide
     copy-wide-requires
     slice-aggregate-copy-wide-2
