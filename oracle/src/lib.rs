@@ -7,6 +7,7 @@ pub mod gen;
 pub mod judge;
 pub mod original;
 pub mod paper;
+pub mod replay;
 pub mod sides;
 
 pub use form::{encode_settings, encode_tree, Answer, Flags, Leaf, Settings, Size, Tree};

@@ -6,11 +6,12 @@ use std::process::ExitCode;
 use oracle::calls::Calls;
 use oracle::compare::Comparison;
 use oracle::sides::{Original, Paper};
-use oracle::{judge, original};
+use oracle::{judge, original, replay};
 
 const USAGE: &str = "oracle sheet             the sheet, as document 01's sheet program prints it
 oracle leaves            every node's sizes, every leaf's record and block
-oracle agree [SEED [N]]  the crate against document 01, on the exhaustive inputs and N rounds of the random ones";
+oracle agree [SEED [N]]  the crate against document 01, on the exhaustive inputs and N rounds of the random ones
+oracle replay SEED       answers of the crate as the input of the program crates/replay";
 
 fn main() -> ExitCode {
     let arguments: Vec<String> = std::env::args().skip(1).collect();
@@ -18,6 +19,13 @@ fn main() -> ExitCode {
     match arguments[..] {
         ["sheet"] => sheet(),
         ["leaves"] => leaves(),
+        ["replay", seed] => match seed.parse() {
+            Ok(seed) => {
+                print(replay::lines(seed).as_bytes());
+                ExitCode::SUCCESS
+            }
+            Err(_) => usage(),
+        },
         ["agree", ref rest @ ..] if rest.len() <= 2 => {
             let mut numbers = rest.iter().map(|word| word.parse::<u64>());
             let seed = numbers.next().unwrap_or(Ok(1));

@@ -1,0 +1,218 @@
+//! The crate's answers as lines for the program `replay`, whose crate `script` says what each line means.
+
+use crate::calls::{Calls, LeafRecord, SplitList};
+use crate::form::{encode_settings, encode_tree, Settings, Tree};
+use crate::gen::{self, Rng};
+use crate::judge;
+use crate::sides::Original;
+
+/// The lines so far, and what the last of them gave.
+#[derive(Default)]
+struct Lines {
+    text: String,
+    settings: Vec<u8>,
+    tree: Vec<u8>,
+    original: Original,
+}
+
+/// Bytes as they stand, all but `\` and those that are not printable, which are `\` and two hex digits.
+fn escaped(bytes: &[u8]) -> String {
+    bytes
+        .iter()
+        .map(|&byte| match byte {
+            b'\\' => format!("\\{byte:02x}"),
+            0x20..=0x7E => char::from(byte).to_string(),
+            _ => format!("\\{byte:02x}"),
+        })
+        .collect()
+}
+
+fn list(list: &SplitList) -> String {
+    if list.count == 0 {
+        return " none".to_string();
+    }
+    list.list().iter().map(|piece| format!(" {piece}")).collect()
+}
+
+fn record(record: &LeafRecord) -> String {
+    let f = &record.flags;
+    let flags = [
+        f.first_row,
+        f.last_row,
+        f.first_col,
+        f.last_col,
+        f.no_right,
+        f.lean_top,
+        f.top_left,
+        f.top_intersection,
+    ];
+    let flags = flags.map(|yes| if yes { 'y' } else { 'n' });
+    let (across, down) = (list(&record.horizontal), list(&record.vertical));
+    let flags: String = flags.iter().collect();
+    format!("{} by {}, across{across}, down{down}, {flags}", record.width, record.height)
+}
+
+impl Lines {
+    fn line(&mut self, kind: char, contents: &str) {
+        self.text += &format!("{kind} {contents}\n");
+    }
+
+    fn title(&mut self, title: &str) {
+        self.line('#', title);
+    }
+
+    /// The bytes that the lines after this one are about.
+    fn given(&mut self, settings: &[u8], tree: &[u8]) {
+        if self.settings != settings {
+            self.settings = settings.to_vec();
+            self.line('=', &escaped(settings));
+        }
+        if self.tree != tree {
+            self.tree = tree.to_vec();
+            self.line(':', &escaped(tree));
+        }
+    }
+
+    /// A tree whose last bytes are `item`, `n` times.
+    fn repeated(&mut self, settings: &[u8], head: &[u8], n: usize, item: &[u8]) {
+        self.given(settings, head);
+        self.line('+', &format!("{n} {}", escaped(item)));
+        self.tree.extend(item.repeat(n));
+    }
+
+    fn readers(&mut self) {
+        let settings = self.original.read_settings(&self.settings);
+        let tree = self.original.read_tree(&self.tree);
+        self.line('r', &settings.number.to_string());
+        self.line('t', &format!("{} {}", tree.number, tree.count));
+    }
+
+    fn sheet(&mut self) {
+        let mut output = vec![0; (judge::SHEET_WIDTH + 1) * judge::SHEET_HEIGHT];
+        let answer = self.original.sheet(&self.settings, &self.tree, &mut output);
+        match answer.number {
+            0 => self.line('$', &escaped(&output[..answer.count])),
+            number => self.line('%', &number.to_string()),
+        }
+    }
+
+    fn leaf(&mut self, node: usize) {
+        self.line('@', &node.to_string());
+        let answer = self.original.leaf_record(&self.settings, &self.tree, node);
+        if answer.number != 0 {
+            return self.line('!', &answer.number.to_string());
+        }
+        let mut output = vec![0; (judge::SHEET_WIDTH + 1) * judge::SHEET_HEIGHT];
+        let block = self.original.leaf(&self.settings, &self.tree, node, &mut output);
+        self.line('?', &record(&answer));
+        self.line('>', &escaped(&output[..block.count]));
+    }
+
+    fn both(&mut self, node: usize) {
+        self.leaf(node);
+        self.sheet();
+    }
+}
+
+/// The same tree with these texts in its Cells, by turns.
+fn with_texts(tree: &Tree, texts: &mut impl Iterator<Item = &'static str>) -> Tree {
+    let mut group = |children: &[Tree]| children.iter().map(|child| with_texts(child, texts)).collect();
+    match tree {
+        Tree::Row(children) => Tree::Row(group(children)),
+        Tree::Column(children) => Tree::Column(group(children)),
+        Tree::Cell(_) => Tree::cell(texts.next().expect("texts without end")),
+    }
+}
+
+/// Every shape of up to four nodes, under two settings by turns: sheets.
+fn shapes(lines: &mut Lines) {
+    lines.title("Every shape of up to 4 nodes");
+    let mut texts = ["a", "bcd", "e\nfg", ""].into_iter().cycle();
+    let shapes: Vec<Tree> = (1..=4).flat_map(|nodes| gen::small_trees(nodes, &["a"])).collect();
+    let late = Settings { padding: [0, 1, 0, 1], horizontal: 2, vertical: 2, height_priority: 0, ..Settings::M };
+    let settings = [Settings::M, late];
+    for (turn, settings) in settings.iter().enumerate() {
+        for shape in shapes.iter().skip(turn).step_by(2) {
+            let tree = encode_tree(&with_texts(shape, &mut texts));
+            lines.given(&encode_settings(settings), &tree);
+            lines.sheet();
+        }
+    }
+}
+
+/// Random tables whose sheet is small: one leaf's record and block, and the sheet.
+fn tables(lines: &mut Lines, rng: &mut Rng, most: usize, count: usize) {
+    lines.title(&format!("Random tables of up to {most} bytes"));
+    let mut left = count;
+    while left > 0 {
+        let (settings, tree) = gen::table(rng);
+        let (settings, bytes) = (encode_settings(&settings), encode_tree(&tree));
+        let fits = judge::read(&settings, &bytes).is_ok_and(|read| read.sheet_bytes() <= most);
+        if tree.nodes() < 4 || !fits {
+            continue;
+        }
+        lines.given(&settings, &bytes);
+        lines.both(rng.pick(&judge::leaves(&tree)));
+        left -= 1;
+    }
+}
+
+/// Random bytes, damaged ones among them: the readers' numbers and the refusals, by the judge.
+fn damaged(lines: &mut Lines, rng: &mut Rng, count: usize) {
+    lines.title("Damaged bytes");
+    let mut left = count;
+    while left > 0 {
+        let case = gen::any_case(rng);
+        let refused = judge::sheet(&case.settings, &case.tree, usize::MAX) != 0;
+        if case.tree.len() > 60 || !refused {
+            continue;
+        }
+        lines.given(&case.settings, &case.tree);
+        lines.readers();
+        lines.both(case.node % 8);
+        left -= 1;
+    }
+}
+
+/// Both sides of each limit.
+fn limits(lines: &mut Lines) {
+    lines.title("Limits");
+    let settings = encode_settings(&Settings::D);
+    let bare = encode_settings(&Settings { padding: [0; 4], ..Settings::M });
+    let items: [(&[u8], usize, &[u8]); 8] = [
+        (&[1, 0x01, 0x8C], 396, b"a"),
+        (&[1, 0x01, 0x8D], 397, b"a"),
+        (&[1, 0x00, 0x9D], 157, b"\n"),
+        (&[1, 0x00, 0x9E], 158, b"\n"),
+        (&[3, 0x00, 0xED], 79, &[1, 0, 0]),
+        (&[3, 0x00, 0xF0], 80, &[1, 0, 0]),
+        (&[2, 0x05, 0xFD], 511, &[1, 0, 0]),
+        (&[2, 0x06, 0x00], 512, &[1, 0, 0]),
+    ];
+    for (head, n, item) in items {
+        lines.repeated(&settings, head, n, item);
+        lines.readers();
+        lines.both(1);
+    }
+    for depth in [16, 17] {
+        let tree = (1..depth).fold(Tree::cell("a"), |inner, _| Tree::Column(vec![inner]));
+        lines.given(&settings, &encode_tree(&tree));
+        lines.readers();
+        lines.both(depth - 1);
+    }
+    lines.given(&bare, &encode_tree(&Tree::cell("")));
+    lines.both(0);
+}
+
+/// All of it, under the 65,536 bytes that the program reads.
+pub fn lines(seed: u64) -> String {
+    let mut lines = Lines::default();
+    let mut rng = Rng::new(seed);
+    shapes(&mut lines);
+    tables(&mut lines, &mut rng, 200, 60);
+    tables(&mut lines, &mut rng, 900, 4);
+    damaged(&mut lines, &mut rng, 60);
+    limits(&mut lines);
+    assert!(lines.text.len() < 65_536, "{} bytes", lines.text.len());
+    lines.text
+}
