@@ -11,7 +11,7 @@ use Rattle.sizes.specs.declared.Core.{Core}
 use Rattle.sizes.specs.declared.Measured.{Measured}
 use Rattle.sizes.specs.Input.{Input, inputOf}
 use Rattle.sizes.specs.Core.{coreOf, measuredOf}
-use Rattle.leaf.proofs.Given.{accepts, refuses, takes}
+use Rattle.sizes.proofs.Given.{accepts, refuses, takes}
 use Rattle.export.specs.Words.{packed}
 use Rattle.export.specs.Numbers.{refusal, offered, coreNumbers, sizesGiven}
 use Rattle.export.proofs.Given.{Same, same-refusal, same-written, offered-short, offered-long}

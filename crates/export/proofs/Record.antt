@@ -21,7 +21,7 @@ use Rattle.block.proofs.Every.{Every, every-map}
 use Rattle.leaf.specs.declared.LeafRecord.{LeafRecord}
 use Rattle.leaf.specs.Walk.{Placed, leaves}
 use Rattle.leaf.specs.Answers.{numbered, tooLarge, noRecord, recordFound, leafRecordOf}
-use Rattle.leaf.proofs.Given.{Takes, takes, refusal-low}
+use Rattle.sizes.proofs.Given.{Takes, takes, refusal-low}
 use Rattle.leaf.proofs.Entries.{Listed, numbered-listed}
 use Rattle.leaf.proofs.Named.{leaves-numbered}
 use Rattle.leaf.proofs.Prints.{numbered-every}
