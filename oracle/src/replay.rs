@@ -1,6 +1,6 @@
 //! The crate's answers as lines for the program `replay`, whose crate `script` says what each line means.
 
-use crate::calls::{Calls, LeafRecord, SplitList};
+use crate::calls::{Calls, LeafRecord, SizeRecord, SplitList};
 use crate::form::{encode_settings, encode_tree, Settings, Tree};
 use crate::gen::{self, Rng};
 use crate::judge;
@@ -108,6 +108,16 @@ impl Lines {
         self.line('>', &escaped(&output[..block.count]));
     }
 
+    fn sizes(&mut self, node: usize) {
+        let mut list = vec![SizeRecord::default(); judge::NODES];
+        let answer = self.original.sizes(&self.settings, &self.tree, &mut list);
+        assert!(answer.number == 0 && node < answer.count, "sizes of node {node}: {answer:?}");
+        let z = &list[node];
+        let (natural, allotted) = ((z.natural_width, z.natural_height), (z.allotted_width, z.allotted_height));
+        self.line('@', &node.to_string());
+        self.line('s', &format!("{} by {}, {} by {}", natural.0, natural.1, allotted.0, allotted.1));
+    }
+
     fn both(&mut self, node: usize) {
         self.leaf(node);
         self.sheet();
@@ -140,7 +150,7 @@ fn shapes(lines: &mut Lines) {
     }
 }
 
-/// Random tables whose sheet is small: one leaf's record and block, and the sheet.
+/// Random tables whose sheet is small: the sizes of three nodes, one leaf's record and block, and the sheet.
 fn tables(lines: &mut Lines, rng: &mut Rng, most: usize, count: usize) {
     lines.title(&format!("Random tables of up to {most} bytes"));
     let mut left = count;
@@ -152,6 +162,9 @@ fn tables(lines: &mut Lines, rng: &mut Rng, most: usize, count: usize) {
             continue;
         }
         lines.given(&settings, &bytes);
+        for _ in 0..3 {
+            lines.sizes(rng.below(tree.nodes()));
+        }
         lines.both(rng.pick(&judge::leaves(&tree)));
         left -= 1;
     }

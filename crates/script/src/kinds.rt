@@ -1,5 +1,6 @@
 // The kinds of lines that ask for something.
 use crate::leaves;
+use crate::measures;
 use crate::printers;
 use crate::readers;
 use lines::contents;
@@ -16,6 +17,7 @@ fn ask(kind: u8, settings: &[u8], tree: &[u8], node: usize, want: &[u8]) {
         b'!' => leaves::refused(settings, tree, node, want),
         b'$' => printers::printed(true, settings, tree, node, want),
         b'%' => printers::refused(true, settings, tree, node, want),
+        b's' => measures::measured(settings, tree, node, want),
         b'r' => readers::settings(settings, want),
         b'f' => readers::fields(settings, want),
         b'd' => readers::defaults(want),

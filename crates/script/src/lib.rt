@@ -6,11 +6,13 @@
 // Lines that ask for something (`kinds`), with what is wanted; # is a title, which is echoed:
 //   ? the leaf's record                 > the leaf's block          ! the refusal of both leaf calls
 //   $ the sheet                         % the sheet printer's refusal
+//   s the node's natural and allotted size
 //   r the settings reader's number      f its 28 fields as bytes    d the default settings' 28 fields as bytes
 //   t the tree reader's number, and the node count
 mod fields;
 mod kinds;
 mod leaves;
+mod measures;
 mod printers;
 mod readers;
 mod text;

@@ -1,9 +1,10 @@
-// A leaf's record as text in a lent buffer. Each call writes from `at` or `from` on, and answers where the next byte stands.
+// A leaf's record, and a node's sizes, as text in a lent buffer. Each call writes from `at` or `from` on, and answers where the next byte stands.
 use block::Flags;
 use leaf::LeafRecord;
 use lines::contents::byte;
 use lines::contents::bytes;
 use sizes::Size;
+use sizes::records::SizeRecord;
 use splits::SplitList;
 
 fn decimal(out: &mut [u8], at: usize, n: usize) -> usize {
@@ -91,4 +92,17 @@ pub fn record(out: &mut [u8], r: LeafRecord) -> usize {
     at = lists(out, at, across, down);
     at = bytes(out, at, b", ");
     bytes(out, at, &letters(f))
+}
+
+fn extent(out: &mut [u8], from: usize, width: u16, height: u16) -> usize {
+    let mut at = decimal(out, from, common::wide16(width));
+    at = bytes(out, at, b" by ");
+    decimal(out, at, common::wide16(height))
+}
+
+// A node's sizes: the natural one, the allotted one.
+pub fn measured(out: &mut [u8], z: SizeRecord) -> usize {
+    let mut at = extent(out, 0, z.natural_width, z.natural_height);
+    at = bytes(out, at, b", ");
+    extent(out, at, z.width, z.height)
 }
