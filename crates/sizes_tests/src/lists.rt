@@ -1,5 +1,5 @@
 // A call of the collector, and its list afterwards: each run of equal entries in one line.
-use crate::tell;
+use lines::tell;
 use sizes::records::SizeRecord;
 
 // What the list is made of before a call.
@@ -25,6 +25,12 @@ fn same(a: SizeRecord, b: SizeRecord) -> bool {
     a.height == b.height
 }
 
+// A number and a space.
+fn next(n: u16) {
+    tell::number(common::wide16(n));
+    tell::text(b" ");
+}
+
 // Entries `first` to `last`: natural width and height, allotted width and height.
 fn show(first: usize, last: usize, z: SizeRecord) {
     tell::number(first);
@@ -33,11 +39,11 @@ fn show(first: usize, last: usize, z: SizeRecord) {
         tell::number(last);
     }
     tell::text(b": ");
-    tell::next(z.natural_width);
-    tell::next(z.natural_height);
-    tell::next(z.width);
+    next(z.natural_width);
+    next(z.natural_height);
+    next(z.width);
     tell::number(common::wide16(z.height));
-    tell::text(b"\n");
+    tell::end();
 }
 
 fn show_runs(list: [SizeRecord; 512]) {
@@ -65,7 +71,7 @@ pub fn lend(settings: &[u8], tree: &[u8], room: usize) {
     tell::number(common::wide(r.answer.number));
     tell::text(b", count ");
     tell::number(r.answer.count);
-    tell::text(b"\n");
+    tell::end();
     let list = r.list;
     show_runs(list);
 }

@@ -3,75 +3,56 @@
 //   # a title, which is echoed     - how the numbers follow from document 01
 //   = the settings' bytes          : the tree's bytes          + N, a space, bytes: these go on the tree N times
 //   l N: the collector is called with the first N entries of a list lent
-mod lines;
 mod lists;
-mod tell;
 
 use libc::STDIN_FILENO;
+use lines::contents;
+use lines::given;
+use lines::given::Given;
+use lines::tell;
 
-// How many bytes of settings and tree were given.
-struct Given {
-    settings: usize,
-    tree: usize,
-}
-
-fn with(settings: usize, tree: usize) -> Given {
-    Given {
-        settings: settings,
-        tree: tree,
-    }
-}
-
-fn give(kind: u8, rest: &[u8], settings: &mut [u8], tree: &mut [u8], g: Given) -> Given {
-    match kind {
-        b'=' => with(lines::bytes(settings, 0, rest), g.tree),
-        b':' => with(g.settings, lines::bytes(tree, 0, rest)),
-        b'+' => with(g.settings, lines::repeated(tree, g.tree, rest)),
-        _ => g,
-    }
-}
-
-fn ask(kind: u8, rest: &[u8], settings: &[u8], tree: &[u8]) {
+// What a line asks for; `rest` is its contents.
+fn ask(kind: u8, settings: &[u8], tree: &[u8], rest: &[u8]) {
     match kind {
         b'#' => tell::line(rest),
-        b'l' => lists::lend(settings, tree, lines::number(rest)),
+        b'l' => lists::lend(settings, tree, contents::number(rest)),
         _ => {}
     }
 }
 
-// Asks with the bytes given, unless there was no room for one more.
-fn ask_with(kind: u8, rest: &[u8], settings: &[u8], tree: &[u8], g: Given) {
-    let s = g.settings;
-    let t = g.tree;
-    if settings.len() <= s {
-        tell::line(b"too many settings bytes");
-        return;
-    }
-    if tree.len() <= t {
-        tell::line(b"too many tree bytes");
-        return;
-    }
-    ask(kind, rest, &settings[0..s], &tree[0..t]);
-}
-
-// One line: what it gives, then what it asks for.
-fn step(line: &[u8], settings: &mut [u8], tree: &mut [u8], before: Given) -> Given {
+// One line: what it gives, then what it asks for with the bytes given.
+fn step(
+    line: &[u8],
+    settings: &mut [u8],
+    tree: &mut [u8],
+    rest: &mut [u8],
+    before: Given,
+) -> Given {
     if line.len() < 2 {
+        tell::failed(b"line without contents");
         return before;
     }
     let kind = line[0];
-    let g = give(kind, &line[2..], settings, tree, before);
-    ask_with(kind, &line[2..], settings, tree, g);
-    g
+    let g = given::give(kind, &line[2..], settings, tree, rest, before);
+    let s = contents::within(g.settings, settings);
+    let t = contents::within(g.tree, tree);
+    let r = contents::within(g.want, rest);
+    ask(kind, &settings[0..s], &tree[0..t], &rest[0..r]);
+    given::left(kind, g)
 }
 
 // All lines of the input, parted at each 0A.
-fn run(input: &[u8], settings: &mut [u8], tree: &mut [u8]) {
-    let mut g = with(0, 0);
+fn run(input: &[u8], settings: &mut [u8], tree: &mut [u8], rest: &mut [u8]) {
+    let mut g = Given {
+        settings: 0,
+        tree: 0,
+        want: 0,
+        node: 0,
+    };
     let mut start: usize = 0;
     while start < input.len() {
-        let end = start + lines::find(&input[start..], 10);
-        g = step(&input[start..end], settings, tree, g);
+        let end = start + contents::find(&input[start..], 10);
+        g = step(&input[start..end], settings, tree, rest, g);
         start = end + 1;
     }
 }
@@ -81,5 +62,6 @@ fn main() {
     let n = io::read_full(STDIN_FILENO, &mut input);
     let mut settings = [0u8; 64];
     let mut tree = [0u8; 33000];
-    run(&input[..n], &mut settings, &mut tree);
+    let mut rest = [0u8; 256];
+    run(&input[..n], &mut settings, &mut tree, &mut rest);
 }

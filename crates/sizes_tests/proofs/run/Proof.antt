@@ -1,15 +1,15 @@
 use borrow.Author.Needs.{needs}
-use mathlib.Core.Path.{_≡_}
 use Prim.Native.Nat.{_-_}
+use mathlib.Core.Path.{_≡_}
 use lib.ListN.{length}
 use Rattle.sizes_tests.proofs.run.Statement.{statement}
 use Rattle.sizes_tests.proofs.run.Tie as tie
 
 abbrev Inv-loop : tie.InvT-loop
-Inv-loop input settings₀ tree₀ g₀ start₀ settings tree g start = (length settings ≡ length settings₀) × (length tree ≡ length tree₀)
+Inv-loop input settings₀ tree₀ rest₀ g₀ start₀ settings tree rest g start = (length settings ≡ length settings₀) × (length tree ≡ length tree₀) × (length rest ≡ length rest₀)
 
 abbrev μ-loop : tie.MeasureT-loop
-μ-loop input settings₀ tree₀ g₀ start₀ settings tree g start = length input - start
+μ-loop input settings₀ tree₀ rest₀ g₀ start₀ settings tree rest g start = length input - start
 
 pub run-spec : {M : Type 1} → statement M
 run-spec =
@@ -17,7 +17,6 @@ run-spec =
     (tie.spec
     Inv-loop
     μ-loop
-    (λ c κs. search needs)
     (λ c. search needs)
     (λ c. search needs)
     (λ c. search needs)
@@ -28,6 +27,7 @@ run-spec =
     (λ c. search needs)
     (λ c. search needs)
     (λ c κs. search needs)
+    (λ c. search needs)
     (λ c. search needs)
     (λ c. search needs)
     (λ c. search needs)
