@@ -13,7 +13,8 @@ use borrow.Author.Tests.{lt-ltb, le-ltb, eq-eqb, ne-eqb}
 use Rattle.common.specs.Choice.{pick}
 use Rattle.splits.proofs.Named.{namedFrom}
 use Rattle.sizes.proofs.Either.{either}
-use Rattle.block.specs.Content.{mem, ruled, column}
+use Rattle.splits.specs.Splits.{isNamed}
+use Rattle.block.specs.Content.{ruled, column}
 use Rattle.block.specs.Paint.{pasted}
 use Rattle.block.specs.Parts.{crossed}
 use Rattle.block.proofs.Stores.{sets-append, sets-sets}
@@ -70,22 +71,22 @@ length-crossed (k ∷ ks) l n b = length-crossed ks (pick (ltb k n) (set l (0 + 
     go true = length-set l (0 + k * 1) b
     go false = refl
 
-getD-crossed : (ks l : List ℕ) (n b i : ℕ) → length l ≡ n → i < n → getD (crossed l 0 1 n ks b) i 0 ≡ pick (mem i ks) b (getD l i 0)
-unfolding crossed mem
+getD-crossed : (ks l : List ℕ) (n b i : ℕ) → length l ≡ n → i < n → getD (crossed l 0 1 n ks b) i 0 ≡ pick (isNamed i ks) b (getD l i 0)
+unfolding crossed isNamed
 getD-crossed [] l n b i h j = refl
 getD-crossed (k ∷ ks) l n b i h j = either n k
     (λ m. rw (crossed-out l 0 1 n b k ks m, getD-crossed ks l n b i h j, ne-eqb i k (λ e. omega arith)))
     (λ m. let e : 0 + k * 1 ≡ k = omega arith in
     rw (crossed-in l 0 1 n b k ks m, e, getD-crossed ks (set l k b) n b i (length-set l k b ∙ h) j)
     (same? i k
-    (λ q. rw (eq-eqb i k q) (rw q (rw (getD-set-same l k b 0 (omega arith)) (twice (mem k ks)))))
+    (λ q. rw (eq-eqb i k q) (rw q (rw (getD-set-same l k b 0 (omega arith)) (twice (isNamed k ks)))))
     (λ q. rw (ne-eqb i k q, getD-set-other l k i b 0 q))))
   where
     twice : (c : Bool) → pick c b b ≡ b
     twice true = refl
     twice false = refl
 
-getD-ruled : (ns : List ℕ) (b c i n j : ℕ) → j < n → getD (ruled ns b c i n) j 0 ≡ pick (mem (i + j) ns) b c
+getD-ruled : (ns : List ℕ) (b c i n j : ℕ) → j < n → getD (ruled ns b c i n) j 0 ≡ pick (isNamed (i + j) ns) b c
 unfolding ruled
 getD-ruled ns b c i zero j h = absurd (omega arith)
 getD-ruled ns b c i (suc n) zero h = rw (add-zero i)

@@ -7,14 +7,10 @@ use mathlib.Core.Option.{some}
 use mathlib.Core.List.{List, [], _∷_, _++_, map, append-nil}
 use lib.ListN.{length, getD, getElem?, replicate, length-append, length-replicate, List·getD-append}
 use lib.Seq.{getD-append-add}
+use Rattle.block.specs.Every.{Every}
 use Rattle.block.specs.Content.{paired}
 
 module _ {ℓ} {A : Type ℓ} where
-  -- P of each element
-  abbrev pub Every : (A → Type 0) → List A → Type 0
-  Every P [] = Unit {0}
-  Every P (x ∷ xs) = P x × Every P xs
-
   pub every-append : (P : A → Type 0) (xs ys : List A) → Every P xs → Every P ys → Every P (xs ++ ys)
   every-append P [] ys h k = k
   every-append P (x ∷ xs) ys h k = (h .0, every-append P xs ys (h .1) k)

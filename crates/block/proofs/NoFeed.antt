@@ -10,11 +10,11 @@ use lib.Dec.{eqb}
 use borrow.Author.Tests.{ne-eqb, eqb-false}
 use Rattle.common.specs.Choice.{pick, both}
 use Rattle.settings.specs.declared.Settings.{Settings}
-use Rattle.splits.specs.Splits.{named}
+use Rattle.splits.specs.Splits.{named, isNamed}
 use Rattle.sizes.specs.declared.Size.{Size}
 use Rattle.sizes.specs.Text.{onto, lines, textWidth, textHeight}
 use Rattle.block.specs.declared.Flags.{Flags}
-use Rattle.block.specs.Content.{paired, column, mem, ruled, feeds}
+use Rattle.block.specs.Content.{paired, column, ruled, feeds}
 use Rattle.block.specs.Block.{Leaf, mark, topLeft, topRight, bottomLeft, edge, before, indent, textLine, body, topLine, middle, bottomLine, framed, block}
 
 -- no byte is 0A
@@ -52,7 +52,7 @@ free-pick false p q = q
 free-ruled : (ns : List ℕ) {b c : ℕ} (i n : ℕ) → b ≢ 10 → c ≢ 10 → Free (ruled ns b c i n)
 unfolding ruled
 free-ruled ns i zero p q = none
-free-ruled ns i (suc n) p q = more (free-pick (mem i ns) p q) (free-ruled ns (suc i) n p q)
+free-ruled ns i (suc n) p q = more (free-pick (isNamed i ns) p q) (free-ruled ns (suc i) n p q)
 
 -- ---- contents
 

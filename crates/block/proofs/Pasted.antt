@@ -8,7 +8,8 @@ use lib.Seq.{sets, length-sets}
 use Rattle.sizes.proofs.Either.{either}
 use Rattle.block.specs.Content.{paired}
 use Rattle.block.specs.Paint.{pasted}
-use Rattle.block.proofs.Every.{Every, Dims, byteAt}
+use Rattle.block.specs.Every.{Every}
+use Rattle.block.proofs.Every.{Dims, byteAt}
 use Rattle.block.proofs.Stores.{sets-append, sets-sets, getD-before, getD-after, getD-in}
 
 pub length-pasted : (x : List (List ℕ)) (o : List ℕ) (at stride : ℕ) → length (pasted o at stride x) ≡ length o

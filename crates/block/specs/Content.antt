@@ -1,9 +1,8 @@
 -- Contents: lines of bytes, side by side, one under another, and joined by 0A.
 use Prim.Native.Nat.{ℕ, zero, suc}
-use mathlib.Core.Bool.{Bool, true, false}
 use mathlib.Core.List.{List, [], _∷_, _++_}
-use lib.Dec.{eqb}
 use Rattle.common.specs.Choice.{pick}
+use Rattle.splits.specs.Splits.{isNamed}
 
 -- two contents side by side, line by line
 unfoldable pub paired : List (List ℕ) → List (List ℕ) → List (List ℕ)
@@ -16,15 +15,11 @@ unfoldable pub column : List ℕ → List (List ℕ)
 column [] = []
 column (b ∷ l) = (b ∷ []) ∷ column l
 
-unfoldable pub mem : ℕ → List ℕ → Bool
-mem n [] = false
-mem n (m ∷ ms) = pick (eqb n m) true (mem n ms)
-
 -- n marks from place i on: b at the places named, c at the others
 unfoldable pub ruled : List ℕ → ℕ → ℕ → ℕ → ℕ → List ℕ
-unfolding mem
+unfolding isNamed
 ruled ns b c i zero = []
-ruled ns b c i (suc n) = pick (mem i ns) b c ∷ ruled ns b c (suc i) n
+ruled ns b c i (suc n) = pick (isNamed i ns) b c ∷ ruled ns b c (suc i) n
 
 -- the lines joined by 0A, none at the end
 unfoldable pub feeds : List (List ℕ) → List ℕ

@@ -1,3 +1,4 @@
+pub mod Every
 pub mod Content
 pub mod Block
 pub mod Paint

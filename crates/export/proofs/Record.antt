@@ -17,7 +17,8 @@ use Rattle.sizes.proofs.Nodes.{subtrees}
 use Rattle.sizes.proofs.Within.{tree-sizes-length}
 use Rattle.sizes.proofs.Limits.{read-limits, sizes-small}
 use Rattle.sizes.proofs.Elems.{elem-in}
-use Rattle.block.proofs.Every.{Every, every-map}
+use Rattle.block.specs.Every.{Every}
+use Rattle.block.proofs.Every.{every-map}
 use Rattle.leaf.specs.declared.LeafRecord.{LeafRecord}
 use Rattle.leaf.specs.Walk.{Placed, leaves}
 use Rattle.leaf.specs.Answers.{numbered, tooLarge, noRecord, recordFound, leafRecordOf}

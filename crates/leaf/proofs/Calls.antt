@@ -15,7 +15,8 @@ use Rattle.sizes.specs.declared.Measured.{Measured}
 use Rattle.sizes.specs.Sizes.{sep, natural, Sizes, sizes, treeSizes}
 use Rattle.sizes.specs.Input.{Input, refused, given, inputOf}
 use Rattle.sizes.specs.Core.{coreOf, measuredOf}
-use Rattle.block.proofs.Every.{Every, every-map}
+use Rattle.block.specs.Every.{Every}
+use Rattle.block.proofs.Every.{every-map}
 use Rattle.leaf.specs.declared.LeafRecord.{LeafRecord}
 use Rattle.leaf.specs.declared.visit.Purpose.{Purpose}
 use Rattle.leaf.specs.declared.visit.Job.{Job}

@@ -10,7 +10,8 @@ use Rattle.tree.specs.Tree.{Axis, Tree, Trees, more, group}
 use Rattle.tree.proofs.Fronts.{LeafIs, a-cell, an-empty}
 use Rattle.sizes.specs.Sizes.{natural, Sizes}
 use Rattle.sizes.proofs.Elems.{elem-front, elem-back, elem-in, elem-none, elem-first, elem-cases}
-use Rattle.block.proofs.Every.{Every, every-append, every-map}
+use Rattle.block.specs.Every.{Every}
+use Rattle.block.proofs.Every.{every-append, every-map}
 use Rattle.leaf.specs.Walk.{Placed}
 use Rattle.leaf.proofs.Numbered.{Numbered, empty, one, over, then}
 

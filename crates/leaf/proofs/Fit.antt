@@ -4,7 +4,8 @@ use Prim.Native.Nat.{ℕ}
 use Rattle.settings.specs.declared.Settings.{Settings}
 use Rattle.tree.specs.Tree.{Tree}
 use Rattle.sizes.specs.Sizes.{Fits, leafSize, natural}
-use Rattle.block.proofs.Every.{Every, every-append}
+use Rattle.block.specs.Every.{Every}
+use Rattle.block.proofs.Every.{every-append}
 use Rattle.leaf.specs.Walk.{Context, Placed, walk, leaves}
 use Rattle.leaf.proofs.Laid.{Laid, one, side, under, laid, root-laid}
 
@@ -15,9 +16,6 @@ pub laid-fit : {s : Settings} {l k h w : ℕ} {fs : List Placed} {x : List (List
 laid-fit (one f fits) = (fits, tt)
 laid-fit (side {fs = fs} {gs = gs} p q) = every-append _ fs gs (laid-fit p) (laid-fit q)
 laid-fit (under {fs = fs} {gs = gs} p q) = every-append _ fs gs (laid-fit p) (laid-fit q)
-
-pub walk-fit : (s : Settings) (t : Tree) (c : Context) → Fits (natural s t) (c .size) → Every (LeafFits s) (walk s t c .leaves)
-walk-fit s t c f = laid-fit (laid s t c f)
 
 pub leaves-fit : (s : Settings) (t : Tree) → Every (LeafFits s) (leaves s t)
 leaves-fit s t = laid-fit (root-laid s t)

@@ -10,7 +10,8 @@ use Rattle.settings.specs.declared.Settings.{Settings}
 use Rattle.tree.specs.Tree.{Tree}
 use Rattle.sizes.specs.Sizes.{Fits, natural}
 use Rattle.block.specs.Paint.{Room}
-use Rattle.block.proofs.Every.{Every, every-append, every-map, every-elem}
+use Rattle.block.specs.Every.{Every}
+use Rattle.block.proofs.Every.{every-append, every-map, every-elem}
 use Rattle.leaf.specs.Walk.{Context, Placed, walk, leaves, W, H}
 use Rattle.leaf.proofs.Laid.{tallAt, wideAt, Laid, one, side, under, laid, root-laid}
 
@@ -34,11 +35,7 @@ laid-inside {s} {l} {k} {w = w} (under {h = h} {g = g} {fs = fs} {gs = gs} p q) 
     (every-map (Inside s l k h w) All (λ f i. omega arith) fs (laid-inside p))
     (every-map (Inside s (l + h) k g w) All (λ f i. omega arith) gs (laid-inside q))
 
--- no leaf's block has a place outside the rectangle of a node above it
-pub walk-inside : (s : Settings) (t : Tree) (c : Context) → Fits (natural s t) (c .size)
-    → Every (Inside s (c .line) (c .column) (tallAt s c) (wideAt s c)) (walk s t c .leaves)
-walk-inside s t c fits = laid-inside (laid s t c fits)
-
+-- no leaf's block has a place outside the sheet's rectangle
 pub leaf-inside : (s : Settings) (t : Tree) (j : ℕ) (g : Placed) → getElem? (leaves s t) j ≡ some g → Inside s 0 0 (H s t) (W s t) g
 leaf-inside s t j g e = every-elem _ (leaves s t) j g (laid-inside (root-laid s t)) e
 

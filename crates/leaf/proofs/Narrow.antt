@@ -14,7 +14,8 @@ use Rattle.sizes.specs.Sizes.{Fits, along, beside, sep, natural, naturals, allo
 use Rattle.sizes.proofs.Fill.{extents, group-beside, child-fits}
 use Rattle.sizes.proofs.Nodes.{subtrees}
 use Rattle.sizes.proofs.Within.{child-within, extents-within}
-use Rattle.block.proofs.Every.{Every, every-append, every-front, every-back, every-map, every-elem}
+use Rattle.block.specs.Every.{Every}
+use Rattle.block.proofs.Every.{every-append, every-front, every-back, every-map, every-elem}
 use Rattle.leaf.specs.Walk.{Context, Placed, Walked, child, leafWalked, joinWalked, alongList, besideList, walk, children, root, leaves}
 use Rattle.leaf.proofs.Laid.{child-size, root-fits}
 use Rattle.leaf.proofs.Entries.{Listed, numbered-listed}

@@ -14,7 +14,7 @@ use Rattle.tree.proofs.Fronts.{LeafIs, a-cell, an-empty, leaf-nodes, leaf-at, G
 use Rattle.sizes.specs.declared.Size.{Size}
 use Rattle.sizes.specs.Sizes.{natural, leafSize, spareOf}
 use Rattle.sizes.specs.Collecting.{sizeAt}
-use Rattle.block.proofs.Every.{Every}
+use Rattle.block.specs.Every.{Every}
 use Rattle.leaf.specs.declared.context.Ctx.{Ctx}
 use Rattle.leaf.specs.declared.visit.Job.{Job}
 use Rattle.leaf.specs.declared.visit.Found.{Found}

@@ -21,7 +21,8 @@ use Rattle.sizes.proofs.Limits.{Small, read-limits, sizes-small}
 use Rattle.block.specs.declared.Flags.{Flags}
 use Rattle.block.specs.Content.{feeds}
 use Rattle.block.specs.Block.{Leaf, block, tall, wide}
-use Rattle.block.proofs.Every.{Every, every-map}
+use Rattle.block.specs.Every.{Every}
+use Rattle.block.proofs.Every.{every-map}
 use Rattle.block.proofs.Dims.{block-dims}
 use Rattle.block.proofs.Feeds.{feeds-length}
 use Rattle.leaf.specs.declared.Written.{Written}

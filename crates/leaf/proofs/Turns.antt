@@ -18,7 +18,8 @@ use Rattle.splits.specs.Splits.{Cut, shortSplits3}
 use Rattle.splits.proofs.Lists.{cut-few}
 use Rattle.sizes.specs.declared.Size.{Size}
 use Rattle.sizes.specs.Sizes.{sep, natural, allot, spareOf, childSize}
-use Rattle.block.proofs.Every.{Every, every-front, every-back}
+use Rattle.block.specs.Every.{Every}
+use Rattle.block.proofs.Every.{every-front, every-back}
 use Rattle.leaf.specs.declared.context.Spot.{Spot}
 use Rattle.leaf.specs.declared.context.Ctx.{Ctx}
 use Rattle.leaf.specs.declared.visit.Job.{Job}

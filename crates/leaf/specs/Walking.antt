@@ -14,7 +14,7 @@ use Rattle.sizes.specs.declared.Size.{Size}
 use Rattle.sizes.specs.declared.Core.{Core}
 use Rattle.sizes.specs.Sizes.{natural, allot, spareOf, childSize}
 use Rattle.sizes.specs.Collecting.{Small, sizeAt}
-use Rattle.block.proofs.Every.{Every}
+use Rattle.block.specs.Every.{Every}
 use Rattle.leaf.specs.declared.context.Spot.{Spot}
 use Rattle.leaf.specs.declared.context.Ctx.{Ctx}
 use Rattle.leaf.specs.declared.visit.Job.{Job}

@@ -9,7 +9,8 @@ use Rattle.tree.specs.Tree.{Tree}
 use Rattle.sizes.proofs.Heights.{natural-height}
 use Rattle.block.specs.Content.{feeds}
 use Rattle.block.specs.Block.{block}
-use Rattle.block.proofs.Every.{Every, every-elem, Dims}
+use Rattle.block.specs.Every.{Every}
+use Rattle.block.proofs.Every.{every-elem, Dims}
 use Rattle.block.proofs.Dims.{block-dims}
 use Rattle.block.proofs.Feeds.{feeds-length, feeds-at}
 use Rattle.leaf.specs.Walk.{Placed, leafOf, leaves, W, H}

@@ -9,7 +9,8 @@ use Rattle.settings.specs.declared.Settings.{Settings}
 use Rattle.tree.specs.Tree.{Tree}
 use Rattle.block.specs.Content.{paired}
 use Rattle.block.specs.Block.{block}
-use Rattle.block.proofs.Every.{Every, every-append, every-front, every-back, every-map, every-and, every-elem, Dims, dims-append, dims-paired, byteAt, byte-left, byte-right, byte-above, byte-below}
+use Rattle.block.specs.Every.{Every}
+use Rattle.block.proofs.Every.{every-append, every-front, every-back, every-map, every-and, every-elem, Dims, dims-append, dims-paired, byteAt, byte-left, byte-right, byte-above, byte-below}
 use Rattle.block.proofs.Dims.{block-dims}
 use Rattle.leaf.specs.Walk.{Placed, leafOf, walk, root, leaves, W, H}
 use Rattle.leaf.proofs.Laid.{tallAt, wideAt, Laid, one, side, under, root-laid}

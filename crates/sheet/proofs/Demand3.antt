@@ -14,7 +14,8 @@ use Rattle.sizes.proofs.Nodes.{sizesAt, sizes-at}
 use Rattle.sizes.proofs.Heights.{leaf-height}
 use Rattle.block.specs.Content.{feeds}
 use Rattle.block.specs.Block.{block, tall, wide}
-use Rattle.block.proofs.Every.{Every, every-elem, Dims, byteAt}
+use Rattle.block.specs.Every.{Every}
+use Rattle.block.proofs.Every.{every-elem, Dims, byteAt}
 use Rattle.leaf.specs.Walk.{Placed, leafOf, leaves, W, H}
 use Rattle.leaf.proofs.Laid.{tallAt, wideAt}
 use Rattle.leaf.proofs.Fit.{LeafFits, leaves-fit}

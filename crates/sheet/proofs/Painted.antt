@@ -9,7 +9,8 @@ use Rattle.tree.specs.Tree.{Tree}
 use Rattle.block.specs.Content.{feeds}
 use Rattle.block.specs.Block.{block}
 use Rattle.block.specs.Paint.{pasted}
-use Rattle.block.proofs.Every.{Every, every-front, every-back}
+use Rattle.block.specs.Every.{Every}
+use Rattle.block.proofs.Every.{every-front, every-back}
 use Rattle.block.proofs.Pasted.{pasted-append, pasted-paired}
 use Rattle.block.proofs.Feeds.{pasted-feeds}
 use Rattle.leaf.specs.Walk.{Placed, leafOf, walk, root, leaves, W, H}

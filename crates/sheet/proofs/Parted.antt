@@ -12,7 +12,7 @@ use Rattle.sizes.specs.Text.{lines}
 use Rattle.sizes.proofs.Either.{either}
 use Rattle.block.specs.Content.{feeds}
 use Rattle.block.specs.Block.{block}
-use Rattle.block.proofs.Every.{Every}
+use Rattle.block.specs.Every.{Every}
 use Rattle.block.proofs.NoFeed.{Plain, NoFeed, no-feed-append, no-feed-paired, block-no-feed, lines-feeds}
 use Rattle.leaf.specs.Walk.{Placed, leafOf, walk, root, leaves}
 use Rattle.leaf.proofs.Laid.{Laid, one, side, under, root-laid}

@@ -16,7 +16,8 @@ use Rattle.sizes.specs.Sizes.{sep, natural, Sizes, treeSizes}
 use Rattle.sizes.specs.Allotting.{allottedWidth}
 use Rattle.sizes.specs.Core.{coreOf}
 use Rattle.sizes.proofs.Within.{tree-sizes-length}
-use Rattle.block.proofs.Every.{Every, every-map}
+use Rattle.block.specs.Every.{Every}
+use Rattle.block.proofs.Every.{every-map}
 use Rattle.leaf.specs.Walk.{Placed, leaves, W, H}
 use Rattle.leaf.proofs.Narrow.{HasWidth, Wide, nodes-wide, leaves-wide}
 use Rattle.leaf.proofs.Calls.{root-first}

@@ -19,7 +19,8 @@ use Rattle.sizes.specs.Input.{Input, refused, given, inputOf}
 use Rattle.sizes.specs.Core.{coreOf, measuredOf}
 use Rattle.block.specs.Paint.{pasted, Room}
 use Rattle.block.specs.Block.{block}
-use Rattle.block.proofs.Every.{Every, every-map, every-and}
+use Rattle.block.specs.Every.{Every}
+use Rattle.block.proofs.Every.{every-map, every-and}
 use Rattle.leaf.specs.declared.Written.{Written}
 use Rattle.leaf.specs.declared.visit.Purpose.{Purpose}
 use Rattle.leaf.specs.declared.visit.Job.{Job}

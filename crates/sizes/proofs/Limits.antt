@@ -48,11 +48,11 @@ mutual
       let n = 3 + lengthAt b in
       omega (arith, is-bytes t b (k .0), are-bytes ts (drop n b) (k .1), length-drop n b, is-whole t b (k .0))
 
-pub tree-bytes : (t : Tree) (b : List ℕ) → Is t b → bytes t + 3 * nodes t ≤ length b
-tree-bytes t b k = omega (arith, is-bytes t b k, is-whole t b k)
+pub bytes-within : (t : Tree) (b : List ℕ) → Is t b → bytes t + 3 * nodes t ≤ length b
+bytes-within t b k = omega (arith, is-bytes t b k, is-whole t b k)
 
 pub read-limits : (s : Settings) {t : Tree} {b : List ℕ} {size n : ℕ} → Ranges s → GotTree b t size n → Limits s t
-read-limits s {t} {b} r g = record { ranges = r; few-bytes = omega (arith, tree-bytes t b (g .is), g .short); few-nodes = g .few }
+read-limits s {t} {b} r g = record { ranges = r; few-bytes = omega (arith, bytes-within t b (g .is), g .short); few-nodes = g .few }
 
 -- ---- 16 bits
 

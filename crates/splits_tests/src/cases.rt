@@ -86,9 +86,7 @@ pub fn short(list: SplitList, w: u16, number: u8, want: SplitList, want_left: Sp
 }
 
 // Whether the squashed positions have `place`.
-pub fn named(list: SplitList, w: u16, place: u32, want: bool)
-    requires { ⌜ list .count ≤ 512 ⌝ }
-{
+pub fn named(list: SplitList, w: u16, place: u32, want: bool) {
     let got = splits::is_named(list, w, place);
     tell::asked(b"named", list, w);
     tell::text(b":");
