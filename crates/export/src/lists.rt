@@ -1,6 +1,8 @@
 // Numbers copied between lent lists and values.
 use splits::Positions;
 use splits::SplitList;
+use splits::lent::copy_pieces;
+use splits::lent::list_at;
 ghost use mathlib.Core.Path.{_≡_};
 ghost use Prim.Native.Nat.{_+_, _≤_, _<_};
 ghost use lib.ListN.{length};
@@ -14,12 +16,7 @@ pub fn copy(from: &[u16], out: &mut [u16], at: usize)
     requires { ⌜ at + length (now from) ≤ length (now out) ⌝ }
     ensures { λ _. ⌜ now (out .exit) ≡ sets (now (out .entry)) at (now (from .entry)) ⌝ }
 {
-    let n = from.len();
-    let mut i = 0;
-    while i < n {
-        out[at + i] = from[i];
-        i += 1;
-    }
+    copy_pieces(out, at, from, from.len());
 }
 
 // Yes is 1, no is 0.
@@ -69,12 +66,8 @@ pub fn list_of(pieces: &[u16], count: usize) -> SplitList
     requires { ⌜ 512 ≤ length (now pieces) ⌝ }
     ensures { λ r. ⌜ r ≡ firstPieces (now (pieces .entry)) count ⌝ }
 {
-    let mut copied = [0u16; 512];
-    let mut i = 0;
-    while i < 512 {
-        copied[i] = pieces[i];
-        i += 1;
-    }
+    let first = list_at(pieces, 0, 512);
+    let copied = first.pieces;
     SplitList {
         pieces: copied,
         count: count,

@@ -1,73 +1,14 @@
-use mathlib.Core.Path.{_≡_, refl, sym, _∙_}
-use Prim.Native.Nat.{ℕ, _+_, _-_, _≤_}
-use native.Mathlib.Nat.{add-zero}
-use native.Mathlib.Omega.{arith}
-use lib.ListN.{length, drop, length-set, drop-of-length-le}
-use lib.Seq.{sets}
 use borrow.Author.Needs.{needs}
-use Rattle.export.proofs.Copies.{copy-step}
+use mathlib.Core.Path.{refl}
+use Rattle.export.proofs.Copies.{copied}
 use Rattle.export.proofs.lists.copy.Statement.{statement}
 use Rattle.export.proofs.lists.copy.Tie as tie
 
--- the stores still to come, from number i on, make the whole
-abbrev Inv-loop : tie.InvT-loop
-Inv-loop from out₀ at n i₀ out i = (i ≤ n) × ((n ≡ length from) × ((length out ≡ length out₀) × (sets out₀ at from ≡ sets out (at + i) (drop i from))))
-
-abbrev μ-loop : tie.MeasureT-loop
-μ-loop from out₀ at n i₀ out i = n - i
-
-loop-holds : tie.Need-loop-holds Inv-loop μ-loop
-loop-holds c = (omega arith, (refl, (refl, rw add-zero)))
-
-mul-out : tie.Need-mul-out Inv-loop μ-loop
-mul-out c = search needs
-
-shared-slice-read-out : tie.Need-shared-slice-read-out Inv-loop μ-loop
-shared-slice-read-out c = search needs
-
-add-out : tie.Need-add-out Inv-loop μ-loop
-add-out c = search needs
-
-mul-out-2 : tie.Need-mul-out-2 Inv-loop μ-loop
-mul-out-2 c = search needs
-
-slice-write-out : tie.Need-slice-write-out Inv-loop μ-loop
-slice-write-out c = search needs
-
-add-i : tie.Need-add-i Inv-loop μ-loop
-add-i c = search needs
-
-loop-less : tie.Need-loop-less Inv-loop μ-loop
-loop-less c = search needs
-
-loop-again : tie.Need-loop-again Inv-loop μ-loop
-loop-again c =
-    let a = c .before .before .before .args in
-    let k = c .before .before .loop in
-    (omega arith, (refl, (rw length-set (k .inv .1 .1 .0), k .inv .1 .1 .1 ∙ copy-step (k .out) (a .from .now) (a .at) (k .i) (omega arith))))
-
-same-length : tie.Need-same-length Inv-loop μ-loop
-same-length c = search needs
-
-returns : tie.Need-returns Inv-loop μ-loop
+returns : tie.Need-returns
 returns c =
-    let k = c .before .loop in
-    sym (rw (drop-of-length-le (c .before .before .args .from .now) {i = k .i} (omega arith)) at (k .inv .1 .1 .1))
+    let start = c .before .before .before .before .before .before in
+    let a = start .args in
+    copied (a .from .now) (a .out .now) (a .at) _ (start .pre) refl (c .before .before .copy-pieces .ensures)
 
 pub copy-spec : {M : Type 1} → statement M
-copy-spec =
-    tie.close
-    (tie.spec
-    Inv-loop
-    μ-loop
-    loop-holds
-    mul-out
-    shared-slice-read-out
-    add-out
-    mul-out-2
-    slice-write-out
-    add-i
-    loop-less
-    loop-again
-    same-length
-    returns)
+copy-spec = tie.close (tie.spec (λ c κs. search needs) (λ c. search needs) returns)

@@ -1,58 +1,34 @@
-use mathlib.Core.Path.{_≡_, refl, sym, _∙_}
-use Prim.Native.Nat.{ℕ, _+_, _-_, _≤_}
-use native.Mathlib.Nat.{add-zero}
-use native.Mathlib.Omega.{arith}
-use lib.ListN.{length, drop, length-set, drop-of-length-le}
-use lib.Seq.{sets}
 use borrow.Author.Needs.{needs}
-use Rattle.export.proofs.Copies.{copy-step}
+use mathlib.Core.Path.{_≡_, refl}
+use Prim.Native.Nat.{_-_, _≤_}
+use native.Mathlib.Numerals.{add-one}
+use native.Mathlib.Omega.{arith}
+use lib.ListN.{length}
+use lib.Seq.{paste, paste-zero, paste-suc}
+use Rattle.export.proofs.Copies.{copied}
 use Rattle.export.proofs.lists.copy_wide.Statement.{statement}
 use Rattle.export.proofs.lists.copy_wide.Tie as tie
 
--- the stores still to come, from number i on, make the whole
 abbrev Inv-loop : tie.InvT-loop
-Inv-loop from out₀ at n i₀ out i = (i ≤ n) × ((n ≡ length from) × ((length out ≡ length out₀) × (sets out₀ at from ≡ sets out (at + i) (drop i from))))
+Inv-loop from out₀ at n i₀ out i = (i ≤ n) × (n ≡ length from) × (length out ≡ length out₀) × (out ≡ paste out₀ at from i)
 
 abbrev μ-loop : tie.MeasureT-loop
 μ-loop from out₀ at n i₀ out i = n - i
 
 loop-holds : tie.Need-loop-holds Inv-loop μ-loop
-loop-holds c = (omega arith, (refl, (refl, rw add-zero)))
-
-mul-out : tie.Need-mul-out Inv-loop μ-loop
-mul-out c = search needs
-
-shared-slice-read-out : tie.Need-shared-slice-read-out Inv-loop μ-loop
-shared-slice-read-out c = search needs
-
-add-out : tie.Need-add-out Inv-loop μ-loop
-add-out c = search needs
-
-mul-out-2 : tie.Need-mul-out-2 Inv-loop μ-loop
-mul-out-2 c = search needs
-
-slice-write-out : tie.Need-slice-write-out Inv-loop μ-loop
-slice-write-out c = search needs
-
-add-i : tie.Need-add-i Inv-loop μ-loop
-add-i c = search needs
-
-loop-less : tie.Need-loop-less Inv-loop μ-loop
-loop-less c = search needs
+loop-holds c = let a = c .args in (omega arith, refl, refl, paste-zero (a .out .now) (a .at) (a .from .now))
 
 loop-again : tie.Need-loop-again Inv-loop μ-loop
 loop-again c =
     let a = c .before .before .before .args in
     let k = c .before .before .loop in
-    (omega arith, (refl, (rw length-set (k .inv .1 .1 .0), k .inv .1 .1 .1 ∙ copy-step (k .out) (a .from .now) (a .at) (k .i) (omega arith))))
-
-same-length : tie.Need-same-length Inv-loop μ-loop
-same-length c = search needs
+    (omega arith, k .inv .1, search needs, rw (k .inv .3, add-one (k .i)) (paste-suc (a .out .now) (a .at) (a .from .now) (k .i) 0 (omega arith) (omega arith)))
 
 returns : tie.Need-returns Inv-loop μ-loop
 returns c =
+    let a = c .before .before .args in
     let k = c .before .loop in
-    sym (rw (drop-of-length-le (c .before .before .args .from .now) {i = k .i} (omega arith)) at (k .inv .1 .1 .1))
+    copied (a .from .now) (a .out .now) (a .at) (k .i) (omega arith) (omega arith) (k .inv .3)
 
 pub copy-wide-spec : {M : Type 1} → statement M
 copy-wide-spec =
@@ -61,13 +37,13 @@ copy-wide-spec =
     Inv-loop
     μ-loop
     loop-holds
-    mul-out
-    shared-slice-read-out
-    add-out
-    mul-out-2
-    slice-write-out
-    add-i
-    loop-less
+    (λ c. search needs)
+    (λ c. search needs)
+    (λ c. search needs)
+    (λ c. search needs)
+    (λ c. search needs)
+    (λ c. search needs)
+    (λ c. search needs)
     loop-again
-    same-length
+    (λ c. search needs)
     returns)
