@@ -1,16 +1,14 @@
 use borrow.Author.Needs.{needs}
-use mathlib.Core.Path.{_≡_, refl}
-use Prim.Native.Nat.{_-_, _≤_}
-use native.Mathlib.Numerals.{add-one}
+use mathlib.Core.Path.{refl}
+use Prim.Native.Nat.{_-_}
 use native.Mathlib.Omega.{arith}
-use lib.ListN.{length}
-use lib.Seq.{paste, paste-zero, paste-suc}
-use Rattle.export.proofs.Copies.{copied}
+use lib.Seq.{paste-zero}
+use Rattle.export.proofs.Copies.{Copying, one-more, copied}
 use Rattle.export.proofs.lists.copy_bytes.Statement.{statement}
 use Rattle.export.proofs.lists.copy_bytes.Tie as tie
 
 abbrev Inv-loop : tie.InvT-loop
-Inv-loop from out₀ at n i₀ out i = (i ≤ n) × (n ≡ length from) × (length out ≡ length out₀) × (out ≡ paste out₀ at from i)
+Inv-loop from out₀ at n i₀ out i = Copying from out₀ at n out i
 
 abbrev μ-loop : tie.MeasureT-loop
 μ-loop from out₀ at n i₀ out i = n - i
@@ -22,7 +20,7 @@ loop-again : tie.Need-loop-again Inv-loop μ-loop
 loop-again c =
     let a = c .before .before .before .before .before .before .args in
     let k = c .before .before .before .loop in
-    (omega arith, k .inv .1, search needs, rw (c .widen .ensures, k .inv .3, add-one (k .i)) (paste-suc (a .out .now) (a .at) (a .from .now) (k .i) 0 (omega arith) (omega arith)))
+    (omega arith, k .inv .1, search needs, one-more (a .from .now) (a .out .now) (a .at) (k .i) (omega arith) (omega arith) (k .inv .3) (c .widen .ensures))
 
 returns : tie.Need-returns Inv-loop μ-loop
 returns c =
