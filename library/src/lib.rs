@@ -1,9 +1,6 @@
-//! The proved library as safe Rust functions, and as a side of the oracle's comparison.
+//! The proved library as safe Rust functions.
 
 mod raw;
-mod side;
-
-pub use side::Library;
 
 /// What a call answers: the number of document 01's table, and a count (nodes, numbers or bytes written); 0 beside a refusal.
 #[derive(Debug, Clone, Copy, PartialEq, Eq)]

@@ -104,4 +104,12 @@ fn other_settings() {
 fn long_lists() {
     let cut = original::cut3(&[0; 513], 0);
     assert_eq!((judge::cut(513), cut.yes, cut.taken, cut.left), (10, true, vec![], vec![0; 512]));
+
+    // `short_splits` says neither yes nor no, and takes no piece away at width 0.
+    let cut = original::cut(&[0; 513], 0);
+    assert_eq!((cut.positions, cut.left), (vec![], vec![0; 513]));
+
+    // At width 1 it takes all.
+    let cut = original::cut(&[0; 513], 1);
+    assert_eq!((cut.positions, cut.left), (vec![0; 513], vec![]));
 }

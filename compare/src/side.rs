@@ -1,11 +1,13 @@
-//! The library as a side of the comparison. Lists and records are lent to it full of zeros, so that anything that a refusal writes shows.
+//! The library as a side of the comparison. Its lists are lent full of canaries, with some numbers more than needed and with one less (`lent`), so that
+//! whatever a refusal writes, or a result past its end, shows.
 
+use leg_sheet::{Answer, CUT, LENT_CUT, PIECES, RECORD, SETTINGS};
 use oracle::calls::{
     Calls, Counted, CutParts, CutPositions, LeafRecord, ReadSettings, Shared, SizeRecord, SplitList,
 };
 use oracle::form::{Flags, Settings};
 
-use crate::{Answer, CUT, LENT_CUT, PIECES, RECORD, SETTINGS};
+use crate::lent::{self, canary, sound, Lent, MORE};
 
 #[derive(Debug, Default)]
 pub struct Library;
@@ -25,20 +27,13 @@ fn list(words: &[u16]) -> SplitList {
     }
 }
 
-/// A refusal answers no count of numbers; a result answers all of them.
-fn whole(answer: Answer, length: usize) {
-    let expected = if answer.number == 0 { length } else { 0 };
-    assert_eq!(answer.count, expected, "the count of {answer:?}");
-}
-
 impl Calls for Library {
     fn read_settings(&mut self, settings: &[u8]) -> ReadSettings {
-        let mut out = [0; SETTINGS];
-        let answer = crate::read_settings(settings, &mut out);
-        whole(answer, SETTINGS);
-        let out = out.map(|number| u8::try_from(number).expect("a byte of the record"));
+        let (number, out) = lent::record(SETTINGS, |out| leg_sheet::read_settings(settings, out));
+        let byte = |&number: &u16| u8::try_from(number).expect("a byte of the record");
+        let out: Vec<u8> = out.iter().map(byte).collect();
         ReadSettings {
-            number: answer.number,
+            number,
             settings: Settings {
                 marks: out[..15].try_into().expect("15 marks"),
                 padding: out[15..19].try_into().expect("4 sizes"),
@@ -53,16 +48,18 @@ impl Calls for Library {
     }
 
     fn read_tree(&mut self, tree: &[u8]) -> Counted {
-        counted(crate::read_tree(tree))
+        counted(leg_sheet::read_tree(tree))
     }
 
+    /// Three numbers more than the list's: one less than a further record needs.
     fn sizes(&mut self, settings: &[u8], tree: &[u8], list: &mut [SizeRecord]) -> Counted {
-        let mut numbers: Vec<u16> = list
+        let numbers: Vec<u16> = list
             .iter()
             .flat_map(|s| [s.natural_width, s.natural_height, s.allotted_width, s.allotted_height])
             .collect();
-        let answer = crate::sizes(settings, tree, &mut numbers);
-        for (record, four) in list.iter_mut().zip(numbers.chunks(4)) {
+        let mut lent = Lent::new(&numbers, numbers.len() + MORE);
+        let Answer { number, count } = leg_sheet::sizes(settings, tree, &mut lent.list);
+        for (record, four) in list.iter_mut().zip(lent.list.chunks(4)) {
             *record = SizeRecord {
                 natural_width: four[0],
                 natural_height: four[1],
@@ -70,19 +67,18 @@ impl Calls for Library {
                 allotted_height: four[3],
             };
         }
-        counted(answer)
+        let number = sound(number, lent.kept(numbers.len()));
+        Counted { number, count }
     }
 
     fn leaf_record(&mut self, settings: &[u8], tree: &[u8], node: usize) -> LeafRecord {
-        let mut out = [0; RECORD];
-        let answer = crate::leaf_record(settings, tree, node, &mut out);
-        whole(answer, RECORD);
+        let (number, out) = lent::record(RECORD, |out| leg_sheet::leaf_record(settings, tree, node, out));
         let yes = |at: usize| {
             assert!(out[at] < 2, "flag {at}");
             out[at] == 1
         };
         LeafRecord {
-            number: answer.number,
+            number,
             node: out[0].into(),
             width: out[1],
             height: out[2],
@@ -102,19 +98,20 @@ impl Calls for Library {
     }
 
     fn leaf(&mut self, settings: &[u8], tree: &[u8], node: usize, output: &mut [u8]) -> Counted {
-        counted(crate::print_leaf(settings, tree, node, output))
+        counted(leg_sheet::print_leaf(settings, tree, node, output))
     }
 
     fn sheet(&mut self, settings: &[u8], tree: &[u8], output: &mut [u8]) -> Counted {
-        counted(crate::print_sheet(settings, tree, output))
+        counted(leg_sheet::print_sheet(settings, tree, output))
     }
 
     fn short_splits3(&mut self, cut: &SplitList, width: u16) -> CutParts {
-        let mut out = [0; CUT];
-        let answer = crate::short_splits3(&cut.pieces, cut.count, width, &mut out);
-        whole(answer, CUT);
+        let (number, lent) = lent::cut(&cut.pieces, [0, CUT, 0], CUT, |pieces, out, _| {
+            leg_sheet::short_splits3(pieces, cut.count, width, out)
+        });
+        let out = lent.one.written(number, CUT);
         CutParts {
-            number: answer.number,
+            number,
             split: out[0] == 1,
             taken: list(&out[1..]),
             left: list(&out[2 + PIECES..]),
@@ -122,29 +119,32 @@ impl Calls for Library {
     }
 
     fn short_splits(&mut self, cut: &SplitList, width: u16) -> CutPositions {
-        let mut positions = [0; 1 + PIECES];
-        let mut left = [0; 1 + PIECES];
-        let answer = crate::short_splits(&cut.pieces, cut.count, width, &mut positions, &mut left);
-        whole(answer, 1 + PIECES);
+        let both = 1 + PIECES;
+        let (number, lent) = lent::cut(&cut.pieces, [0, both, both], both, |pieces, positions, left| {
+            leg_sheet::short_splits(pieces, cut.count, width, positions, left)
+        });
+        let positions: Vec<u32> = lent.one.written(number, both);
         CutPositions {
-            number: answer.number,
+            number,
             positions: positions[1..].try_into().expect("512 entries"),
             count: positions[0] as usize,
-            left: list(&left),
+            left: list(&lent.other.written(number, both)),
         }
     }
 
-    fn short_splits3_lent(&mut self, lent: &mut SplitList, width: u16) -> CutParts {
-        let mut out = [0; LENT_CUT];
-        let answer = crate::short_splits3_lent(&mut lent.pieces, lent.count, width, &mut out);
-        whole(answer, LENT_CUT);
+    fn short_splits3_lent(&mut self, cut: &mut SplitList, width: u16) -> CutParts {
+        let (number, lent) = lent::cut(&cut.pieces, [PIECES, LENT_CUT, 0], LENT_CUT, |pieces, out, _| {
+            leg_sheet::short_splits3_lent(pieces, cut.count, width, out)
+        });
+        let out = lent.one.written(number, LENT_CUT);
+        cut.pieces = lent.pieces.list[..PIECES].try_into().expect("512 entries");
         let mut left = SplitList::EMPTY;
-        if answer.number == 0 {
-            lent.count = out[1].into();
-            left = lent.clone();
+        if number == 0 {
+            cut.count = out[1].into();
+            left = cut.clone();
         }
         CutParts {
-            number: answer.number,
+            number,
             split: out[0] == 1,
             taken: list(&out[2..]),
             left,
@@ -152,11 +152,12 @@ impl Calls for Library {
     }
 
     fn share(&mut self, spare: usize, n: usize, priority: u8, index: usize) -> Shared {
-        let mut part = 0;
-        let answer = crate::share(spare, n, priority, index, &mut part);
-        Shared {
-            number: answer.number,
-            part: part as usize,
+        let lent = canary(0);
+        let mut part = lent;
+        let Answer { number, count: _ } = leg_sheet::share(spare, n, priority, index, &mut part);
+        if number != 0 {
+            return Shared { number: sound(number, part == lent), part: 0 };
         }
+        Shared { number, part: part as usize }
     }
 }

@@ -1,14 +1,17 @@
 //! The proved library against tabled's `table_pool.rs`: every call, on the oracle's inputs.
 //!
-//!     leg_sheet [SEED [ROUNDS]]      by default seed 1 and 20 rounds of the random inputs
+//!     compare [SEED [ROUNDS]]      by default seed 1 and 20 rounds of the random inputs
+
+mod lent;
+mod side;
 
 use std::process::ExitCode;
 
-use leg_sheet::Library;
 use oracle::compare::{Comparison, Counts, Difference};
 use oracle::form::Settings;
 use oracle::gen::{self, Rng};
 use oracle::sides::Original;
+use side::Library;
 
 /// A part of the comparison: its name and its inputs.
 type Part = (&'static str, fn(&mut Comparison, &mut Rng, usize) -> Result<(), Difference>);
@@ -67,7 +70,7 @@ fn main() -> ExitCode {
         Ok([seed]) => (*seed, 20),
         Ok([seed, rounds]) => (*seed, *rounds as usize),
         _ => {
-            eprintln!("leg_sheet [SEED [ROUNDS]]");
+            eprintln!("compare [SEED [ROUNDS]]");
             return ExitCode::FAILURE;
         }
     };

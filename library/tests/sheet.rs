@@ -1,0 +1,41 @@
+//! The wrapper by itself: figure F1 of document 01, refusals, and what they leave of a lent output.
+
+use leg_sheet::{print_sheet, read_settings, Answer, SETTINGS};
+
+/// The settings record with document 01's defaults D.
+const D: &[u8; 31] = b"\x10\x00\x1C--||-|+++++++++\x01\x01\x00\x00    \x00\x00\x00\x02\x02";
+/// The tree of F1: Cell `ab`.
+const AB: &[u8] = b"\x01\x00\x02ab";
+const F1: &[u8] = b"+----+\n| ab |\n+----+";
+/// What a lent output holds before a call.
+const LENT: [u8; 24] = *b"abcdefghijklmnopqrstuvwx";
+
+#[test]
+fn prints_and_keeps_the_rest() {
+    let mut output = LENT;
+    assert_eq!(print_sheet(D, AB, &mut output), Answer { number: 0, count: 20 });
+    assert_eq!(output[..20], *F1);
+    assert_eq!(output[20..], LENT[20..]);
+}
+
+#[test]
+fn refuses_and_writes_nothing() {
+    let refused = |settings: &[u8], tree: &[u8], length: usize| {
+        let mut output = LENT;
+        let answer = print_sheet(settings, tree, &mut output[..length]);
+        assert_eq!((answer.count, output), (0, LENT));
+        answer.number
+    };
+    assert_eq!(refused(b"", AB, 24), 1);
+    assert_eq!(refused(D, b"", 24), 2);
+    assert_eq!(refused(D, b"\x01\x00\x01\x09", 24), 3);
+    assert_eq!(refused(D, AB, 19), 8);
+}
+
+#[test]
+fn reads_settings() {
+    let mut numbers = [0xA5A5; SETTINGS + 1];
+    assert_eq!(read_settings(D, &mut numbers), Answer { number: 0, count: SETTINGS });
+    let bytes = D[3..].iter().map(|&byte| byte.into());
+    assert_eq!(numbers.to_vec(), bytes.chain([0xA5A5]).collect::<Vec<u16>>());
+}
