@@ -1,7 +1,9 @@
 use borrow.Author.Needs.{needs}
-use mathlib.Core.Path.{sym}
-use Prim.Native.Nat.{_≤_}
-use lib.ListN.{length}
+use mathlib.Core.Path.{_≡_, sym}
+use native.Mathlib.Omega.{arith}
+use Prim.Native.Nat.{ℕ, _+_, _≤_}
+use mathlib.Core.List.{List, _++_}
+use lib.ListN.{length, drop, set, replicate, length-append, length-drop, length-set, length-replicate}
 use lib.Seq.{length-take-le}
 use Rattle.sheet.proofs.Printed.{sheet-within}
 use Rattle.leg_sheet.proofs.run.Statement.{statement}
@@ -13,9 +15,28 @@ use Rattle.leg_sheet.proofs.settings_end.Reads as settings-end-reads
 use Rattle.leg_sheet.proofs.write.Reads as write-reads
 use Rattle.sheet.proofs.print_sheet.Reads as print-sheet-reads
 
--- the sheet's bytes lie in the output
-within : (c : tie.After-print-sheet) → c .print-sheet .result .count ≤ length (c .print-sheet .last .1 .1 .0)
-within c = rw (c .print-sheet .ensures .0, c .print-sheet .kept .1 .1 .0) (sheet-within _ _)
+-- the sheet's bytes lie in what was lent
+lent : (c : tie.After-print-sheet) → length (c .print-sheet .last .1 .1 .0) ≡ 64159
+lent c = search needs
+
+within : (c : tie.After-print-sheet) → c .print-sheet .result .count ≤ 64159
+within c = rw (c .print-sheet .ensures .0) (rw (sym (lent c), c .print-sheet .kept .1 .1 .0) (sheet-within _ _))
+
+-- the byte that is not lent
+abbrev past : List ℕ
+past = drop 64159 (replicate 64160 0)
+
+-- the 0A lies in the output
+fits : (c : tie.After-print-sheet) → c .print-sheet .result .count + 1 ≤ length (set (c .print-sheet .last .1 .1 .0 ++ past) (c .print-sheet .result .count) 10)
+fits c =
+    let h = within c in
+    rw (
+      length-set (c .print-sheet .last .1 .1 .0 ++ past) (c .print-sheet .result .count) 10,
+      length-append (c .print-sheet .last .1 .1 .0) past,
+      length-drop {A = ℕ} 64159 (replicate 64160 0),
+      lent c,
+    )
+    (omega (arith, h, length-replicate {A = ℕ} 64160 0))
 
 settings-end-requires : tie.Need-settings-end-requires
 settings-end-requires c κs = search needs
@@ -32,6 +53,9 @@ part-print-sheet-start c = search needs
 part-print-sheet-end : tie.Need-part-print-sheet-end
 part-print-sheet-end c = search needs
 
+array-borrow-prefix-out : tie.Need-array-borrow-prefix-out
+array-borrow-prefix-out c = search needs
+
 slice-aggregate-print-sheet-2 : tie.Need-slice-aggregate-print-sheet-2
 slice-aggregate-print-sheet-2 c = search needs
 
@@ -44,20 +68,20 @@ refuse-requires c κs = search needs
 returns : tie.Need-returns
 returns c = search needs
 
+array-write-out : tie.Need-array-write-out
+array-write-out c = let h = within (c .before .before .before) in omega (arith, h)
+
+add-out : tie.Need-add-out
+add-out c = let h = within (c .before .before .before) in search (needs, h)
+
 array-share-prefix-out : tie.Need-array-share-prefix-out
-array-share-prefix-out c = within (c .before .before .before)
+array-share-prefix-out c = fits (c .before .before .before)
 
 slice-aggregate-write : tie.Need-slice-aggregate-write
-slice-aggregate-write c = sym (length-take-le _ _ (within (c .before .before .before .before)))
+slice-aggregate-write c = sym (length-take-le _ _ (fits (c .before .before .before .before)))
 
 write-requires : tie.Need-write-requires
 write-requires c κs = search needs
-
-slice-aggregate-write-2 : tie.Need-slice-aggregate-write-2
-slice-aggregate-write-2 c = search needs
-
-write-requires-2 : tie.Need-write-requires-2
-write-requires-2 c κs = search needs
 
 returns-2 : tie.Need-returns-2
 returns-2 c = search needs
@@ -71,13 +95,14 @@ run-spec =
     sub-print-sheet
     part-print-sheet-start
     part-print-sheet-end
+    array-borrow-prefix-out
     slice-aggregate-print-sheet-2
     print-sheet-requires
     refuse-requires
     returns
+    array-write-out
+    add-out
     array-share-prefix-out
     slice-aggregate-write
     write-requires
-    slice-aggregate-write-2
-    write-requires-2
     returns-2)
