@@ -1,9 +1,11 @@
-// The size collector against document 01. The cases are the lines of standard input (the file `stdin`); after each call the whole list is
+// The size collector and the sharing helper against document 01. The cases are the lines of standard input (the file `stdin`); after each call of the collector its whole list is
 // shown, so that the file `stdout` has the numbers that document 01 gives. A line is a letter, a space and its contents:
 //   # a title, which is echoed     - how the numbers follow from document 01
 //   = the settings' bytes          : the tree's bytes          + N, a space, bytes: these go on the tree N times
 //   l N: the collector is called with the first N entries of a list lent
+//   s SPARE N: the sharing helper is called for the indices 0 to N, with the width priority of the settings given
 mod lists;
+mod shares;
 
 use libc::STDIN_FILENO;
 use lines::contents;
@@ -16,6 +18,7 @@ fn ask(kind: u8, settings: &[u8], tree: &[u8], rest: &[u8]) {
     match kind {
         b'#' => tell::line(rest),
         b'l' => lists::lend(settings, tree, contents::number(rest)),
+        b's' => shares::among(settings, contents::number(rest), contents::second(rest)),
         _ => {}
     }
 }
