@@ -20,11 +20,11 @@ use Rattle.sizes.proofs.Elems.{elem-in}
 use Rattle.block.specs.Every.{Every}
 use Rattle.block.proofs.Every.{every-map}
 use Rattle.leaf.specs.declared.LeafRecord.{LeafRecord}
-use Rattle.leaf.specs.Walk.{Placed, leaves}
+use Rattle.layout.specs.Walk.{Placed, leaves}
 use Rattle.leaf.specs.Answers.{numbered, tooLarge, noRecord, recordFound, leafRecordOf}
 use Rattle.sizes.proofs.Given.{Takes, takes, refusal-low}
-use Rattle.leaf.proofs.Entries.{Listed, numbered-listed}
-use Rattle.leaf.proofs.Named.{leaves-numbered}
+use Rattle.layout.proofs.Entries.{Listed, numbered-listed}
+use Rattle.layout.proofs.Named.{leaves-numbered}
 use Rattle.leaf.proofs.Prints.{numbered-every}
 use Rattle.export.specs.Words.{packed}
 use Rattle.export.specs.Numbers.{Gives, refusal, offered, listNumbers, frontNumbers, recordNumbers, recordGiven, Plain}

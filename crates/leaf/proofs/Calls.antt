@@ -18,17 +18,17 @@ use Rattle.sizes.specs.Core.{coreOf, measuredOf}
 use Rattle.block.specs.Every.{Every}
 use Rattle.block.proofs.Every.{every-map}
 use Rattle.leaf.specs.declared.LeafRecord.{LeafRecord}
-use Rattle.leaf.specs.declared.visit.Purpose.{Purpose}
-use Rattle.leaf.specs.declared.visit.Job.{Job}
-use Rattle.leaf.specs.declared.visit.Found.{Found}
-use Rattle.leaf.specs.Walk.{Placed, leafOf, leaves, W, H}
-use Rattle.leaf.specs.Visiting.{Kept, keptOf, keepAll, showAll, Asks}
-use Rattle.leaf.specs.Walking.{coreLists, noKept, ReadyTree, WalksTree}
+use Rattle.visit.specs.declared.Purpose.{Purpose}
+use Rattle.visit.specs.declared.Job.{Job}
+use Rattle.visit.specs.declared.Found.{Found}
+use Rattle.layout.specs.Walk.{Placed, leafOf, leaves, W, H}
+use Rattle.visit.specs.Visiting.{Kept, keptOf, keepAll, showAll, Asks, noKept}
+use Rattle.walk.specs.Walking.{coreLists, ReadyTree, WalksTree}
 use Rattle.leaf.specs.Answers.{tooLarge, numbered, noRecord, recordOf, recordFound, foundRecord, leafRecordOf, largeOf}
-use Rattle.leaf.proofs.Fit.{LeafFits, leaves-fit}
-use Rattle.leaf.proofs.Named.{leaves-rise}
+use Rattle.layout.proofs.Fit.{LeafFits, leaves-fit}
+use Rattle.layout.proofs.Named.{leaves-rise}
 use Rattle.sizes.proofs.Given.{Takes, takes, Accepts, accepts, refuses}
-use Rattle.leaf.proofs.Held.{lists-held}
+use Rattle.walk.proofs.Held.{lists-held}
 use Rattle.leaf.proofs.Seek.{soughtOf, keep-numbered}
 
 -- ---- the sheet's size, by the root's numbers

@@ -23,35 +23,20 @@ use Rattle.block.specs.Content.{feeds}
 use Rattle.block.specs.Block.{Leaf, block, tall, wide}
 use Rattle.block.specs.Every.{Every}
 use Rattle.block.proofs.Every.{every-map}
-use Rattle.block.proofs.Dims.{block-dims}
-use Rattle.block.proofs.Feeds.{feeds-length}
 use Rattle.leaf.specs.declared.Written.{Written}
-use Rattle.leaf.specs.declared.visit.Purpose.{Purpose}
-use Rattle.leaf.specs.declared.visit.Found.{Found}
-use Rattle.leaf.specs.Walk.{Placed, leafOf, leaves}
-use Rattle.leaf.specs.Visiting.{keptOf, printed, blockBytes}
-use Rattle.leaf.specs.Walking.{noKept, WalksTree}
+use Rattle.visit.specs.declared.Purpose.{Purpose}
+use Rattle.visit.specs.declared.Found.{Found}
+use Rattle.layout.specs.Walk.{Placed, leafOf, leaves}
+use Rattle.visit.specs.Visiting.{keptOf, printed, blockBytes, noKept}
+use Rattle.walk.specs.Walking.{WalksTree}
 use Rattle.leaf.specs.Answers.{tooLarge, numbered, Prints, noPrint, printTo, printFound, foundWritten, leafPrintOf, largeOf}
-use Rattle.leaf.proofs.Fit.{LeafFits, leaves-fit}
-use Rattle.leaf.proofs.Entries.{Listed, numbered-listed}
-use Rattle.leaf.proofs.Named.{leaves-numbered, leaves-rise}
+use Rattle.layout.proofs.Fit.{LeafFits, leaves-fit}
+use Rattle.layout.proofs.Entries.{Listed, numbered-listed}
+use Rattle.layout.proofs.Named.{leaves-numbered, leaves-rise}
 use Rattle.sizes.proofs.Given.{Takes, refuses}
+use Rattle.visit.proofs.Bytes.{block-bytes}
 use Rattle.leaf.proofs.Calls.{jobOf, call, call-takes, call-large, call-ready, call-walks, block-no-sheet}
 use Rattle.leaf.proofs.Seek.{soughtOf, keep-numbered, shownOf, show-numbered}
-
--- ---- the bytes of a block
-
-nonzero : (s : Settings) (l : Leaf) → Fits (leafSize s (l .text)) (l .size) → (l .size .width ≡ 0 → ⊥) → length (feeds (block s l)) ≡ tall s (l .size) (l .flags) * (wide s (l .size) (l .flags) + 1) - 1
-unfolding tall sep
-nonzero s l f n = omega (arith, feeds-length (block s l) (block-dims s l f n) (omega arith))
-
-bytes-case : (s : Settings) (l : Leaf) (b : Bool) → eqb (l .size .width) 0 ≡ b → Fits (leafSize s (l .text)) (l .size) → length (feeds (block s l)) ≡ blockBytes s (l .size) (l .flags)
-unfolding block blockBytes feeds
-bytes-case s l true e f = rw e refl
-bytes-case s l false e f = nonzero s l f (eqb-false (l .size .width) 0 e) ∙ rw e refl
-
-pub block-bytes : (s : Settings) (l : Leaf) → Fits (leafSize s (l .text)) (l .size) → length (feeds (block s l)) ≡ blockBytes s (l .size) (l .flags)
-block-bytes s l f = bytes-case s l (eqb (l .size .width) 0) refl f
 
 -- ---- a fact of every leaf is one of the wanted leaf
 

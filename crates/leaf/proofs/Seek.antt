@@ -10,16 +10,16 @@ use lib.ListN.{getElem?}
 use lib.Dec.{eqb}
 use borrow.Author.Tests.{eq-eqb, ne-eqb, eqb-true}
 use Rattle.common.specs.Choice.{pick}
-use Rattle.leaf.specs.declared.visit.Job.{Job}
+use Rattle.visit.specs.declared.Job.{Job}
 use Rattle.tree.specs.Tree.{Tree}
 use Rattle.sizes.proofs.Elems.{elem-none}
 use Rattle.block.specs.Block.{block}
-use Rattle.leaf.specs.declared.visit.Purpose.{Purpose}
-use Rattle.leaf.specs.Walk.{Placed, leafOf, leaves}
-use Rattle.leaf.specs.Visiting.{Kept, keptAt, keeps, keepAll, printed, shows, showAll}
+use Rattle.visit.specs.declared.Purpose.{Purpose}
+use Rattle.layout.specs.Walk.{Placed, leafOf, leaves}
+use Rattle.visit.specs.Visiting.{Kept, keptAt, keeps, keepAll, printed, shows, showAll}
 use Rattle.leaf.specs.Answers.{numbered}
-use Rattle.leaf.proofs.Entries.{Rising}
-use Rattle.leaf.proofs.Named.{LeafAt, leaves-rise, rising-from}
+use Rattle.layout.proofs.Entries.{Rising}
+use Rattle.layout.proofs.Named.{LeafAt, leaves-rise, rising-from}
 
 -- the record of a leaf, or what was kept before
 abbrev pub soughtOf : Kept → Option Placed → Kept

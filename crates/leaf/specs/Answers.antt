@@ -11,13 +11,13 @@ use Rattle.tree.specs.Tree.{Tree}
 use Rattle.splits.specs.Lists.{splitList}
 use Rattle.sizes.specs.declared.Core.{Core}
 use Rattle.sizes.specs.Input.{Input, refused, given}
-use Rattle.block.specs.declared.Flags.{Flags}
 use Rattle.block.specs.Content.{feeds}
 use Rattle.block.specs.Block.{block}
 use Rattle.leaf.specs.declared.LeafRecord.{LeafRecord}
 use Rattle.leaf.specs.declared.Written.{Written}
-use Rattle.leaf.specs.Walk.{Placed, leafOf, leaves, W, H}
-use Rattle.leaf.specs.Visiting.{Kept, blockBytes}
+use Rattle.layout.specs.Walk.{Placed, leafOf, leaves, W, H}
+use Rattle.layout.specs.Contexts.{noFlags}
+use Rattle.visit.specs.Visiting.{Kept, blockBytes}
 
 -- W over 400 or H over 160
 unfoldable pub tooLarge : Settings → Tree → Bool
@@ -30,18 +30,6 @@ numbered n [] = none
 numbered n (l ∷ ls) = pick (eqb (l .at .node) n) (some l) (numbered n ls)
 
 -- ---- the leaf record
-
-abbrev pub noFlags : Flags
-noFlags = record {
-  «first_row» = false;
-  «last_row» = false;
-  «first_col» = false;
-  «last_col» = false;
-  «no_right» = false;
-  «lean_top» = false;
-  «top_left» = false;
-  «top_intersection» = false;
-}
 
 -- a refusal: its number, and 0 or no in every other field
 abbrev pub noRecord : ℕ → LeafRecord

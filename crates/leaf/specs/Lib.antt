@@ -1,4 +1,1 @@
-pub mod Walk
-pub mod Visiting
 pub mod Answers
-pub mod Walking

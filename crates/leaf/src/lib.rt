@@ -1,9 +1,4 @@
-// The walk over the tree: flags, split lists and starts of the leaves; the leaf record and the leaf printer.
-pub mod context;
-pub mod root;
-pub mod visit;
-pub mod walk;
-
+// The leaf record and the leaf printer.
 use block::Flags;
 use settings::Settings;
 use sizes::Core;
@@ -18,7 +13,7 @@ ghost use Prim.Native.Nat.{_≤_, _<_};
 ghost use mathlib.Core.List.{[]};
 ghost use lib.ListN.{length};
 ghost use Rattle.sizes.specs.Input.{inputOf};
-ghost use Rattle.leaf.specs.Visiting.{keptOf, Few};
+ghost use Rattle.visit.specs.Visiting.{keptOf, Few};
 ghost use Rattle.leaf.specs.Answers.{noRecord, foundRecord, leafRecordOf, foundWritten, leafPrintOf, largeOf};
 
 // A leaf's record: node, allotted size, both split lists as handed to the leaf, eight flags; or a refusal with 0 or no elsewhere.
@@ -54,7 +49,7 @@ fn no_record(number: u8) -> LeafRecord
 {
     let h = splits::no_pieces();
     let v = splits::no_pieces();
-    let flags = root::no_flags();
+    let flags = layout::no_flags();
     let size = Size {
         width: 0,
         height: 0,
@@ -138,7 +133,7 @@ pub fn leaf_record(settings: &[u8], tree: &[u8], node: usize) -> LeafRecord
     };
     let mut nothing = [0u8; 1];
     let mut kept = [0u16; 1024];
-    let found = root::walk_core(tree, core, job, &mut kept, &mut nothing);
+    let found = walk::walk_core(tree, core, job, &mut kept, &mut nothing);
     record_of(found, &kept)
 }
 
@@ -169,6 +164,6 @@ pub fn print_leaf(settings: &[u8], tree: &[u8], node: usize, out: &mut [u8]) -> 
         stride: 0,
     };
     let mut kept = [0u16; 1024];
-    let found = root::walk_core(tree, core, job, &mut kept, out);
+    let found = walk::walk_core(tree, core, job, &mut kept, out);
     written_of(s, found, out.len())
 }

@@ -13,12 +13,12 @@ use Rattle.block.specs.Every.{Every}
 use Rattle.block.proofs.Every.{every-elem, Dims}
 use Rattle.block.proofs.Dims.{block-dims}
 use Rattle.block.proofs.Feeds.{feeds-length, feeds-at}
-use Rattle.leaf.specs.Walk.{Placed, leafOf, leaves, W, H}
-use Rattle.leaf.proofs.Laid.{tallAt, wideAt}
-use Rattle.leaf.proofs.Fit.{LeafFits, leaves-fit}
-use Rattle.leaf.proofs.Narrow.{HasWidth}
+use Rattle.layout.specs.Walk.{Placed, leafOf, leaves, W, H}
+use Rattle.layout.proofs.Laid.{tallAt, wideAt}
+use Rattle.layout.proofs.Fit.{LeafFits, leaves-fit}
+use Rattle.layout.proofs.Narrow.{HasWidth}
 use Rattle.sheet.specs.Sheet.{sheet}
-use Rattle.leaf.proofs.Inside.{leaf-inside}
+use Rattle.layout.proofs.Inside.{leaf-inside}
 use Rattle.sheet.proofs.Content.{sheet-dims, sheet-shows}
 
 pub some-lines : (s : Settings) (t : Tree) → 0 < H s t

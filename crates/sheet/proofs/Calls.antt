@@ -12,10 +12,10 @@ use Rattle.common.specs.Choice.{pick}
 use Rattle.settings.specs.declared.Settings.{Settings}
 use Rattle.tree.specs.Tree.{Tree}
 use Rattle.sizes.specs.Input.{Input, refused, given, inputOf}
-use Rattle.leaf.specs.Walk.{Placed, leaves, W, H}
+use Rattle.layout.specs.Walk.{Placed, leaves, W, H}
 use Rattle.leaf.specs.Answers.{tooLarge, Prints, noPrint, printTo, leafPrintOf}
 use Rattle.sizes.proofs.Given.{takes, refusal-low}
-use Rattle.leaf.proofs.Named.{LeafAt}
+use Rattle.layout.proofs.Named.{LeafAt}
 use Rattle.leaf.proofs.Seek.{leaf-found}
 use Rattle.sheet.specs.Sheet.{sheet}
 use Rattle.sheet.specs.Answers.{narrow, sheetOf}

@@ -12,10 +12,10 @@ use Rattle.block.specs.Block.{block}
 use Rattle.block.specs.Every.{Every}
 use Rattle.block.proofs.Every.{every-append, every-front, every-back, every-map, every-and, every-elem, Dims, dims-append, dims-paired, byteAt, byte-left, byte-right, byte-above, byte-below}
 use Rattle.block.proofs.Dims.{block-dims}
-use Rattle.leaf.specs.Walk.{Placed, leafOf, walk, root, leaves, W, H}
-use Rattle.leaf.proofs.Laid.{tallAt, wideAt, Laid, one, side, under, root-laid}
-use Rattle.leaf.proofs.Narrow.{HasWidth}
-use Rattle.leaf.proofs.Inside.{Inside, laid-inside}
+use Rattle.layout.specs.Walk.{Placed, leafOf, walk, root, leaves, W, H}
+use Rattle.layout.proofs.Laid.{tallAt, wideAt, Laid, one, side, under, root-laid}
+use Rattle.layout.proofs.Narrow.{HasWidth}
+use Rattle.layout.proofs.Inside.{Inside, laid-inside}
 
 -- the content, which starts at line l, column k, has the leaf's block at the leaf's start
 unfoldable pub Shows : Settings → List (List ℕ) → ℕ → ℕ → Placed → Type 0

@@ -16,11 +16,11 @@ use Rattle.block.specs.Content.{feeds}
 use Rattle.block.specs.Block.{block, tall, wide}
 use Rattle.block.specs.Every.{Every}
 use Rattle.block.proofs.Every.{every-elem, Dims, byteAt}
-use Rattle.leaf.specs.Walk.{Placed, leafOf, leaves, W, H}
-use Rattle.leaf.proofs.Laid.{tallAt, wideAt}
-use Rattle.leaf.proofs.Fit.{LeafFits, leaves-fit}
-use Rattle.leaf.proofs.Named.{LeafAt, leaf-size}
-use Rattle.leaf.proofs.Narrow.{HasWidth}
+use Rattle.layout.specs.Walk.{Placed, leafOf, leaves, W, H}
+use Rattle.layout.proofs.Laid.{tallAt, wideAt}
+use Rattle.layout.proofs.Fit.{LeafFits, leaves-fit}
+use Rattle.layout.proofs.Named.{LeafAt, leaf-size}
+use Rattle.layout.proofs.Narrow.{HasWidth}
 use Rattle.sheet.specs.Sheet.{sheet}
 use Rattle.sheet.proofs.Tiling.{Covers, ExactlyOne, tiling, no-place-outside}
 use Rattle.sheet.proofs.Content.{sheet-dims, sheet-shows}

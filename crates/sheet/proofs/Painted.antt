@@ -13,9 +13,9 @@ use Rattle.block.specs.Every.{Every}
 use Rattle.block.proofs.Every.{every-front, every-back}
 use Rattle.block.proofs.Pasted.{pasted-append, pasted-paired}
 use Rattle.block.proofs.Feeds.{pasted-feeds}
-use Rattle.leaf.specs.Walk.{Placed, leafOf, walk, root, leaves, W, H}
-use Rattle.leaf.proofs.Laid.{Laid, one, side, under, root-laid}
-use Rattle.leaf.proofs.Narrow.{HasWidth}
+use Rattle.layout.specs.Walk.{Placed, leafOf, walk, root, leaves, W, H}
+use Rattle.layout.proofs.Laid.{Laid, one, side, under, root-laid}
+use Rattle.layout.proofs.Narrow.{HasWidth}
 use Rattle.sheet.specs.Sheet.{sheet}
 use Rattle.sheet.proofs.Content.{laid-dims, sheet-dims}
 use Rattle.sheet.proofs.Bytes.{sheet-length}

@@ -14,9 +14,9 @@ use Rattle.block.specs.Content.{feeds}
 use Rattle.block.specs.Block.{block}
 use Rattle.block.specs.Every.{Every}
 use Rattle.block.proofs.NoFeed.{Plain, NoFeed, no-feed-append, no-feed-paired, block-no-feed, lines-feeds}
-use Rattle.leaf.specs.Walk.{Placed, leafOf, walk, root, leaves}
-use Rattle.leaf.proofs.Laid.{Laid, one, side, under, root-laid}
-use Rattle.leaf.proofs.Narrow.{HasWidth}
+use Rattle.layout.specs.Walk.{Placed, leafOf, walk, root, leaves}
+use Rattle.layout.proofs.Laid.{Laid, one, side, under, root-laid}
+use Rattle.layout.proofs.Narrow.{HasWidth}
 use Rattle.sheet.specs.Sheet.{sheet}
 use Rattle.sheet.proofs.Content.{sheet-dims}
 use Rattle.sheet.proofs.Bytes.{some-lines}

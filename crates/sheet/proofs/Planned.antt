@@ -18,8 +18,8 @@ use Rattle.sizes.specs.Core.{coreOf}
 use Rattle.sizes.proofs.Within.{tree-sizes-length}
 use Rattle.block.specs.Every.{Every}
 use Rattle.block.proofs.Every.{every-map}
-use Rattle.leaf.specs.Walk.{Placed, leaves, W, H}
-use Rattle.leaf.proofs.Narrow.{HasWidth, Wide, nodes-wide, leaves-wide}
+use Rattle.layout.specs.Walk.{Placed, leaves, W, H}
+use Rattle.layout.proofs.Narrow.{HasWidth, Wide, nodes-wide, leaves-wide}
 use Rattle.leaf.proofs.Calls.{root-first}
 use Rattle.leaf.specs.Answers.{Prints, noPrint, largeOf}
 use Rattle.sheet.specs.declared.Plan.{Plan}

@@ -22,17 +22,17 @@ use Rattle.block.specs.Block.{block}
 use Rattle.block.specs.Every.{Every}
 use Rattle.block.proofs.Every.{every-map, every-and}
 use Rattle.leaf.specs.declared.Written.{Written}
-use Rattle.leaf.specs.declared.visit.Purpose.{Purpose}
-use Rattle.leaf.specs.declared.visit.Job.{Job}
-use Rattle.leaf.specs.declared.visit.Found.{Found}
-use Rattle.leaf.specs.Walk.{Placed, leafOf, leaves, W, H}
-use Rattle.leaf.specs.Visiting.{shows, showAll, Asks, InSheet}
-use Rattle.leaf.specs.Walking.{coreLists, ReadyTree, WalksTree}
+use Rattle.visit.specs.declared.Purpose.{Purpose}
+use Rattle.visit.specs.declared.Job.{Job}
+use Rattle.visit.specs.declared.Found.{Found}
+use Rattle.layout.specs.Walk.{Placed, leafOf, leaves, W, H}
+use Rattle.visit.specs.Visiting.{shows, showAll, Asks, InSheet}
+use Rattle.walk.specs.Walking.{coreLists, ReadyTree, WalksTree}
 use Rattle.leaf.specs.Answers.{tooLarge, Prints, noPrint, printTo, largeOf}
-use Rattle.leaf.proofs.Laid.{root-laid}
-use Rattle.leaf.proofs.Fit.{LeafFits, leaves-fit}
-use Rattle.leaf.proofs.Inside.{Inside, laid-inside, room-inside}
-use Rattle.leaf.proofs.Narrow.{HasWidth}
+use Rattle.layout.proofs.Laid.{root-laid}
+use Rattle.layout.proofs.Fit.{LeafFits, leaves-fit}
+use Rattle.layout.proofs.Inside.{Inside, laid-inside, room-inside}
+use Rattle.layout.proofs.Narrow.{HasWidth}
 use Rattle.sizes.proofs.Given.{refuses}
 use Rattle.leaf.proofs.Calls.{large-is, tree-ready, call, call-takes}
 use Rattle.sheet.specs.declared.Plan.{Plan}

@@ -12,9 +12,9 @@ use Rattle.sizes.proofs.Either.{either}
 use Rattle.sizes.proofs.Elems.{elem-front, elem-back, elem-in, elem-none, elem-first, elem-cases}
 use Rattle.block.specs.Every.{Every}
 use Rattle.block.proofs.Every.{every-map, every-elem}
-use Rattle.leaf.specs.Walk.{Placed, leaves, W, H}
-use Rattle.leaf.proofs.Laid.{tallAt, wideAt, Laid, one, side, under, root-laid}
-use Rattle.leaf.proofs.Inside.{Inside, laid-inside, leaf-inside}
+use Rattle.layout.specs.Walk.{Placed, leaves, W, H}
+use Rattle.layout.proofs.Laid.{tallAt, wideAt, Laid, one, side, under, root-laid}
+use Rattle.layout.proofs.Inside.{Inside, laid-inside, leaf-inside}
 
 -- ---- the statement
 

@@ -5,7 +5,7 @@ use mathlib.Core.List.{List, [], _∷_}
 use lib.Dec.{eqb}
 use Rattle.common.specs.Choice.{pick}
 use Rattle.sizes.specs.Input.{Input, refused, given}
-use Rattle.leaf.specs.Walk.{Placed, leaves}
+use Rattle.layout.specs.Walk.{Placed, leaves}
 use Rattle.leaf.specs.Answers.{tooLarge, Prints, noPrint, printTo}
 use Rattle.sheet.specs.Sheet.{sheet}
 

@@ -4,7 +4,7 @@ use mathlib.Core.List.{List}
 use Rattle.settings.specs.declared.Settings.{Settings}
 use Rattle.tree.specs.Tree.{Tree}
 use Rattle.block.specs.Content.{feeds}
-use Rattle.leaf.specs.Walk.{walk, root}
+use Rattle.layout.specs.Walk.{walk, root}
 
 -- the joined content, its lines joined by 0A
 unfoldable pub sheet : Settings → Tree → List ℕ

@@ -1,8 +1,8 @@
 // The sheet printer: one walk that pastes every leaf's block at its start.
 use leaf::Written;
-use leaf::visit::Job;
-use leaf::visit::Purpose;
 use sizes::Core;
+use visit::Job;
+use visit::Purpose;
 ghost use mathlib.Core.Path.{_≡_};
 ghost use Prim.Native.Nat.{_≤_};
 ghost use lib.ListN.{take};
@@ -97,7 +97,7 @@ pub fn print_sheet(settings: &[u8], tree: &[u8], out: &mut [u8]) -> Written
     };
     block::bytes::fill(out, 0, p.count, 10);
     let mut kept = [0u16; 1024];
-    leaf::root::walk_core(tree, core, job, &mut kept, out);
+    walk::walk_core(tree, core, job, &mut kept, out);
     Written {
         number: 0,
         count: p.count,

@@ -8,7 +8,7 @@ use Rattle.leaf.proofs.leaf_record.Lts as lts
 use Rattle.leaf.proofs.is_large.Reads as is-large-reads
 use Rattle.leaf.proofs.no_record.Reads as no-record-reads
 use Rattle.leaf.proofs.record_of.Reads as record-of-reads
-use Rattle.leaf.proofs.root.walk_core.Reads as walk-core-reads
+use Rattle.walk.proofs.walk_core.Reads as walk-core-reads
 use Rattle.sizes.proofs.measure_tree.Reads as measure-tree-reads
 
 measure-tree-requires : tie.Need-measure-tree-requires

@@ -6,7 +6,7 @@ use Rattle.leaf.proofs.print_leaf.Tie as tie
 use Rattle.leaf.proofs.print_leaf.Reads as reads
 use Rattle.leaf.proofs.print_leaf.Lts as lts
 use Rattle.leaf.proofs.is_large.Reads as is-large-reads
-use Rattle.leaf.proofs.root.walk_core.Reads as walk-core-reads
+use Rattle.walk.proofs.walk_core.Reads as walk-core-reads
 use Rattle.leaf.proofs.written_of.Reads as written-of-reads
 use Rattle.sizes.proofs.measure_tree.Reads as measure-tree-reads
 

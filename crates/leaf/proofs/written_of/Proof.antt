@@ -4,7 +4,7 @@ use Rattle.leaf.proofs.written_of.Statement.{statement}
 use Rattle.leaf.proofs.written_of.Tie as tie
 use Rattle.leaf.proofs.written_of.Reads as reads
 use Rattle.leaf.proofs.written_of.Lts as lts
-use Rattle.leaf.proofs.visit.block_bytes.Reads as block-bytes-reads
+use Rattle.visit.proofs.block_bytes.Reads as block-bytes-reads
 
 block-bytes-requires : tie.Need-block-bytes-requires
 block-bytes-requires c κs = search needs

@@ -6,7 +6,7 @@ use Rattle.sheet.proofs.print_sheet.Tie as tie
 use Rattle.sheet.proofs.print_sheet.Reads as reads
 use Rattle.sheet.proofs.print_sheet.Lts as lts
 use Rattle.block.proofs.bytes.fill.Reads as fill-reads
-use Rattle.leaf.proofs.root.walk_core.Reads as walk-core-reads
+use Rattle.walk.proofs.walk_core.Reads as walk-core-reads
 use Rattle.sheet.proofs.plan_sheet.Reads as plan-sheet-reads
 use Rattle.sizes.proofs.measure_tree.Reads as measure-tree-reads
 

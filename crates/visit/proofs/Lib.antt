@@ -1,0 +1,3 @@
+-- What the proofs of several functions, and the layers above, use.
+pub mod Bytes
+mod Visits

@@ -1,0 +1,8 @@
+-- What the proofs of several functions, and the layers above, use.
+pub mod Outcome
+mod Pieces
+mod Steps
+mod Turns
+mod Nodes
+pub mod Held
+mod Roots
