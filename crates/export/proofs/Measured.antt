@@ -1,12 +1,12 @@
 -- The sizes that were measured, as four numbers a node. Assumes nothing.
-use mathlib.Core.Path.{_≡_, refl, sym, ap, _∙_}
+use mathlib.Core.Path.{_≡_, refl, ap, _∙_}
 use Prim.Native.Nat.{ℕ, _*_, _≤_, _<_}
 use native.Mathlib.Omega.{arith}
 use mathlib.Core.List.{List}
 use lib.ListN.{length}
 use lib.Seq.{sets}
 use Rattle.settings.specs.declared.Settings.{Settings}
-use Rattle.tree.specs.Tree.{Tree, nodes}
+use Rattle.tree.specs.Tree.{Tree}
 use Rattle.sizes.specs.declared.Core.{Core}
 use Rattle.sizes.specs.declared.Measured.{Measured}
 use Rattle.sizes.specs.Input.{Input, inputOf}

@@ -1,5 +1,5 @@
 -- The settings that were read, as 28 numbers. Assumes nothing.
-use mathlib.Core.Path.{_≡_, refl, sym, ap, _∙_}
+use mathlib.Core.Path.{_≡_, sym, ap, _∙_}
 use Prim.Native.Nat.{ℕ, _+_, _≤_, _<_}
 use native.Mathlib.Omega.{arith}
 use mathlib.Core.List.{List, [], _∷_, _++_}
@@ -10,7 +10,7 @@ use Rattle.settings.specs.declared.ReadSettings.{ReadSettings}
 use Rattle.settings.specs.Reading.{Parsed, readSettings, answerOf, Ranges}
 use Rattle.settings.proofs.Small.{settings-small}
 use Rattle.export.specs.Words.{packed}
-use Rattle.export.specs.Numbers.{Gives, refusal, written, offered, settingsNumbers, choiceNumbers, settingsGiven}
+use Rattle.export.specs.Numbers.{refusal, offered, settingsNumbers, choiceNumbers, settingsGiven}
 use Rattle.export.proofs.Given.{Same, same-refusal, same-written, offered-short, offered-long}
 use Rattle.export.proofs.Copies.{stored-on}
 

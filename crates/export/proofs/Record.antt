@@ -4,7 +4,7 @@ use mathlib.Core.Bool.{Bool, true, false}
 use mathlib.Core.Option.{Option, some, none}
 use Prim.Native.Nat.{ℕ, _+_, _≤_, _<_}
 use native.Mathlib.Omega.{arith}
-use mathlib.Core.List.{List, [], _∷_, _++_}
+use mathlib.Core.List.{List, _++_}
 use lib.ListN.{length, length-append}
 use lib.Seq.{sets}
 use borrow.Author.Tests.{eq-eqb, ne-eqb}
@@ -27,7 +27,7 @@ use Rattle.layout.proofs.Entries.{Listed, numbered-listed}
 use Rattle.layout.proofs.Named.{leaves-numbered}
 use Rattle.leaf.proofs.Prints.{numbered-every}
 use Rattle.export.specs.Words.{packed}
-use Rattle.export.specs.Numbers.{Gives, refusal, offered, listNumbers, frontNumbers, recordNumbers, recordGiven, Plain}
+use Rattle.export.specs.Numbers.{refusal, offered, listNumbers, frontNumbers, recordNumbers, recordGiven, Plain}
 use Rattle.export.proofs.Copies.{stored-on}
 use Rattle.export.proofs.Given.{Same, same-refusal, same-written, offered-short, offered-long}
 use Rattle.export.proofs.Counts.{list-few}

@@ -1,5 +1,5 @@
 -- What the C functions on split lists answer and write, beside the definitions'. Assumes nothing.
-use mathlib.Core.Path.{_≡_, refl, sym, ap, _∙_}
+use mathlib.Core.Path.{_≡_, refl, _∙_}
 use Prim.Native.Nat.{ℕ, _+_, _≤_, _<_}
 use native.Mathlib.Omega.{arith}
 use mathlib.Core.List.{List, [], _∷_, _++_}
@@ -12,10 +12,10 @@ use Rattle.splits.specs.declared.Kept.{Kept}
 use Rattle.splits.specs.declared.ShortParts.{ShortParts}
 use Rattle.splits.specs.Cuts.{cutOf, keptOf, shortOf}
 use Rattle.export.specs.Words.{packed, firstPieces}
-use Rattle.export.specs.Numbers.{Gives, refusal, written, bit, listNumbers, positionNumbers}
+use Rattle.export.specs.Numbers.{refusal, bit, listNumbers, positionNumbers}
 use Rattle.export.specs.Cuts.{cutNumbers, cutGiven, splits3Given, GivesTwo, refusalTwo, writtenTwo, keptNumbers, keptGiven, lentGiven, shortGiven, splitsGiven}
 use Rattle.export.proofs.Copies.{stored-on}
-use Rattle.export.proofs.Given.{Same, same-refusal, same-written, sets-front}
+use Rattle.export.proofs.Given.{Same, same-written, sets-front}
 
 -- ---- what is stored one after the other
 

@@ -1,6 +1,6 @@
 -- What the C functions take and give, as plain numbers.
 use Prim.Native.Nat.{ℕ, _+_, _*_, _%_}
-use mathlib.Core.List.{List, _∷_}
+use mathlib.Core.List.{List}
 use lib.ListN.{take}
 use lib.Dec.{ltb}
 use Rattle.common.specs.Choice.{pick}

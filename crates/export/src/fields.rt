@@ -12,22 +12,9 @@ ghost use Prim.Native.Nat.{_*_, _≤_, _<_};
 ghost use mathlib.Core.List.{_∷_, []};
 ghost use lib.ListN.{length};
 ghost use lib.Seq.{sets};
-ghost use Rattle.settings.specs.Reading.{priorityOf, Ranges};
+ghost use Rattle.settings.specs.Reading.{Ranges};
 ghost use Rattle.settings.specs.Defaults.{alignmentNumber, priorityNumber};
 ghost use Rattle.export.specs.Numbers.{settingsNumbers, choiceNumbers, coreNumbers, frontNumbers, recordNumbers, Plain};
-
-// First, Last or List; every number past 1 is List.
-pub fn priority_of(b: u8) -> Priority
-    ensures { λ r. ⌜ r ≡ priorityOf b ⌝ }
-{
-    if b == 0 {
-        return Priority::First;
-    }
-    if b == 1 {
-        return Priority::Last;
-    }
-    Priority::List
-}
 
 fn number_of_priority(p: Priority) -> u16
     ensures { λ r. ⌜ r ≡ priorityNumber p ⌝ }

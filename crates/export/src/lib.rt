@@ -192,7 +192,7 @@ pub extern "C" fn leg_share(
     ensures { λ r. ⌜ r ≡ packed (shareOf spare n (priorityOf priority) index .number) 0 ⌝ }
     ensures shown { λ _. ⌜ now (part .exit) ≡ partAfter spare n (priorityOf priority) index (now (part .entry)) ⌝ }
 {
-    let p = fields::priority_of(priority);
+    let p = settings::priority_of(priority);
     let s = sizes::sharing::share(spare, n, p, index);
     if s.number != 0 {
         return pack(s.number, 0);

@@ -3,11 +3,11 @@ use mathlib.Core.List.{List}
 use Prim.Native.Nat.{ℕ}
 use Rattle.settings.specs.declared.Settings.{Settings}
 use Rattle.tree.specs.Tree.{Tree}
-use Rattle.sizes.specs.Sizes.{Fits, leafSize, natural}
+use Rattle.sizes.specs.Sizes.{Fits, leafSize}
 use Rattle.block.specs.Every.{Every}
 use Rattle.block.proofs.Every.{every-append}
-use Rattle.layout.specs.Walk.{Context, Placed, walk, leaves}
-use Rattle.layout.proofs.Laid.{Laid, one, side, under, laid, root-laid}
+use Rattle.layout.specs.Walk.{Placed, leaves}
+use Rattle.layout.proofs.Laid.{Laid, one, side, under, root-laid}
 
 abbrev pub LeafFits : Settings → Placed → Type 0
 LeafFits s f = Fits (leafSize s (f .text)) (f .at .size)

@@ -8,12 +8,11 @@ use mathlib.Core.List.{List}
 use lib.ListN.{getElem?}
 use Rattle.settings.specs.declared.Settings.{Settings}
 use Rattle.tree.specs.Tree.{Tree}
-use Rattle.sizes.specs.Sizes.{Fits, natural}
 use Rattle.block.specs.Paint.{Room}
 use Rattle.block.specs.Every.{Every}
 use Rattle.block.proofs.Every.{every-append, every-map, every-elem}
-use Rattle.layout.specs.Walk.{Context, Placed, walk, leaves, W, H}
-use Rattle.layout.proofs.Laid.{tallAt, wideAt, Laid, one, side, under, laid, root-laid}
+use Rattle.layout.specs.Walk.{Placed, leaves, W, H}
+use Rattle.layout.proofs.Laid.{tallAt, wideAt, Laid, one, side, under, root-laid}
 
 -- the leaf's block stands in the rectangle of h lines and w columns at line l, column k
 pub record Inside (s : Settings) (l k h w : ℕ) (f : Placed) : Type 0 where

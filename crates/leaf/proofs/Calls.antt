@@ -1,30 +1,27 @@
 -- What the public calls answer, from the sizes that were measured and the walk. Assumes nothing.
-use mathlib.Core.Path.{_≡_, refl, sym, ap, _∙_}
-use Prim.Native.Nat.{ℕ, _+_, _-_, _*_, _≤_, _<_}
+use mathlib.Core.Path.{_≡_, refl, sym, _∙_}
+use Prim.Native.Nat.{ℕ, _+_, _-_}
 use native.Mathlib.Omega.{arith}
 use mathlib.Core.Bool.{Bool, true, false}
-use mathlib.Core.List.{List, [], _∷_, _++_, map}
+use mathlib.Core.List.{List, _++_, map}
 use mathlib.Core.Option.{Option, some, none}
 use lib.ListN.{length, getD, replicate}
-use lib.Dec.{ltb}
-use Rattle.common.specs.Choice.{pick}
 use Rattle.settings.specs.declared.Settings.{Settings}
 use Rattle.tree.specs.Tree.{Tree, cell, group}
 use Rattle.sizes.specs.declared.Core.{Core}
 use Rattle.sizes.specs.declared.Measured.{Measured}
 use Rattle.sizes.specs.Sizes.{sep, natural, Sizes, sizes, treeSizes}
-use Rattle.sizes.specs.Input.{Input, refused, given, inputOf}
+use Rattle.sizes.specs.Input.{given, inputOf}
 use Rattle.sizes.specs.Core.{coreOf, measuredOf}
 use Rattle.block.specs.Every.{Every}
 use Rattle.block.proofs.Every.{every-map}
-use Rattle.leaf.specs.declared.LeafRecord.{LeafRecord}
 use Rattle.visit.specs.declared.Purpose.{Purpose}
 use Rattle.visit.specs.declared.Job.{Job}
 use Rattle.visit.specs.declared.Found.{Found}
-use Rattle.layout.specs.Walk.{Placed, leafOf, leaves, W, H}
-use Rattle.visit.specs.Visiting.{Kept, keptOf, keepAll, showAll, Asks, noKept}
+use Rattle.layout.specs.Walk.{Placed, leaves}
+use Rattle.visit.specs.Visiting.{Kept, keptOf, keepAll, Asks, noKept}
 use Rattle.walk.specs.Walking.{coreLists, ReadyTree, WalksTree}
-use Rattle.leaf.specs.Answers.{tooLarge, numbered, noRecord, recordOf, recordFound, foundRecord, leafRecordOf, largeOf}
+use Rattle.leaf.specs.Answers.{tooLarge, numbered, noRecord, recordFound, foundRecord, leafRecordOf, largeOf}
 use Rattle.layout.proofs.Fit.{LeafFits, leaves-fit}
 use Rattle.layout.proofs.Named.{leaves-rise}
 use Rattle.sizes.proofs.Given.{Takes, takes, Accepts, accepts, refuses}

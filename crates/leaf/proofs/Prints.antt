@@ -1,35 +1,32 @@
 -- What the leaf printer answers, from the walk. Assumes nothing.
 use mathlib.Core.Path.{_≡_, refl, sym, ap, _∙_}
-use Prim.Native.Nat.{ℕ, zero, suc, _+_, _-_, _*_, _≤_, _<_}
+use Prim.Native.Nat.{ℕ, _+_, _-_, _<_}
 use native.Mathlib.Omega.{arith}
 use mathlib.Core.Bool.{Bool, true, false}
 use mathlib.Core.List.{List, [], _∷_, _++_}
 use mathlib.Core.Option.{Option, some, none}
-use lib.ListN.{length, drop, getElem?}
+use lib.ListN.{length, drop}
 use lib.Dec.{ltb, eqb}
-use borrow.Author.Tests.{eqb-true, eqb-false, ne-eqb}
 use Rattle.common.specs.Choice.{pick}
 use Rattle.settings.specs.declared.Settings.{Settings}
 use Rattle.tree.specs.Tree.{Tree}
 use Rattle.sizes.specs.declared.Measured.{Measured}
-use Rattle.sizes.specs.declared.Size.{Size}
-use Rattle.sizes.specs.Sizes.{sep, Fits, leafSize, treeSizes}
-use Rattle.sizes.specs.Input.{given, inputOf}
+use Rattle.sizes.specs.Sizes.{treeSizes}
+use Rattle.sizes.specs.Input.{inputOf}
 use Rattle.sizes.specs.Core.{measuredOf}
 use Rattle.sizes.proofs.Nodes.{subtrees}
-use Rattle.sizes.proofs.Limits.{Small, read-limits, sizes-small}
-use Rattle.block.specs.declared.Flags.{Flags}
+use Rattle.sizes.proofs.Limits.{read-limits, sizes-small}
 use Rattle.block.specs.Content.{feeds}
-use Rattle.block.specs.Block.{Leaf, block, tall, wide}
+use Rattle.block.specs.Block.{block}
 use Rattle.block.specs.Every.{Every}
 use Rattle.block.proofs.Every.{every-map}
 use Rattle.leaf.specs.declared.Written.{Written}
 use Rattle.visit.specs.declared.Purpose.{Purpose}
 use Rattle.visit.specs.declared.Found.{Found}
 use Rattle.layout.specs.Walk.{Placed, leafOf, leaves}
-use Rattle.visit.specs.Visiting.{keptOf, printed, blockBytes, noKept}
+use Rattle.visit.specs.Visiting.{keptOf, printed, noKept}
 use Rattle.walk.specs.Walking.{WalksTree}
-use Rattle.leaf.specs.Answers.{tooLarge, numbered, Prints, noPrint, printTo, printFound, foundWritten, leafPrintOf, largeOf}
+use Rattle.leaf.specs.Answers.{numbered, Prints, noPrint, printFound, foundWritten, leafPrintOf, largeOf}
 use Rattle.layout.proofs.Fit.{LeafFits, leaves-fit}
 use Rattle.layout.proofs.Entries.{Listed, numbered-listed}
 use Rattle.layout.proofs.Named.{leaves-numbered, leaves-rise}

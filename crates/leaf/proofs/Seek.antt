@@ -1,6 +1,6 @@
 -- The record that the walk's fold keeps is that of the leaf with the wanted number: leaves' numbers rise. Assumes nothing.
-use mathlib.Core.Path.{_≡_, refl, sym, ap, _∙_}
-use Prim.Native.Nat.{ℕ, zero, suc, _≤_, _<_}
+use mathlib.Core.Path.{_≡_, refl}
+use Prim.Native.Nat.{ℕ, zero, suc, _<_}
 use native.Mathlib.Omega.{arith}
 use mathlib.Core.Bool.{Bool, true, false}
 use mathlib.Core.List.{List, [], _∷_}
@@ -16,7 +16,7 @@ use Rattle.sizes.proofs.Elems.{elem-none}
 use Rattle.block.specs.Block.{block}
 use Rattle.visit.specs.declared.Purpose.{Purpose}
 use Rattle.layout.specs.Walk.{Placed, leafOf, leaves}
-use Rattle.visit.specs.Visiting.{Kept, keptAt, keeps, keepAll, printed, shows, showAll}
+use Rattle.visit.specs.Visiting.{Kept, keptAt, keepAll, printed, showAll}
 use Rattle.leaf.specs.Answers.{numbered}
 use Rattle.layout.proofs.Entries.{Rising}
 use Rattle.layout.proofs.Named.{LeafAt, leaves-rise, rising-from}

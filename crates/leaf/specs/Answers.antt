@@ -1,6 +1,6 @@
 -- The leaf record and the leaf printer (document 01, "Leaf record", "Block and sheet" and the table of numbers): the whole answer for every input.
 use Prim.Native.Nat.{ℕ, _+_}
-use mathlib.Core.Bool.{Bool, true, false}
+use mathlib.Core.Bool.{Bool, true}
 use mathlib.Core.List.{List, [], _∷_, _++_}
 use mathlib.Core.Option.{Option, some, none}
 use lib.ListN.{length, drop, getD}

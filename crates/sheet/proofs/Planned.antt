@@ -1,12 +1,12 @@
 -- What the sheet printer works out is what the definition says. Assumes nothing.
 use mathlib.Core.Path.{_≡_, refl, sym, ap, _∙_}
-use Prim.Native.Nat.{ℕ, suc, _+_, _-_, _*_, _≤_, _<_}
+use Prim.Native.Nat.{ℕ, _+_, _-_, _*_, _≤_, _<_}
 use native.Mathlib.Omega.{arith}
 use mathlib.Core.Bool.{Bool, true, false}
-use mathlib.Core.List.{List, [], _∷_, _++_, map}
-use lib.ListN.{length, take, drop, getD, replicate, length-map}
+use mathlib.Core.List.{List, [], _∷_, map}
+use lib.ListN.{length, take, getD, replicate, length-map}
 use lib.Seq.{take-append-seam}
-use lib.Dec.{eqb, ltb}
+use lib.Dec.{eqb}
 use borrow.Author.Tests.{eqb-false, ne-eqb, le-ltb, lt-ltb}
 use Rattle.common.specs.Choice.{pick}
 use Rattle.settings.specs.declared.Settings.{Settings}
@@ -17,7 +17,6 @@ use Rattle.sizes.specs.Allotting.{allottedWidth}
 use Rattle.sizes.specs.Core.{coreOf}
 use Rattle.sizes.proofs.Within.{tree-sizes-length}
 use Rattle.block.specs.Every.{Every}
-use Rattle.block.proofs.Every.{every-map}
 use Rattle.layout.specs.Walk.{Placed, leaves, W, H}
 use Rattle.layout.proofs.Narrow.{HasWidth, Wide, nodes-wide, leaves-wide}
 use Rattle.leaf.proofs.Calls.{root-first}

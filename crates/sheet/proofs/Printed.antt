@@ -1,32 +1,29 @@
 -- What the sheet printer answers, from the plan and the walk. Assumes nothing.
 use mathlib.Core.Path.{_≡_, refl, sym, ap, _∙_}
-use Prim.Native.Nat.{ℕ, _+_, _-_, _*_, _≤_, _<_}
+use Prim.Native.Nat.{ℕ, _+_, _-_, _*_, _≤_}
 use native.Mathlib.Omega.{arith}
 use native.Mathlib.Nat.{mul-le-mul}
 use mathlib.Core.Bool.{Bool, true, false}
 use mathlib.Core.List.{List, [], _∷_, _++_}
 use lib.ListN.{length, take, drop, replicate, length-replicate}
-use lib.Seq.{sets, sets-eq, length-sets}
+use lib.Seq.{sets, sets-eq}
 use lib.Dec.{ltb}
 use borrow.Author.Tests.{ltb-false}
 use Rattle.common.specs.Choice.{pick}
 use Rattle.settings.specs.declared.Settings.{Settings}
-use Rattle.tree.specs.Tree.{Tree, nodes}
-use Rattle.sizes.specs.declared.Core.{Core}
+use Rattle.tree.specs.Tree.{Tree}
 use Rattle.sizes.specs.declared.Measured.{Measured}
-use Rattle.sizes.specs.Sizes.{sep}
 use Rattle.sizes.specs.Input.{Input, refused, given, inputOf}
 use Rattle.sizes.specs.Core.{coreOf, measuredOf}
-use Rattle.block.specs.Paint.{pasted, Room}
-use Rattle.block.specs.Block.{block}
+use Rattle.block.specs.Paint.{Room}
 use Rattle.block.specs.Every.{Every}
 use Rattle.block.proofs.Every.{every-map, every-and}
 use Rattle.leaf.specs.declared.Written.{Written}
 use Rattle.visit.specs.declared.Purpose.{Purpose}
 use Rattle.visit.specs.declared.Job.{Job}
 use Rattle.visit.specs.declared.Found.{Found}
-use Rattle.layout.specs.Walk.{Placed, leafOf, leaves, W, H}
-use Rattle.visit.specs.Visiting.{shows, showAll, Asks, InSheet}
+use Rattle.layout.specs.Walk.{Placed, leaves, W, H}
+use Rattle.visit.specs.Visiting.{showAll, Asks}
 use Rattle.walk.specs.Walking.{coreLists, ReadyTree, WalksTree}
 use Rattle.leaf.specs.Answers.{tooLarge, Prints, noPrint, printTo, largeOf}
 use Rattle.layout.proofs.Laid.{root-laid}

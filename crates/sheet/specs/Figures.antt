@@ -1,33 +1,18 @@
--- The nine starred figures of document 01, computed on the definitions: F1 to F5 from the settings' and the tree's bytes to the sheet's bytes, F6 to F9 on the cut.
+-- The nine starred figures of document 01, computed on the definitions: F1 to F5 from the settings' and the tree's bytes to the sheet's bytes; F6 to F9, on the cut, are splits'.
 use mathlib.Core.Path.{_≡_, refl}
 use Prim.Native.Nat.{ℕ, _-_}
-use mathlib.Core.Bool.{Bool, true, false}
+use mathlib.Core.Bool.{Bool, true}
 use mathlib.Core.List.{List, [], _∷_, _++_}
 use lib.ListN.{length, replicate}
 use lib.Dec.{eqb}
-use Rattle.common.specs.Choice.{pick, both}
+use Rattle.common.specs.Choice.{both}
 use Rattle.settings.specs.Reading.{readSettings}
 use Rattle.tree.specs.Reading.{readTree, readElement, headerOf, isText}
-use Rattle.splits.specs.Splits.{shortSplits3}
+use Rattle.splits.specs.Figures.{same, all, cuts}
 use Rattle.sizes.specs.Sizes.{sep}
 use Rattle.sizes.specs.Input.{inputOf}
 use Rattle.leaf.specs.Answers.{Prints}
 use Rattle.sheet.specs.Answers.{sheetOf}
-
-pub same : List ℕ → List ℕ → Bool
-same [] [] = true
-same [] (b ∷ ys) = false
-same (a ∷ xs) [] = false
-same (a ∷ xs) (b ∷ ys) = pick (eqb a b) (same xs ys) false
-
-pub alike : Bool → Bool → Bool
-alike true b = b
-alike false true = false
-alike false false = true
-
-pub all : List Bool → Bool
-all [] = true
-all (b ∷ bs) = both b (all bs)
 
 -- accepted, with these bytes at the front of an output of 64 bytes, which were 0, and their count
 pub printed : Prints → List ℕ → Bool
@@ -39,11 +24,6 @@ pub figure : List ℕ → List ℕ → List ℕ → Bool
 unfolding printed sheetOf inputOf
 figure s t bs = printed (sheetOf (inputOf s t) (replicate 64 0)) bs
 
--- the cut of ps at w: yes or no, what it took, what it left
-pub cutIs : List ℕ → ℕ → Bool → List ℕ → List ℕ → Bool
-unfolding shortSplits3 alike same
-cutIs ps w y t l = both (alike (shortSplits3 ps w .split) y) (both (same (shortSplits3 ps w .taken) t) (same (shortSplits3 ps w .left) l))
-
 -- the default settings, and those with the marks `-_()hv123456789`
 pub D : List ℕ
 D = 16 ∷ 0 ∷ 28 ∷ 45 ∷ 45 ∷ 124 ∷ 124 ∷ 45 ∷ 124 ∷ 43 ∷ 43 ∷ 43 ∷ 43 ∷ 43 ∷ 43 ∷ 43 ∷ 43 ∷ 43 ∷ 1 ∷ 1 ∷ 0 ∷ 0 ∷ 32 ∷ 32 ∷ 32 ∷ 32 ∷ 0 ∷ 0 ∷ 0 ∷ 2 ∷ 2 ∷ []
@@ -52,18 +32,14 @@ pub M : List ℕ
 M = 16 ∷ 0 ∷ 28 ∷ 45 ∷ 95 ∷ 40 ∷ 41 ∷ 104 ∷ 118 ∷ 49 ∷ 50 ∷ 51 ∷ 52 ∷ 53 ∷ 54 ∷ 55 ∷ 56 ∷ 57 ∷ 1 ∷ 1 ∷ 0 ∷ 0 ∷ 32 ∷ 32 ∷ 32 ∷ 32 ∷ 0 ∷ 0 ∷ 0 ∷ 2 ∷ 2 ∷ []
 
 pub figures : List Bool
-unfolding figure cutIs D M
+unfolding figure cuts D M
 figures =
     figure D (1 ∷ 0 ∷ 2 ∷ 97 ∷ 98 ∷ []) (43 ∷ 45 ∷ 45 ∷ 45 ∷ 45 ∷ 43 ∷ 10 ∷ 124 ∷ 32 ∷ 97 ∷ 98 ∷ 32 ∷ 124 ∷ 10 ∷ 43 ∷ 45 ∷ 45 ∷ 45 ∷ 45 ∷ 43 ∷ [])
     ∷ figure M (3 ∷ 0 ∷ 20 ∷ 1 ∷ 0 ∷ 6 ∷ 97 ∷ 98 ∷ 99 ∷ 100 ∷ 101 ∷ 102 ∷ 2 ∷ 0 ∷ 8 ∷ 1 ∷ 0 ∷ 1 ∷ 97 ∷ 1 ∷ 0 ∷ 1 ∷ 98 ∷ []) (49 ∷ 45 ∷ 45 ∷ 45 ∷ 45 ∷ 45 ∷ 45 ∷ 45 ∷ 45 ∷ 50 ∷ 10 ∷ 40 ∷ 32 ∷ 97 ∷ 98 ∷ 99 ∷ 100 ∷ 101 ∷ 102 ∷ 32 ∷ 41 ∷ 10 ∷ 55 ∷ 45 ∷ 45 ∷ 45 ∷ 45 ∷ 51 ∷ 45 ∷ 45 ∷ 45 ∷ 56 ∷ 10 ∷ 40 ∷ 32 ∷ 97 ∷ 32 ∷ 32 ∷ 40 ∷ 32 ∷ 98 ∷ 32 ∷ 41 ∷ 10 ∷ 52 ∷ 95 ∷ 95 ∷ 95 ∷ 95 ∷ 54 ∷ 95 ∷ 95 ∷ 95 ∷ 53 ∷ [])
     ∷ figure M (3 ∷ 0 ∷ 15 ∷ 2 ∷ 0 ∷ 8 ∷ 1 ∷ 0 ∷ 1 ∷ 97 ∷ 1 ∷ 0 ∷ 1 ∷ 98 ∷ 1 ∷ 0 ∷ 1 ∷ 99 ∷ []) (49 ∷ 45 ∷ 45 ∷ 45 ∷ 51 ∷ 45 ∷ 45 ∷ 45 ∷ 50 ∷ 10 ∷ 40 ∷ 32 ∷ 97 ∷ 32 ∷ 40 ∷ 32 ∷ 98 ∷ 32 ∷ 41 ∷ 10 ∷ 55 ∷ 45 ∷ 45 ∷ 45 ∷ 54 ∷ 45 ∷ 45 ∷ 45 ∷ 56 ∷ 10 ∷ 40 ∷ 32 ∷ 99 ∷ 32 ∷ 32 ∷ 32 ∷ 32 ∷ 32 ∷ 41 ∷ 10 ∷ 52 ∷ 95 ∷ 95 ∷ 95 ∷ 95 ∷ 95 ∷ 95 ∷ 95 ∷ 53 ∷ [])
     ∷ figure M (3 ∷ 0 ∷ 22 ∷ 2 ∷ 0 ∷ 8 ∷ 1 ∷ 0 ∷ 1 ∷ 97 ∷ 1 ∷ 0 ∷ 1 ∷ 98 ∷ 2 ∷ 0 ∷ 8 ∷ 1 ∷ 0 ∷ 1 ∷ 97 ∷ 1 ∷ 0 ∷ 1 ∷ 98 ∷ []) (49 ∷ 45 ∷ 45 ∷ 45 ∷ 51 ∷ 45 ∷ 45 ∷ 45 ∷ 50 ∷ 10 ∷ 40 ∷ 32 ∷ 97 ∷ 32 ∷ 40 ∷ 32 ∷ 98 ∷ 32 ∷ 41 ∷ 10 ∷ 55 ∷ 45 ∷ 45 ∷ 45 ∷ 57 ∷ 45 ∷ 45 ∷ 45 ∷ 56 ∷ 10 ∷ 40 ∷ 32 ∷ 97 ∷ 32 ∷ 40 ∷ 32 ∷ 98 ∷ 32 ∷ 41 ∷ 10 ∷ 52 ∷ 95 ∷ 95 ∷ 95 ∷ 54 ∷ 95 ∷ 95 ∷ 95 ∷ 53 ∷ [])
     ∷ figure M (2 ∷ 0 ∷ 15 ∷ 3 ∷ 0 ∷ 8 ∷ 1 ∷ 0 ∷ 1 ∷ 97 ∷ 1 ∷ 0 ∷ 1 ∷ 98 ∷ 1 ∷ 0 ∷ 1 ∷ 99 ∷ []) (49 ∷ 45 ∷ 45 ∷ 45 ∷ 51 ∷ 45 ∷ 45 ∷ 45 ∷ 50 ∷ 10 ∷ 40 ∷ 32 ∷ 97 ∷ 32 ∷ 40 ∷ 32 ∷ 99 ∷ 32 ∷ 41 ∷ 10 ∷ 55 ∷ 45 ∷ 45 ∷ 45 ∷ 56 ∷ 32 ∷ 32 ∷ 32 ∷ 41 ∷ 10 ∷ 40 ∷ 32 ∷ 98 ∷ 32 ∷ 40 ∷ 32 ∷ 32 ∷ 32 ∷ 41 ∷ 10 ∷ 52 ∷ 95 ∷ 95 ∷ 95 ∷ 54 ∷ 95 ∷ 95 ∷ 95 ∷ 53 ∷ [])
-    ∷ cutIs (4 ∷ 2 ∷ []) 5 false (4 ∷ []) (1 ∷ [])
-    ∷ cutIs (3 ∷ 3 ∷ []) 3 true [] (3 ∷ [])
-    ∷ cutIs (5 ∷ []) 0 false [] (4 ∷ [])
-    ∷ cutIs (0 ∷ 5 ∷ []) 0 true [] (5 ∷ [])
-    ∷ []
+    ∷ cuts
 
 pub figures-hold : all figures ≡ true
 unfolding all figures sep readSettings readTree readElement headerOf isText

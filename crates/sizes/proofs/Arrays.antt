@@ -1,6 +1,6 @@
 -- An array of 512 size records in a local, as memory that is read by the element or lent as a slice; and back. For the functions that are walked by hand.
 -- Assumes nothing.
-use mathlib.Core.Path.{_≡_, refl, sym, ap, _∙_}
+use mathlib.Core.Path.{_≡_, refl, ap, _∙_}
 use Prim.Native.Nat.{ℕ}
 use mathlib.Core.List.{[], _∷_, List, map}
 use lib.ListN.{length, length-map}
@@ -13,7 +13,7 @@ use base.Fml.{fsep, fat}
 use prog.Wp.{Heap}
 use ghost.Atoms.{Atoms, sem}
 use types.Kit.{Given, ‵, given, mean, _$_, _∵_, !, qed, move, drop, use1, check, fsplit, fjoin, fpick, fpack, feqI, done}
-use types.SemTy.{cells, Arr}
+use types.SemTy.{cells}
 use types.Share.{arr-parts}
 use denote.RattleType.{RattleType}
 use denote.Shadow.{shadow}
@@ -21,7 +21,7 @@ use denote.Laws.{Is, shows}
 use denote.Memory.{mem, shares, cellAt, partAt, partOf}
 use denote.Array.{Array, each, arrayVal, array-vals, array-tells, array-makes}
 use denote.ArrayMemory.{array-apart, array-whole}
-use denote.Index.{row, whole-in, whole-out}
+use denote.Index.{row, whole-in}
 use denote.Steps.{only, owned, peeks}
 use denote.Struct.Steps.{spelt}
 use denote.Struct.Field.{Field}

@@ -1,20 +1,19 @@
 -- The sizes of a whole tree in the core's arrays. Assumes nothing.
-use mathlib.Core.Path.{_≡_, refl, sym, ap, _∙_}
+use mathlib.Core.Path.{_≡_, refl, ap, _∙_}
 use Prim.Native.Nat.{ℕ, zero, suc, _+_, _-_, _≤_}
 use native.Mathlib.Omega.{arith}
-use mathlib.Core.List.{List, [], _∷_, _++_, map, map-append}
+use mathlib.Core.List.{List, _∷_, _++_, map, map-append}
 use lib.ListN.{length, drop, replicate, length-replicate, length-map}
 use lib.Seq.{sets, sets-eq}
 use Rattle.common.specs.Arrays.{padded}
 use Rattle.settings.specs.declared.Settings.{Settings}
 use Rattle.tree.specs.Tree.{Axis, Tree, cell, group, Trees, none, more, count, nodes}
 use Rattle.sizes.specs.declared.Size.{Size}
-use Rattle.sizes.specs.declared.Core.{Core}
 use Rattle.sizes.specs.declared.natural.Node.{Node}
 use Rattle.sizes.specs.Sizes.{natural, allot, spareOf, childSize, Sizes, sizes, sizes*, treeSizes}
 use Rattle.sizes.specs.Collecting.{wide, tall, naturalSizes, naturalSizes*, ReadyNode, Collects}
 use Rattle.sizes.specs.Allotting.{allottedWidth, allottedHeight, ReadyTree, Allots}
-use Rattle.sizes.specs.Core.{naturalWidth, naturalHeight, coreOf, ReadyRoot}
+use Rattle.sizes.specs.Core.{coreOf, ReadyRoot}
 use Rattle.sizes.proofs.Fill.{fits-refl}
 use Rattle.sizes.proofs.Within.{tree-sizes-length}
 use Rattle.sizes.proofs.Naturals.{natural-sizes-length}

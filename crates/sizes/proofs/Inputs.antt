@@ -1,6 +1,6 @@
 -- What the readers' answers say of the input. Assumes nothing.
-use mathlib.Core.Path.{_≡_, refl, ap, _∙_}
-use Prim.Native.Nat.{ℕ, _≤_}
+use mathlib.Core.Path.{_≡_, refl, ap}
+use Prim.Native.Nat.{ℕ}
 use native.Mathlib.Omega.{arith}
 use mathlib.Core.List.{List}
 use Rattle.settings.specs.declared.Settings.{Settings}
@@ -14,7 +14,7 @@ use Rattle.tree.specs.Reading as tree
 use Rattle.tree.specs.Reading.{ReadOne, one, readTree}
 use Rattle.tree.proofs.Sound.{tree-sound, tree-refusal}
 use Rattle.sizes.specs.declared.Core.{Core}
-use Rattle.sizes.specs.Input.{Input, refused, given, settingsInput, treeInput, inputOf}
+use Rattle.sizes.specs.Input.{refused, settingsInput, treeInput, inputOf}
 use Rattle.sizes.specs.Core.{refusedWith, measuredOf, coreOf, ReadyRoot}
 use Rattle.sizes.proofs.Limits.{Limits, read-limits, root-width, root-height}
 

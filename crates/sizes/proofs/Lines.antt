@@ -1,5 +1,5 @@
 -- The lines of a text, one after the other, and what is measured of them. Assumes nothing.
-use mathlib.Core.Path.{_≡_, refl, ap, _∙_}
+use mathlib.Core.Path.{_≡_, refl, ap}
 use mathlib.Core.List.{List, [], _∷_, map}
 use Prim.Native.Nat.{ℕ, zero, suc, _+_, _-_, _≤_, _<_, max}
 use native.Mathlib.Omega.{arith}
@@ -10,7 +10,6 @@ use lib.Seq.{drop-cons, length-take-le}
 use lib.Dec.{eqb}
 use borrow.Author.Tests.{eq-eqb, ne-eqb}
 use Rattle.common.specs.Choice.{pick}
-use Rattle.sizes.specs.declared.Size.{Size}
 use Rattle.sizes.specs.Text.{onto, lines, greatest, lineLengths, textWidth, textHeight}
 use Rattle.sizes.specs.Measuring.{firstLine, textSize}
 

@@ -6,7 +6,7 @@ use native.Mathlib.Numerals.{add-one}
 use native.Mathlib.Omega.{arith}
 use mathlib.Core.Bool.{Bool, true, false}
 use lib.Dec.{ltb}
-use lib.ListN.{length, drop-of-length-le, getD, take, drop, set, replicate, length-append, length-drop, length-map, length-replicate, List·getD-map, List·getD-append}
+use lib.ListN.{length, drop-of-length-le, getD, take, drop, set, replicate, length-append, length-drop, length-map, List·getD-map, List·getD-append}
 use lib.Seq.{drop-cons, set-at, take-suc, take-at, take-all, take-length, length-take-le}
 use borrow.Author.Tests.{lt-ltb, le-ltb, ltb-false}
 use Rattle.common.specs.Choice.{pick}

@@ -4,22 +4,21 @@ use mathlib.Core.List.{List, [], _∷_}
 use Prim.Native.Nat.{ℕ, suc, _+_, _-_, _*_, _≤_, _<_}
 use native.Mathlib.Omega.{arith}
 use mathlib.Core.Bool.{Bool, true, false}
-use lib.ListN.{length, getD, take, drop}
+use lib.ListN.{length, take, drop}
 use Rattle.common.specs.Choice.{pick}
 use Rattle.settings.specs.declared.Settings.{Settings}
 use Rattle.tree.specs.declared.front.Front.{Front}
-use Rattle.tree.specs.Tree.{Axis, Tree, cell, group, Trees, none, empty?, count, nodes, nodes*}
-use Rattle.tree.specs.Bytes.{Is, Are, axisOf, frontOf}
+use Rattle.tree.specs.Tree.{Axis, Tree, group, Trees, empty?, count, nodes, nodes*}
+use Rattle.tree.specs.Bytes.{axisOf, frontOf}
 use Rattle.tree.proofs.Fronts.{LeafIs, a-cell, an-empty, leaf-nodes, leaf-at, GroupAt, group-at, inside-shorter}
 use Rattle.sizes.specs.declared.Size.{Size}
 use Rattle.sizes.specs.Sizes.{natural, leafSize, spareOf}
 use Rattle.sizes.specs.Collecting.{sizeAt}
-use Rattle.block.specs.Every.{Every}
 use Rattle.layout.specs.declared.Ctx.{Ctx}
 use Rattle.visit.specs.declared.Job.{Job}
 use Rattle.visit.specs.declared.Found.{Found}
 use Rattle.walk.specs.declared.group.Answer.{Answer}
-use Rattle.layout.specs.Walk.{Context, Placed, Walked, leafWalked, walk}
+use Rattle.layout.specs.Walk.{Context, Placed, leafWalked, walk}
 use Rattle.layout.specs.Contexts.{ctxOf, placedOf}
 use Rattle.visit.specs.Visiting.{keptOf, keeps, keepAll, shows, showAll, Asks}
 use Rattle.walk.specs.Walking.{Lie, LeafReadyBy, LeavesBy, Walks, Lists, Here, Allotted, AllottedIn, Ready, ReadyIn, walked, grouped, walkedIn}

@@ -4,8 +4,8 @@ use mathlib.Core.List.{List, []}
 use mathlib.Core.Bool.{true}
 use Prim.Native.Nat.{ℕ, _+_, _≤_}
 use native.Mathlib.Omega.{arith}
-use lib.ListN.{length, take}
-use Rattle.tree.specs.Tree.{across, nodes}
+use lib.ListN.{length}
+use Rattle.tree.specs.Tree.{nodes}
 use Rattle.layout.specs.declared.Ctx.{Ctx}
 use Rattle.visit.specs.declared.Job.{Job}
 use Rattle.visit.specs.declared.Found.{Found}

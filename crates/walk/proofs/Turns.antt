@@ -1,7 +1,7 @@
 -- What a turn of the loop over a group's children does, over plain lists and trees. Assumes nothing.
 use mathlib.Core.Path.{_≡_, refl, sym, ap, subst, _∙_}
-use mathlib.Core.List.{List, [], _∷_, _++_, append-assoc, append-nil}
-use Prim.Native.Nat.{ℕ, zero, suc, _+_, _-_, _*_, _≤_, _<_}
+use mathlib.Core.List.{List, [], _++_, append-assoc, append-nil}
+use Prim.Native.Nat.{ℕ, suc, _+_, _-_, _*_, _≤_, _<_}
 use native.Mathlib.Omega.{arith}
 use native.Mathlib.Numerals.{add-one}
 use mathlib.Core.Bool.{Bool, true, false}
@@ -10,13 +10,11 @@ use lib.Seq.{paste, take-paste, drop-drop, take-append-add, length-take-le}
 use lib.Dec.{eqb}
 use borrow.Author.Tests.{ne-eqb}
 use Rattle.common.specs.Choice.{pick}
-use Rattle.settings.specs.declared.Settings.{Settings}
 use Rattle.tree.specs.Tree.{Axis, Tree, Trees, none, more, count, nodes, nodes*}
 use Rattle.tree.specs.Bytes.{Is, Are, lengthAt, axisOf}
 use Rattle.tree.proofs.Fronts.{is-whole, nodes-low}
 use Rattle.splits.specs.Splits.{Cut, shortSplits3}
 use Rattle.splits.proofs.Lists.{cut-few}
-use Rattle.sizes.specs.declared.Size.{Size}
 use Rattle.sizes.specs.Sizes.{sep, natural, allot, spareOf, childSize}
 use Rattle.block.specs.Every.{Every}
 use Rattle.block.proofs.Every.{every-front, every-back}
@@ -27,10 +25,10 @@ use Rattle.visit.specs.declared.Found.{Found}
 use Rattle.walk.specs.declared.group.Answer.{Answer}
 use Rattle.walk.specs.declared.group.Going.{Going}
 use Rattle.walk.specs.declared.group.Planned.{Planned}
-use Rattle.layout.specs.Walk.{Context, Placed, Walked, alongList, besideList, child, joinWalked, walk, children}
-use Rattle.layout.specs.Contexts.{spotOf, ctxOf, childSpot, childCtx}
+use Rattle.layout.specs.Walk.{Context, Walked, alongList, besideList, child, joinWalked, walk, children}
+use Rattle.layout.specs.Contexts.{spotOf, ctxOf}
 use Rattle.visit.specs.Visiting.{keptOf, Few, keepAll, showAll, Asks}
-use Rattle.walk.specs.Walking.{cutOf, Plans, Looks, extentAt, startOf, advanceOf, finishOf, Lie, Walks, Lists, Here, Allotted, AllottedIn, Ready, ReadyIn, walked, grouped, walkedIn}
+use Rattle.walk.specs.Walking.{cutOf, Plans, Looks, startOf, advanceOf, finishOf, Walks, Lists, Here, Allotted, AllottedIn, Ready, ReadyIn, walked, walkedIn}
 use Rattle.walk.proofs.Outcome.{alongW, besideW, join-along, join-beside, join-leaves, none-along, none-beside, none-leaves, childAt, children-none, children-more, few-beside, walk-few, children-few, keep-append, keep-nil, show-append, show-nil}
 use Rattle.walk.proofs.Steps.{here-of, last-is, sep-is, child-ctx, child-node, child-size, child-low, child-few, child-along, extent-is, extent-small, axis-few, along-count, beside-count, horizontal-count, vertical-count}
 

@@ -10,7 +10,6 @@ use sizes::lists::size_at;
 use splits::lent::copy_pieces;
 use visit::Found;
 use visit::Job;
-ghost use mathlib.Core.Path.{_≡_};
 ghost use Prim.Native.Nat.{suc, _+_};
 ghost use Rattle.tree.specs.Tree.{nodes, nodes*};
 ghost use lib.ListN.{length};

@@ -1,6 +1,3 @@
-use native.Mathlib.Omega.{arith}
-use Prim.Native.Nat.{_≤_}
-use lib.ListN.{length}
 use Rattle.walk.proofs.Roots.{root-ready, root-answers}
 use borrow.Author.Needs.{needs}
 use Rattle.walk.proofs.walk_tree.Statement.{statement}

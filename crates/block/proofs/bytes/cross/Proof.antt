@@ -2,7 +2,7 @@ use mathlib.Core.Path.{_≡_, refl, sym, _∙_}
 use Prim.Native.Nat.{_-_, _≤_}
 use native.Mathlib.Omega.{arith}
 use mathlib.Core.Logic.{⊎-elim}
-use lib.ListN.{length, take, drop, getD, length-set}
+use lib.ListN.{length, drop, getD, length-set}
 use borrow.Author.Needs.{needs}
 use Rattle.splits.specs.Splits.{named}
 use Rattle.splits.proofs.Named.{namedFrom, named-from}

@@ -1,7 +1,7 @@
 use lib.ListN.{drop}
 use Rattle.splits.specs.Cuts.{CutsIn}
 use Rattle.walk.specs.Walking.{extentAt}
-use mathlib.Core.Path.{_≡_, refl, _∙_}
+use mathlib.Core.Path.{_∙_}
 use native.Mathlib.Omega.{arith}
 use borrow.Rule.Slice.PartAt.{part-to-end}
 use Rattle.walk.proofs.Pieces.{part-back, plans}
