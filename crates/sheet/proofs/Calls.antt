@@ -11,7 +11,12 @@ use borrow.Author.Tests.{le-ltb}
 use Rattle.common.specs.Choice.{pick}
 use Rattle.settings.specs.declared.Settings.{Settings}
 use Rattle.tree.specs.Tree.{Tree}
+use Rattle.sizes.specs.Text.{lines}
+use Rattle.sizes.specs.Sizes.{treeSizes}
 use Rattle.sizes.specs.Input.{Input, refused, given, inputOf}
+use Rattle.sizes.proofs.Nodes.{sizesAt}
+use Rattle.block.specs.Block.{tall, wide}
+use Rattle.block.proofs.Every.{Dims}
 use Rattle.layout.specs.Walk.{Placed, leaves, W, H}
 use Rattle.leaf.specs.Answers.{tooLarge, Prints, noPrint, printTo, leafPrintOf}
 use Rattle.sizes.proofs.Given.{takes, refusal-low}
@@ -21,7 +26,7 @@ use Rattle.sheet.specs.Sheet.{sheet}
 use Rattle.sheet.specs.Answers.{narrow, sheetOf}
 use Rattle.sheet.proofs.Planned.{narrow-wide}
 use Rattle.sheet.proofs.Tiling.{Covers}
-use Rattle.sheet.proofs.Demand3.{Accepted, blockOf, placeAt, OneLeaf, covered-once, none-outside, place-owned}
+use Rattle.sheet.proofs.Demand3.{Accepted, blockOf, placeAt, OneLeaf, sheet-rectangle, block-rectangle, covered-once, none-outside, place-owned}
 
 -- the bytes that a printer wrote
 abbrev pub written : Prints → List ℕ
@@ -87,8 +92,17 @@ module _ (bs ts o : List ℕ) (h : sheetOf (inputOf bs ts) o .answer .number ≡
   abbrev t : Tree
   t = accepted .tree
 
-  demands : Accepted s t
+  pub demands : Accepted s t
   demands = record { ranges = takes bs ts s t (accepted .input) .ranges; widths = narrow-wide (leaves s t) (accepted .wide) }
+
+  -- "its rectangle is its H lines of W columns"
+  pub sheet-lines : Dims (lines (written (sheetOf (inputOf bs ts) o))) (H s t) (W s t)
+  sheet-lines = rw (accepted .bytes) (sheet-rectangle s t demands)
+
+  -- a leaf's block, as the leaf printer writes it, has the lines and columns of the size that the collector writes at its node
+  pub block-lines : {n : ℕ} {f : Placed} → LeafAt s t n f → (o₁ : List ℕ) → length (blockOf s f) ≤ length o₁
+      → Dims (lines (written (leafPrintOf (inputOf bs ts) n o₁))) (tall s (sizesAt (treeSizes s t) n .allotted) (f .at .flags)) (wide s (sizesAt (treeSizes s t) n .allotted) (f .at .flags))
+  block-lines p o₁ e = rw (accepted .input, leaf-written s t o₁ (accepted .within) p e) (block-rectangle s t demands p)
 
   -- "Each place of an accepted sheet's rectangle lies in exactly one leaf's block"
   pub each-place : (l k : ℕ) → l < H s t → k < W s t → OneLeaf s t l k

@@ -89,6 +89,7 @@ pub fn print_sheet(settings: &[u8], tree: &[u8], out: &mut [u8]) -> Written
         };
     }
     let s = m.settings;
+    // No node is wanted: their numbers end at 511.
     let job = Job {
         purpose: Purpose::Sheet,
         settings: s,

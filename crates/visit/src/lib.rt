@@ -21,7 +21,7 @@ pub enum Purpose {
     Sheet,
 }
 
-// The purpose, the wanted leaf's number, and the bytes from one of the sheet's lines to the next.
+// The purpose, the settings, the wanted leaf's number, and the bytes from one of the sheet's lines to the next.
 pub struct Job {
     pub purpose: Purpose,
     pub settings: Settings,

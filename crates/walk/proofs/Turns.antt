@@ -28,7 +28,7 @@ use Rattle.walk.specs.declared.group.Planned.{Planned}
 use Rattle.layout.specs.Walk.{Context, Walked, alongList, besideList, child, joinWalked, walk, children}
 use Rattle.layout.specs.Contexts.{spotOf, ctxOf}
 use Rattle.visit.specs.Visiting.{keptOf, Few, keepAll, showAll, Asks}
-use Rattle.walk.specs.Walking.{cutOf, Plans, Looks, startOf, advanceOf, finishOf, Walks, Lists, Here, Allotted, AllottedIn, Ready, ReadyIn, walked, walkedIn}
+use Rattle.walk.specs.Walking.{uncut, Plans, Looks, startOf, advanceOf, finishOf, Walks, Lists, Here, Allotted, AllottedIn, Ready, ReadyIn, walked, walkedIn}
 use Rattle.walk.proofs.Outcome.{alongW, besideW, join-along, join-beside, join-leaves, none-along, none-beside, none-leaves, childAt, children-none, children-more, few-beside, walk-few, children-few, keep-append, keep-nil, show-append, show-nil}
 use Rattle.walk.proofs.Steps.{here-of, last-is, sep-is, child-ctx, child-node, child-size, child-low, child-few, child-along, extent-is, extent-small, axis-few, along-count, beside-count, horizontal-count, vertical-count}
 
@@ -61,7 +61,7 @@ module _ (job : Job) (s : List ℕ) (ls : Lists) (a : Bool) (x : Ctx) (al₀ be�
     pub offset-is : g .offset ≡ offset
     pub low-offset : offset + 65537 * suc (q .at .node) ≤ 65537 * g .node
     pub first : g .first ≡ eqb i 0
-    pub cut-is : cutOf g al ≡ cut
+    pub cut-is : uncut g al ≡ cut
     pub cut-in : g .from + g .left ≤ length al
     pub handed-is : take (g .handed) be ≡ handed
     pub handed-count : g .handed ≡ length handed

@@ -33,19 +33,19 @@ extentAt true ws hs n = getD ws n 0
 extentAt false ws hs n = getD hs n 0
 
 -- the pieces that are still to be cut
-abbrev pub cutOf : Going → List ℕ → List ℕ
-cutOf g al = take (g .left) (drop (g .from) al)
+abbrev pub uncut : Going → List ℕ → List ℕ
+uncut g al = take (g .left) (drop (g .from) al)
 
 -- the child at g's node, of that extent e along the axis, whose element takes `used` bytes, in a group that starts at b: its pieces are cut off those in al₀, and go after those that jo₀ has
 pub record Plans (g : Going) (b : Spot) (a last : Bool) (e used : ℕ) (r : Planned) (al₀ al jo₀ jo : List ℕ) : Type 0 where
   pub used-is : r .used ≡ used
   pub offset-is : r .offset ≡ g .offset + e + 1
-  pub child-is : r .child ≡ childCtx a (g .node) (childSpot a b (g .offset) (g .first) last (g .old)) (length (shortSplits3 (cutOf g al₀) e .taken)) (g .handed)
-  pub split-is : r .split ≡ shortSplits3 (cutOf g al₀) e .split
+  pub child-is : r .child ≡ childCtx a (g .node) (childSpot a b (g .offset) (g .first) last (g .old)) (length (shortSplits3 (uncut g al₀) e .taken)) (g .handed)
+  pub split-is : r .split ≡ shortSplits3 (uncut g al₀) e .split
   pub same-end : r .from + r .left ≡ g .from + g .left
-  pub left-is : take (r .left) (drop (r .from) al) ≡ shortSplits3 (cutOf g al₀) e .left
+  pub left-is : take (r .left) (drop (r .from) al) ≡ shortSplits3 (uncut g al₀) e .left
   pub front-is : take (g .joined) jo ≡ take (g .joined) jo₀
-  pub taken-is : take (length (shortSplits3 (cutOf g al₀) e .taken)) (drop (g .joined) jo) ≡ shortSplits3 (cutOf g al₀) e .taken
+  pub taken-is : take (length (shortSplits3 (uncut g al₀) e .taken)) (drop (g .joined) jo) ≡ shortSplits3 (uncut g al₀) e .taken
 
 -- a child is the last where its element ends the part
 abbrev pub Looks : List ℕ → List ℕ → List ℕ → Going → Spot → Bool → Planned → List ℕ → List ℕ → List ℕ → List ℕ → Type 0
