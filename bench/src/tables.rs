@@ -44,6 +44,11 @@ fn text(width: usize, lines: usize) -> Tree {
     Tree::cell(vec!["x".repeat(width); lines].join("\n"))
 }
 
+/// Rows of Cells that are full of text.
+fn texts(rows: usize, columns: usize, width: usize, lines: usize) -> Tree {
+    Tree::Column(vec![Tree::Row(vec![text(width, lines); columns]); rows])
+}
+
 /// 400 columns by 160 lines under the defaults: 20 Rows of 24 Cells.
 fn full() -> Tree {
     let cell = |row: usize, column: usize| {
@@ -72,17 +77,19 @@ pub fn families() -> Vec<(&'static str, Vec<Table>)> {
     let grids = each(&[(4, 4), (10, 10), (16, 30), (30, 16)], by, |(rows, columns)| grid(rows, columns));
     let nests = each(&[(2, 4), (2, 6), (4, 3), (2, 8)], |(n, depth)| format!("{n} wide, {depth} deep"), |(n, depth)| nested(n, depth, true));
     let deeps = each(&[4, 8, 16], |n| format!("{n} deep"), deep);
-    let texts = each(&[(40, 20), (200, 80), (396, 80)], by, |(width, lines)| text(width, lines));
+    let one_text = each(&[(40, 20), (200, 80), (396, 80)], by, |(width, lines)| text(width, lines));
+    let pages = each(&[(10, 10, 36, 14), (20, 24, 13, 6)], |(a, b, c, d)| format!("{a} by {b} of {c} by {d}"), |(a, b, c, d)| texts(a, b, c, d));
     let wholes = vec![("20 by 24 Cells".to_string(), full()), ("one Cell".to_string(), full_cell())];
     // Flat tables of 100 Cells and more fit without padding.
     let bare = Settings { padding: [0; 4], ..Settings::D };
-    let families: [(&'static str, Settings, Shapes); 7] = [
+    let families: [(&'static str, Settings, Shapes); 8] = [
         ("Row", bare, flat),
         ("Column", bare, column),
         ("grid", Settings::D, grids),
         ("nested", Settings::D, nests),
         ("deep", Settings::D, deeps),
-        ("text", Settings::D, texts),
+        ("text", Settings::D, one_text),
+        ("texts", Settings::D, pages),
         ("400 by 160", Settings::D, wholes),
     ];
     families

@@ -1,17 +1,17 @@
 -- The lines of a text, one after the other, and what is measured of them. Assumes nothing.
-use mathlib.Core.Path.{_≡_, refl, ap}
+use mathlib.Core.Path.{_≡_, refl, ap, _∙_}
 use mathlib.Core.List.{List, [], _∷_, map}
 use Prim.Native.Nat.{ℕ, zero, suc, _+_, _-_, _≤_, _<_, max}
 use native.Mathlib.Omega.{arith}
 use native.Mathlib.Numerals.{add-one}
-use mathlib.Core.Bool.{Bool, true, false}
+use mathlib.Core.Bool.{Bool, true, false, not}
 use lib.ListN.{length, getD, take, drop, length-drop, length-map, drop-of-length-le}
 use lib.Seq.{drop-cons, length-take-le}
 use lib.Dec.{eqb}
-use borrow.Author.Tests.{eq-eqb, ne-eqb}
-use Rattle.common.specs.Choice.{pick}
+use borrow.Author.Tests.{eqb-false, eq-eqb, ne-eqb}
+use Rattle.common.specs.Choice.{pick, both}
 use Rattle.sizes.specs.Text.{onto, lines, greatest, lineLengths, textWidth, textHeight}
-use Rattle.sizes.specs.Measuring.{firstLine, textSize}
+use Rattle.sizes.specs.Measuring.{firstLine, Passed, textSize}
 
 -- ---- where a line ends
 
@@ -27,15 +27,31 @@ first-end : (t : List ℕ) (i : ℕ) → length t ≤ i → firstLine (drop i t)
 unfolding firstLine
 first-end t i h = rw (drop-of-length-le t h)
 
-module _ (t : List ℕ) (from i : ℕ) (inv : from + firstLine (drop from t) ≡ i + firstLine (drop i t)) where
-  pub end-here : i < length t → getD t i 0 ≡ 10 → i ≡ from + firstLine (drop from t)
-  end-here h e = omega (arith, first-here t i h e)
+pub passed-none : (t : List ℕ) (from i : ℕ) → i ≡ from → from ≤ length t → Passed t from i
+passed-none t from i e h = rw e (record { on = omega arith; within = h; same-end = refl })
 
-  pub end-on : i < length t → (getD t i 0 ≡ 10 → ⊥) → from + firstLine (drop from t) ≡ i + 1 + firstLine (drop (i + 1) t)
-  end-on h e = omega (arith, first-on t i h e)
+pub passed-more : (t : List ℕ) (from i j : ℕ) → Passed t from i → Passed t i j → Passed t from j
+passed-more t from i j p q = record { on = omega (arith, p .on, q .on); within = q .within; same-end = p .same-end ∙ q .same-end }
+
+module _ (t : List ℕ) (from i : ℕ) (p : Passed t from i) where
+  pub end-here : i < length t → getD t i 0 ≡ 10 → i ≡ from + firstLine (drop from t)
+  end-here h e = omega (arith, p .same-end, first-here t i h e)
+
+  pub passed-on : i < length t → (getD t i 0 ≡ 10 → ⊥) → Passed t from (i + 1)
+  passed-on h e = record { on = omega (arith, p .on); within = omega arith; same-end = omega (arith, p .same-end, first-on t i h e) }
 
   pub end-all : length t ≤ i → i ≡ from + firstLine (drop from t)
-  end-all h = omega (arith, first-end t i h)
+  end-all h = omega (arith, p .same-end, first-end t i h)
+
+-- the bytes from `from` on that were looked at together: one more of them
+pub plain-on : (t : List ℕ) (from i : ℕ) (p : Bool) → from + i < length t → (p ≡ true → Passed t from (from + i)) → both p (not (eqb (getD t (from + i) 0) 10)) ≡ true → Passed t from (from + (i + 1))
+plain-on t from i p h k e = go p (eqb (getD t (from + i) 0) 10) refl k e
+  where
+    go : (p b : Bool) → eqb (getD t (from + i) 0) 10 ≡ b → (p ≡ true → Passed t from (from + i)) → both p (not b) ≡ true → Passed t from (from + (i + 1))
+    go p true d k e = let z : _≡_ {A = ℕ} 0 1 = cc in absurd (omega arith)
+    go p false d k e =
+        let n : from + (i + 1) ≡ from + i + 1 = omega arith in
+        rw n (passed-on t from (from + i) (k e) h (eqb-false _ 10 d))
 
 first-low : (t : List ℕ) → firstLine t ≤ length t
 unfolding firstLine
