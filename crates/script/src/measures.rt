@@ -1,8 +1,8 @@
 // A node's natural and allotted size, as text, from the list that the size collector writes.
 use crate::text;
+use collector::SizeRecord;
 use lines::compare;
 use lines::tell;
-use sizes::records::SizeRecord;
 
 // The longest text of four numbers.
 const LONGEST: usize = 40;
@@ -15,7 +15,7 @@ fn entry(settings: &[u8], tree: &[u8], node: usize) -> SizeRecord {
         width: 0,
         height: 0,
     };
-    let r = sizes::records::collect_in(settings, tree, [none; 512], 512);
+    let r = collector::collect_in(settings, tree, [none; 512], 512);
     if 512 <= node {
         return none;
     }

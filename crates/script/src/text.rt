@@ -1,10 +1,10 @@
 // A leaf's record, and a node's sizes, as text in a lent buffer. Each call writes from `at` or `from` on, and answers where the next byte stands.
 use block::Flags;
+use collector::SizeRecord;
 use leaf::LeafRecord;
 use lines::contents::byte;
 use lines::contents::bytes;
 use sizes::Size;
-use sizes::records::SizeRecord;
 use splits::SplitList;
 
 fn decimal(out: &mut [u8], at: usize, n: usize) -> usize {

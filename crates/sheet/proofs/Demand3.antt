@@ -1,4 +1,4 @@
--- Demand 3 in the words of document 01, by node numbers. `groups-written` (sizes/proofs/Written) is its sentence on sharing.
+-- Demand 3 in the words of document 01, by node numbers. `groups-written` (collector/proofs/Written) is its sentence on sharing.
 -- The tiling holds for every separator width; rectangles and bytes rest on `block-dims`, which opens `sep`. Assumes nothing.
 use mathlib.Core.Path.{_≡_, refl, sym, ap, _∙_, subst₂}
 use Prim.Native.Nat.{ℕ, _+_, _-_, _<_}

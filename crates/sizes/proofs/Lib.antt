@@ -21,6 +21,3 @@ pub mod Allotted
 pub mod Cores
 pub mod Inputs
 pub mod Given
-pub mod Recorded
-pub mod Arrays
-pub mod Written

@@ -6,4 +6,3 @@ pub mod Collecting
 pub mod Allotting
 pub mod Input
 pub mod Core
-pub mod Records

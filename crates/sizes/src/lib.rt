@@ -3,7 +3,6 @@ mod allot;
 mod axis;
 pub mod lists;
 mod natural;
-pub mod records;
 pub mod sharing;
 pub mod text;
 
@@ -34,7 +33,8 @@ pub struct Measured {
     pub core: Core,
 }
 
-fn no_sizes() -> Core
+// The sizes of no node.
+pub fn no_sizes() -> Core
     ensures { λ r. ⌜ r ≡ noCore ⌝ }
 {
     let zeros = [0u16; 512];

@@ -1,6 +1,6 @@
 // A call of the collector, and its list afterwards: each run of equal entries in one line.
+use collector::SizeRecord;
 use lines::tell;
-use sizes::records::SizeRecord;
 
 // What the list is made of before a call.
 fn made_of() -> SizeRecord {
@@ -65,7 +65,7 @@ fn show_runs(list: [SizeRecord; 512]) {
 pub fn lend(settings: &[u8], tree: &[u8], room: usize) {
     let z = made_of();
     let before = [z; 512];
-    let r = sizes::records::collect_in(settings, tree, before, room);
+    let r = collector::collect_in(settings, tree, before, room);
     tell::number(room);
     tell::text(b" lent: number ");
     tell::number(common::wide(r.answer.number));

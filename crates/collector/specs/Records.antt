@@ -5,14 +5,14 @@ use lib.Dec.{ltb}
 use lib.ListN.{length, getD, take, drop, replicate}
 use Rattle.common.specs.Choice.{pick}
 use Rattle.tree.specs.Tree.{nodes}
 use Rattle.sizes.specs.declared.Core.{Core}
-use Rattle.sizes.specs.declared.records.SizeRecord.{SizeRecord}
-use Rattle.sizes.specs.declared.records.Collected.{Collected}
-use Rattle.sizes.specs.declared.records.Lent.{Lent}
-use Rattle.sizes.specs.declared.records.Plan.{Plan}
+use Rattle.collector.specs.declared.SizeRecord.{SizeRecord}
+use Rattle.collector.specs.declared.Collected.{Collected}
+use Rattle.collector.specs.declared.Lent.{Lent}
+use Rattle.collector.specs.declared.Plan.{Plan}
 use Rattle.sizes.specs.Sizes.{Sizes, treeSizes}
 use Rattle.sizes.specs.Input.{Input, refused, given}
 use Rattle.sizes.specs.Core.{noCore, coreOf}
 
 -- ---- the definition
 

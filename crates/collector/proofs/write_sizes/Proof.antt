@@ -48,17 +48,17 @@ use denote.Triple.Spec.{Meets, tripleOf}
 use denote.Triple.Table.{entered}
 use denote.Triple.Walked.{says, needs, Stays, stay-slice, stay-none, walkOf, AllGo, goes-none, goes-slice, Walks, ends-at, walked, walk-meets}
 use denote.Exit.{yes}
-use Rattle.sizes.specs.declared.records.SizeRecord.{SizeRecord}
-use Rattle.sizes.specs.Records.{noRecord}
-use Rattle.sizes.proofs.Recorded.{filled, filled-none, filled-length, filled-more}
-use Rattle.sizes.proofs.Arrays.{R, AR, arr, mach, mach-l, arr-in, arr-out}
-use Rattle.sizes.proofs.records.SizeRecord as T
-use Rattle.sizes.proofs.records.SizeRecord.Laws as T′
-use Rattle.sizes.proofs.records.write_sizes.Key.{name as #write-sizes}
-use Rattle.sizes.proofs.records.write_sizes as wr
-use Rattle.sizes.proofs.records.write_sizes.Statement as stated
-use Rattle.sizes.proofs.records.write_sizes.Code as code
-use Rattle.sizes.proofs.records.write_sizes.Code.Mir as mir′
+use Rattle.collector.specs.declared.SizeRecord.{SizeRecord}
+use Rattle.collector.specs.Records.{noRecord}
+use Rattle.collector.proofs.Recorded.{filled, filled-none, filled-length, filled-more}
+use Rattle.collector.proofs.Arrays.{R, AR, arr, mach, mach-l, arr-in, arr-out}
+use Rattle.collector.proofs.SizeRecord as T
+use Rattle.collector.proofs.SizeRecord.Laws as T′
+use Rattle.collector.proofs.write_sizes.Key.{name as #write-sizes}
+use Rattle.collector.proofs.write_sizes as wr
+use Rattle.collector.proofs.write_sizes.Statement as stated
+use Rattle.collector.proofs.write_sizes.Code as code
+use Rattle.collector.proofs.write_sizes.Code.Mir as mir′
 
 abbrev stayed : Stays (wr.ended .signature .params) (wr.ended .kept)
 stayed = (stay-slice (0 ∷ []) tt (plain (λ _. R)), (stay-none (λ _. AR) yes, (stay-none (λ _. usize) yes, tt)))

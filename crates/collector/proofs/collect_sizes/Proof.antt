@@ -40,38 +40,38 @@ use denote.Triple.Clauses.{ensured, lasts}
 use denote.Triple.Table.{entered, cited}
 use denote.Triple.Walked.{says, Stays, stay-none-slice, gave-slice, walkOf, AllGo, goes-none-slice, goes-gave-slice, Walks, ends-at, walked, walk-meets}
 use denote.Exit.{yes}
 use Rattle.sizes.specs.declared.Core.{Core}
-use Rattle.sizes.specs.declared.records.SizeRecord.{SizeRecord}
-use Rattle.sizes.specs.declared.records.Collected.{Collected}
-use Rattle.sizes.specs.declared.records.Plan.{Plan}
+use Rattle.collector.specs.declared.SizeRecord.{SizeRecord}
+use Rattle.collector.specs.declared.Collected.{Collected}
+use Rattle.collector.specs.declared.Plan.{Plan}
 use Rattle.sizes.specs.Input.{inputOf}
-use Rattle.sizes.specs.Records.{recordsOf, planOf}
-use Rattle.sizes.proofs.Recorded.{filled, outcome, outcome-is, Fitting, plan-fits}
-use Rattle.sizes.proofs.Arrays.{R, AR, arr, mach-l}
-use Rattle.sizes.proofs.records.SizeRecord as T
-use Rattle.sizes.proofs.records.SizeRecord.Laws as T′
+use Rattle.collector.specs.Records.{recordsOf, planOf}
+use Rattle.collector.proofs.Recorded.{filled, outcome, outcome-is, Fitting, plan-fits}
+use Rattle.collector.proofs.Arrays.{R, AR, arr, mach-l}
+use Rattle.collector.proofs.SizeRecord as T
+use Rattle.collector.proofs.SizeRecord.Laws as T′
 use Rattle.sizes.proofs.Core as TC
 use Rattle.sizes.proofs.Core.Laws as TC′
-use Rattle.sizes.proofs.records.Collected as TA
-use Rattle.sizes.proofs.records.Collected.Laws as TA′
-use Rattle.sizes.proofs.records.Plan as TP
-use Rattle.sizes.proofs.records.Plan.Laws as TP′
-use Rattle.sizes.proofs.records.plan_sizes as plan
-use Rattle.sizes.proofs.records.plan_sizes.Symbol as plan-def
-use Rattle.sizes.proofs.records.plan_sizes.Symbol.{name as #plan-sizes}
-use Rattle.sizes.proofs.records.plan_sizes.Met as plan-thm
-use Rattle.sizes.proofs.records.records_of as rec
-use Rattle.sizes.proofs.records.records_of.Symbol as rec-def
-use Rattle.sizes.proofs.records.records_of.Symbol.{name as #records-of}
-use Rattle.sizes.proofs.records.records_of.Met as rec-thm
-use Rattle.sizes.proofs.records.write_sizes as wr
-use Rattle.sizes.proofs.records.write_sizes.Symbol as wr-def
-use Rattle.sizes.proofs.records.write_sizes.Symbol.{name as #write-sizes}
-use Rattle.sizes.proofs.records.write_sizes.Met as wr-thm
-use Rattle.sizes.proofs.records.collect_sizes.Key.{name as #collect}
-use Rattle.sizes.proofs.records.collect_sizes as col
-use Rattle.sizes.proofs.records.collect_sizes.Statement as stated
-use Rattle.sizes.proofs.records.collect_sizes.Code as code
+use Rattle.collector.proofs.Collected as TA
+use Rattle.collector.proofs.Collected.Laws as TA′
+use Rattle.collector.proofs.Plan as TP
+use Rattle.collector.proofs.Plan.Laws as TP′
+use Rattle.collector.proofs.plan_sizes as plan
+use Rattle.collector.proofs.plan_sizes.Symbol as plan-def
+use Rattle.collector.proofs.plan_sizes.Symbol.{name as #plan-sizes}
+use Rattle.collector.proofs.plan_sizes.Met as plan-thm
+use Rattle.collector.proofs.records_of as rec
+use Rattle.collector.proofs.records_of.Symbol as rec-def
+use Rattle.collector.proofs.records_of.Symbol.{name as #records-of}
+use Rattle.collector.proofs.records_of.Met as rec-thm
+use Rattle.collector.proofs.write_sizes as wr
+use Rattle.collector.proofs.write_sizes.Symbol as wr-def
+use Rattle.collector.proofs.write_sizes.Symbol.{name as #write-sizes}
+use Rattle.collector.proofs.write_sizes.Met as wr-thm
+use Rattle.collector.proofs.collect_sizes.Key.{name as #collect}
+use Rattle.collector.proofs.collect_sizes as col
+use Rattle.collector.proofs.collect_sizes.Statement as stated
+use Rattle.collector.proofs.collect_sizes.Code as code
 
 abbrev stayed : Stays (col.ended .signature .params) (col.ended .kept)
 stayed = (stay-none-slice (0 ∷ []) tt (plain (λ _. u8)) yes, (stay-none-slice (1 ∷ []) tt (plain (λ _. u8)) yes, (gave-slice (2 ∷ []) tt (plain (λ _. R)), tt)))
@@ -240,6 +240,6 @@ collect-sizes-spec 𝓤 H 𝓜 𝓖 𝓡 =
     entered 𝓤 H (tripleOf 𝓤 H (𝓖 .A) col.signature (col.spec 𝓤 H (𝓖 .A) (𝓜 .mem) (𝓡 .run)))
     (tables 𝓤 H 𝓜 𝓡 code.env .C) (tables 𝓤 H 𝓜 𝓡 code.env .Λ) #collect code.function (code.unfolded 𝓤 H 𝓜 𝓡)
     (col-meets 𝓤 H (𝓖 .A) (givenOf 𝓤 H 𝓜 𝓖) (𝓜 .mem) (𝓡 .run) (tablesOf 𝓤 H 𝓜 (tables 𝓤 H 𝓜 𝓡 code.env))
-    (cited 𝓤 H (PlanSizes 𝓤 H (𝓖 .A) (𝓜 .mem) (𝓡 .run)) 𝓜 𝓡 code.env #plan-sizes plan-def.routine code.calls-sizes·records·plan-sizes (plan-thm.met 𝓤 H 𝓜 𝓖 𝓡))
-    (cited 𝓤 H (RecordsOf 𝓤 H (𝓖 .A) (𝓜 .mem) (𝓡 .run)) 𝓜 𝓡 code.env #records-of rec-def.routine code.calls-sizes·records·records-of (rec-thm.met 𝓤 H 𝓜 𝓖 𝓡))
-    (cited 𝓤 H (WriteSizes 𝓤 H (𝓖 .A) (𝓜 .mem) (𝓡 .run)) 𝓜 𝓡 code.env #write-sizes wr-def.routine code.calls-sizes·records·write-sizes (wr-thm.met 𝓤 H 𝓜 𝓖 𝓡)))
+    (cited 𝓤 H (PlanSizes 𝓤 H (𝓖 .A) (𝓜 .mem) (𝓡 .run)) 𝓜 𝓡 code.env #plan-sizes plan-def.routine code.calls-collector·plan-sizes (plan-thm.met 𝓤 H 𝓜 𝓖 𝓡))
+    (cited 𝓤 H (RecordsOf 𝓤 H (𝓖 .A) (𝓜 .mem) (𝓡 .run)) 𝓜 𝓡 code.env #records-of rec-def.routine code.calls-collector·records-of (rec-thm.met 𝓤 H 𝓜 𝓖 𝓡))
+    (cited 𝓤 H (WriteSizes 𝓤 H (𝓖 .A) (𝓜 .mem) (𝓡 .run)) 𝓜 𝓡 code.env #write-sizes wr-def.routine code.calls-collector·write-sizes (wr-thm.met 𝓤 H 𝓜 𝓖 𝓡)))

@@ -1,8 +1,8 @@
 use mathlib.Core.Path.{_∙_}
-use Rattle.sizes.proofs.Recorded.{plan-refused, plan-short, plan-made}
+use Rattle.collector.proofs.Recorded.{plan-refused, plan-short, plan-made}
 use borrow.Author.Needs.{needs}
-use Rattle.sizes.proofs.records.plan_sizes.Statement.{statement}
-use Rattle.sizes.proofs.records.plan_sizes.Tie as tie
+use Rattle.collector.proofs.plan_sizes.Statement.{statement}
+use Rattle.collector.proofs.plan_sizes.Tie as tie
 
 returns : tie.Need-returns
 returns c = c .refused-plan .ensures ∙ plan-refused _ _ _ (c .before .before .before .measure-tree .ensures) _ (c .before .if1 .taken)

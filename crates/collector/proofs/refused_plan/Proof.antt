@@ -1,6 +1,6 @@
 use borrow.Author.Needs.{needs}
-use Rattle.sizes.proofs.records.refused_plan.Statement.{statement}
-use Rattle.sizes.proofs.records.refused_plan.Tie as tie
+use Rattle.collector.proofs.refused_plan.Statement.{statement}
+use Rattle.collector.proofs.refused_plan.Tie as tie
 
 returns : tie.Need-returns
 returns c = rw (c .no-sizes .ensures)

@@ -1,12 +1,12 @@
-// The size records in a list that the caller lends.
-use super::Core;
-use super::measure_tree;
+// The size collector: the size records in a list that the caller lends.
+use sizes::Core;
+use sizes::measure_tree;
 ghost use mathlib.Core.Path.{_≡_};
 ghost use Prim.Native.Nat.{_≤_};
 ghost use mathlib.Core.List.{_++_};
 ghost use lib.ListN.{length, take, drop, replicate};
 ghost use Rattle.sizes.specs.Input.{inputOf};
-ghost use Rattle.sizes.specs.Records.{collectOf, noRecord, recordsOf, planOf, refusedPlan, lentOf};
+ghost use Rattle.collector.specs.Records.{collectOf, noRecord, recordsOf, planOf, refusedPlan, lentOf};
 
 // A node's natural and allotted size.
 pub struct SizeRecord {
@@ -73,7 +73,7 @@ fn records_of(core: Core) -> [SizeRecord; 512]
 fn refused_plan(number: u8) -> Plan
     ensures { λ r. ⌜ r ≡ refusedPlan number ⌝ }
 {
-    let core = super::no_sizes();
+    let core = sizes::no_sizes();
     Plan {
         answer: Collected {
             number: number,

@@ -13,16 +13,16 @@ use Rattle.common.specs.Choice.{pick}
 use Rattle.common.specs.Arrays.{padded}
 use Rattle.settings.specs.declared.Settings.{Settings}
 use Rattle.tree.specs.Tree.{Tree, nodes}
 use Rattle.sizes.specs.declared.Core.{Core}
 use Rattle.sizes.specs.declared.Measured.{Measured}
-use Rattle.sizes.specs.declared.records.SizeRecord.{SizeRecord}
-use Rattle.sizes.specs.declared.records.Plan.{Plan}
+use Rattle.collector.specs.declared.SizeRecord.{SizeRecord}
+use Rattle.collector.specs.declared.Plan.{Plan}
 use Rattle.sizes.specs.Sizes.{Sizes, treeSizes}
 use Rattle.sizes.specs.Input.{Input, refused, given, inputOf}
 use Rattle.sizes.specs.Core.{coreOf, measuredOf}
-use Rattle.sizes.specs.Records.{recordOf, Outcome, refusal, collectOf, noRecord, recordAt, records, recordsOf, refusedPlan, planOf, lentOf}
+use Rattle.collector.specs.Records.{recordOf, Outcome, refusal, collectOf, noRecord, recordAt, records, recordsOf, refusedPlan, planOf, lentOf}
 use Rattle.sizes.proofs.Within.{tree-sizes-length}
 use Rattle.sizes.proofs.Given.{takes, Accepts, accepts, refuses}
 
 -- ---- the array of records
 

@@ -26,9 +26,9 @@ use denote.Steps.{only, owned, peeks}
 use denote.Struct.Steps.{spelt}
 use denote.Struct.Field.{Field}
 use denote.Struct.Laws as LL
-use Rattle.sizes.specs.declared.records.SizeRecord.{SizeRecord}
-use Rattle.sizes.proofs.records.SizeRecord as T
-use Rattle.sizes.proofs.records.SizeRecord.Laws as T′
+use Rattle.collector.specs.declared.SizeRecord.{SizeRecord}
+use Rattle.collector.proofs.SizeRecord as T
+use Rattle.collector.proofs.SizeRecord.Laws as T′
 
 abbrev pub R : RattleType
 R = T.the-row

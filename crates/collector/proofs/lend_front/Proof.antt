@@ -46,26 +46,26 @@ use denote.Triple.Table.{entered, cited}
 use denote.Triple.Walked.{says, needs, Stays, stay-none, stay-none-slice, walkOf, AllGo, goes-none, goes-none-slice, Walks, ends-at, walked, walk-meets}
 use denote.Exit.{yes}
 use borrow.Table.Elements.{at as elem-at, cut-app, join-app, same-len}
-use Rattle.sizes.specs.declared.records.SizeRecord.{SizeRecord}
-use Rattle.sizes.specs.declared.records.Collected.{Collected}
-use Rattle.sizes.specs.declared.records.Lent.{Lent}
+use Rattle.collector.specs.declared.SizeRecord.{SizeRecord}
+use Rattle.collector.specs.declared.Collected.{Collected}
+use Rattle.collector.specs.declared.Lent.{Lent}
 use Rattle.sizes.specs.Input.{inputOf}
-use Rattle.sizes.specs.Records.{Outcome, collectOf, before, lentOf}
-use Rattle.sizes.proofs.Arrays.{R, AR, arr, mach-l, mach-f, in-field, is-in-field, arr-in, arr-out}
-use Rattle.sizes.proofs.records.SizeRecord as T
-use Rattle.sizes.proofs.records.SizeRecord.Laws as T′
-use Rattle.sizes.proofs.records.Collected as TA
-use Rattle.sizes.proofs.records.Collected.Laws as TA′
-use Rattle.sizes.proofs.records.Lent as TL
-use Rattle.sizes.proofs.records.Lent.Laws as TL′
-use Rattle.sizes.proofs.records.collect_sizes as col
-use Rattle.sizes.proofs.records.collect_sizes.Symbol as col-def
-use Rattle.sizes.proofs.records.collect_sizes.Symbol.{name as #collect}
-use Rattle.sizes.proofs.records.collect_sizes.Met as col-thm
-use Rattle.sizes.proofs.records.lend_front.Key.{name as #lend-front}
-use Rattle.sizes.proofs.records.lend_front as lend
-use Rattle.sizes.proofs.records.lend_front.Statement as stated
-use Rattle.sizes.proofs.records.lend_front.Code as code
+use Rattle.collector.specs.Records.{Outcome, collectOf, before, lentOf}
+use Rattle.collector.proofs.Arrays.{R, AR, arr, mach-l, mach-f, in-field, is-in-field, arr-in, arr-out}
+use Rattle.collector.proofs.SizeRecord as T
+use Rattle.collector.proofs.SizeRecord.Laws as T′
+use Rattle.collector.proofs.Collected as TA
+use Rattle.collector.proofs.Collected.Laws as TA′
+use Rattle.collector.proofs.Lent as TL
+use Rattle.collector.proofs.Lent.Laws as TL′
+use Rattle.collector.proofs.collect_sizes as col
+use Rattle.collector.proofs.collect_sizes.Symbol as col-def
+use Rattle.collector.proofs.collect_sizes.Symbol.{name as #collect}
+use Rattle.collector.proofs.collect_sizes.Met as col-thm
+use Rattle.collector.proofs.lend_front.Key.{name as #lend-front}
+use Rattle.collector.proofs.lend_front as lend
+use Rattle.collector.proofs.lend_front.Statement as stated
+use Rattle.collector.proofs.lend_front.Code as code
 
 abbrev stayed : Stays (lend.ended .signature .params) (lend.ended .kept)
 stayed = (stay-none-slice (0 ∷ []) tt (plain (λ _. u8)) yes, (stay-none-slice (1 ∷ []) tt (plain (λ _. u8)) yes, (stay-none (λ _. AR) yes, (stay-none (λ _. usize) yes, tt))))
@@ -233,4 +233,4 @@ lend-front-spec 𝓤 H 𝓜 𝓖 𝓡 =
     entered 𝓤 H (tripleOf 𝓤 H (𝓖 .A) lend.signature (lend.spec 𝓤 H (𝓖 .A) (𝓜 .mem) (𝓡 .run)))
     (tables 𝓤 H 𝓜 𝓡 code.env .C) (tables 𝓤 H 𝓜 𝓡 code.env .Λ) #lend-front code.function (code.unfolded 𝓤 H 𝓜 𝓡)
     (meets 𝓤 H (𝓖 .A) (givenOf 𝓤 H 𝓜 𝓖) (𝓜 .mem) (𝓡 .run) (tablesOf 𝓤 H 𝓜 (tables 𝓤 H 𝓜 𝓡 code.env))
-    (cited 𝓤 H (CollectSizes 𝓤 H (𝓖 .A) (𝓜 .mem) (𝓡 .run)) 𝓜 𝓡 code.env #collect col-def.routine code.calls-sizes·records·collect-sizes (col-thm.met 𝓤 H 𝓜 𝓖 𝓡)))
+    (cited 𝓤 H (CollectSizes 𝓤 H (𝓖 .A) (𝓜 .mem) (𝓡 .run)) 𝓜 𝓡 code.env #collect col-def.routine code.calls-collector·collect-sizes (col-thm.met 𝓤 H 𝓜 𝓖 𝓡)))

@@ -11,15 +11,15 @@ use lib.Seq.{take-at}
 use borrow.Author.Tests.{ltb-false}
 use Rattle.settings.specs.declared.Settings.{Settings}
 use Rattle.tree.specs.Tree.{Axis, across, down, Tree, group, Trees, count, nodes}
-use Rattle.sizes.specs.declared.records.SizeRecord.{SizeRecord}
+use Rattle.collector.specs.declared.SizeRecord.{SizeRecord}
 use Rattle.sizes.specs.Text.{total}
 use Rattle.sizes.specs.Sizes.{Sizes, sep, along, treeSizes}
 use Rattle.sizes.specs.Input.{Input, refused, given, inputOf}
-use Rattle.sizes.specs.Records.{recordOf, Outcome, collectOf}
+use Rattle.collector.specs.Records.{recordOf, Outcome, collectOf}
 use Rattle.sizes.proofs.Within.{tree-sizes-length}
 use Rattle.sizes.proofs.Nodes.{subtrees, childNodes, sizesAt}
 use Rattle.sizes.proofs.Listed.{GroupFilled, groups-filled}
 use Rattle.sizes.proofs.Given.{refusal-low}
 
 -- ---- what is read from the list
 

@@ -2,9 +2,9 @@ use mathlib.Core.Path.{_≡_, sym, _∙_}
 use Prim.Native.Nat.{_≤_, _-_}
 use native.Mathlib.Omega.{arith}
 use borrow.Author.Needs.{needs}
-use Rattle.sizes.proofs.Recorded.{kept, kept-none, kept-more}
-use Rattle.sizes.proofs.records.records_of.Statement.{statement}
-use Rattle.sizes.proofs.records.records_of.Tie as tie
+use Rattle.collector.proofs.Recorded.{kept, kept-none, kept-more}
+use Rattle.collector.proofs.records_of.Statement.{statement}
+use Rattle.collector.proofs.records_of.Tie as tie
 
 abbrev Inv-loop : tie.InvT-loop
 Inv-loop core a b c d list₀ i₀ list i = (i ≤ core .count) × (list ≡ kept core i)
