@@ -7,36 +7,23 @@ mod side;
 
 use std::process::ExitCode;
 
-use oracle::compare::{Comparison, Counts, Difference};
-use oracle::form::Settings;
-use oracle::gen::{self, Rng};
+use oracle::compare::{Comparison, Counts, NUMBERS, PARTS};
+use oracle::gen::Rng;
 use oracle::sides::Original;
 use side::Library;
 
-/// A part of the comparison: its name and its inputs.
-type Part = (&'static str, fn(&mut Comparison, &mut Rng, usize) -> Result<(), Difference>);
-
-/// The oracle's `Comparison::all`, part by part, so that a difference in one does not hide those in another.
-const PARTS: [Part; 8] = [
-    ("all trees of up to 5 nodes", |c, _, _| c.small_tables(5, &gen::few_settings())),
-    ("all trees of up to 4 nodes, all choices", |c, _, _| c.small_tables(4, &gen::choices(padded()))),
-    ("two groups", |c, _, _| c.two_groups(&gen::few_settings())),
-    ("lists", |c, rng, rounds| c.lists(rng, 1000 * rounds)),
-    ("shares", |c, rng, _| c.shares(rng, 12)),
-    ("limits", |c, rng, rounds| c.limits(rng, 10 * rounds)),
-    ("tables", |c, rng, rounds| c.tables(rng, 300 * rounds)),
-    ("damaged bytes", |c, rng, rounds| c.cases(rng, 3000 * rounds)),
-];
-
-fn padded() -> Settings {
-    Settings {
-        padding: [1, 0, 0, 1],
-        fills: *b"<>^~",
-        ..Settings::M
-    }
+/// Whether the calls gave all of their numbers: what was compared is not too little.
+fn is_enough(counts: &Counts) -> bool {
+    NUMBERS.iter().all(|&(call, numbers)| {
+        let reached = counts.reached(call);
+        if reached != numbers {
+            println!("{call}: gave {reached:?} and not {numbers:?}");
+        }
+        reached == numbers
+    })
 }
 
-/// Runs every part; answers how many agreed and how many did not.
+/// Runs every part, one whether or not another finds a difference; answers how many agreed and how many did not. Last comes whether they were enough.
 fn compare(seed: u64, rounds: usize) -> (usize, usize) {
     let (mut agreed, mut parted) = (0, 0);
     let mut counts = Counts::default();
@@ -60,6 +47,11 @@ fn compare(seed: u64, rounds: usize) -> (usize, usize) {
         }
     }
     println!("{counts}\n{} calls agree", counts.total());
+    if is_enough(&counts) {
+        agreed += 1;
+    } else {
+        parted += 1;
+    }
     (agreed, parted)
 }
 

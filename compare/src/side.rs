@@ -154,10 +154,10 @@ impl Calls for Library {
     fn share(&mut self, spare: usize, n: usize, priority: u8, index: usize) -> Shared {
         let lent = canary(0);
         let mut part = lent;
-        let Answer { number, count: _ } = leg_sheet::share(spare, n, priority, index, &mut part);
+        let Answer { number, count } = leg_sheet::share(spare, n, priority, index, &mut part);
         if number != 0 {
-            return Shared { number: sound(number, part == lent), part: 0 };
+            return Shared { number: sound(number, count == 0 && part == lent), part: 0 };
         }
-        Shared { number, part: part as usize }
+        Shared { number: sound(number, count == 0), part: part as usize }
     }
 }

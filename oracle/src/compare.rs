@@ -35,10 +35,29 @@ impl Counts {
         self.0.get(&(call, number)).copied().unwrap_or(0)
     }
 
+    /// The numbers that a call gave.
+    pub fn reached(&self, call: &'static str) -> Vec<u8> {
+        (0..=255).filter(|&number| self.of(call, number) > 0).collect()
+    }
+
     pub fn total(&self) -> usize {
         self.0.values().sum()
     }
 }
+
+/// The numbers that each call can give, by document 01's table.
+pub const NUMBERS: [(&str, &[u8]); 10] = [
+    ("settings", &[0, 1]),
+    ("tree", &[0, 2, 3, 4, 5]),
+    ("sizes", &[0, 1, 2, 3, 4, 5, 8]),
+    ("leaf record", &[0, 1, 2, 3, 4, 5, 6, 9]),
+    ("leaf", &[0, 1, 2, 3, 4, 5, 6, 8, 9]),
+    ("sheet", &[0, 1, 2, 3, 4, 5, 6, 7, 8]),
+    ("short_splits3", &[0, 10]),
+    ("short_splits3, lent", &[0, 10]),
+    ("short_splits", &[0, 10]),
+    ("share", &[0, 11]),
+];
 
 impl fmt::Display for Counts {
     fn fmt(&self, f: &mut fmt::Formatter<'_>) -> fmt::Result {
@@ -60,6 +79,22 @@ pub struct Comparison<'a> {
     pub other: &'a mut dyn Calls,
     pub counts: Counts,
 }
+
+/// A part of the comparison: its name and its inputs, with so many rounds of the random ones.
+pub type Part = (&'static str, fn(&mut Comparison, &mut Rng, usize) -> Result<(), Difference>);
+
+pub const PARTS: [Part; 10] = [
+    ("settings records", |c, _, _| c.settings_records()),
+    ("short and faulty trees", |c, _, _| c.faulty_trees()),
+    ("all trees of up to 5 nodes", |c, _, _| c.small_tables(5, &gen::few_settings())),
+    ("all trees of up to 4 nodes, all choices", |c, _, _| c.small_tables(4, &gen::choices())),
+    ("two groups", |c, _, _| c.two_groups(&gen::few_settings())),
+    ("lists", |c, rng, rounds| c.lists(rng, 1000 * rounds)),
+    ("shares", |c, rng, _| c.shares(rng, 12)),
+    ("limits", |c, rng, rounds| c.limits(rng, 10 * rounds)),
+    ("tables", |c, rng, rounds| c.tables(rng, 300 * rounds)),
+    ("damaged bytes", |c, rng, rounds| c.cases(rng, 3000 * rounds)),
+];
 
 fn bytes(bytes: &[u8]) -> String {
     bytes.iter().map(|byte| format!("{byte:02x}")).collect()
@@ -113,7 +148,7 @@ impl<'a> Comparison<'a> {
         Ok(())
     }
 
-    fn readers(&mut self, settings: &[u8], tree: &[u8]) -> Result<(), Difference> {
+    fn read_settings(&mut self, settings: &[u8]) -> Result<(), Difference> {
         self.call(
             "settings",
             || bytes(settings),
@@ -121,7 +156,10 @@ impl<'a> Comparison<'a> {
                 let answer = side.read_settings(settings);
                 (answer.number, answer)
             },
-        )?;
+        )
+    }
+
+    fn read_tree(&mut self, tree: &[u8]) -> Result<(), Difference> {
         self.call(
             "tree",
             || bytes(tree),
@@ -191,26 +229,31 @@ impl<'a> Comparison<'a> {
     /// Every call, once.
     pub fn case(&mut self, case: &Case) -> Result<(), Difference> {
         let (settings, tree) = (&case.settings, &case.tree);
-        self.readers(settings, tree)?;
+        self.read_settings(settings)?;
+        self.read_tree(tree)?;
         self.sizes(settings, tree, case.list)?;
         self.leaf_record(settings, tree, case.node)?;
         self.leaf(settings, tree, case.node, case.block)?;
         self.sheet(settings, tree, case.sheet)
     }
 
-    /// A whole table: every node's sizes, record and block, the number past the last, and the sheet; lists lent with three entries more
-    /// than are needed, and once with one less.
+    /// A whole table: every node's sizes, record and block, the number past the last, and the sheet; lists and outputs lent with three
+    /// entries more than are needed, and with one less.
     pub fn table(&mut self, settings: &Settings, tree: &Tree) -> Result<(), Difference> {
         let nodes = tree.nodes();
         let settings = encode_settings(settings);
         let tree = encode_tree(tree);
-        self.readers(&settings, &tree)?;
+        self.read_settings(&settings)?;
+        self.read_tree(&tree)?;
         self.sizes(&settings, &tree, nodes + 3)?;
         self.sizes(&settings, &tree, nodes - 1)?;
         for node in 0..=nodes {
             self.leaf_record(&settings, &tree, node)?;
             let needed = judge::leaf_bytes(&settings, &tree, node).unwrap_or(0);
             self.leaf(&settings, &tree, node, needed + 3)?;
+            if needed > 0 {
+                self.leaf(&settings, &tree, node, needed - 1)?;
+            }
         }
         if let Ok(read) = judge::read(&settings, &tree) {
             let needed = read.sheet_bytes().min(70_000);
@@ -256,6 +299,38 @@ impl<'a> Comparison<'a> {
         )
     }
 
+    /// Settings records of every length up to 33, and with every byte at every place.
+    pub fn settings_records(&mut self) -> Result<(), Difference> {
+        let record = encode_settings(&Settings::M);
+        let long = [&record[..], &record[..2]].concat();
+        for length in 0..=long.len() {
+            self.read_settings(&long[..length])?;
+        }
+        for at in 0..record.len() {
+            for byte in 0..=255 {
+                let mut bytes = record.clone();
+                bytes[at] = byte;
+                self.read_settings(&bytes)?;
+            }
+        }
+        Ok(())
+    }
+
+    /// All bytes of up to 7 that look like a tree, every byte as a tag and as a text, elements with several faults, trees too long.
+    pub fn faulty_trees(&mut self) -> Result<(), Difference> {
+        for bytes in gen::short_bytes(7) {
+            self.read_tree(&bytes)?;
+        }
+        for byte in 0..=255 {
+            self.read_tree(&[byte, 0, 0])?;
+            self.read_tree(&[1, 0, 1, byte])?;
+        }
+        for bytes in gen::faults().into_iter().chain(gen::long_trees()) {
+            self.read_tree(&bytes)?;
+        }
+        Ok(())
+    }
+
     /// Every tree of up to `nodes` nodes with a few texts, under each of the settings.
     pub fn small_tables(&mut self, nodes: usize, settings: &[Settings]) -> Result<(), Difference> {
         for nodes in 1..=nodes {
@@ -278,8 +353,11 @@ impl<'a> Comparison<'a> {
         Ok(())
     }
 
-    /// So many tables on each side of each limit, −2 to 2 from it.
+    /// Sheets around 400 columns by 160 lines, then so many tables on each side of each limit, −2 to 2 from it.
     pub fn limits(&mut self, rng: &mut Rng, rounds: usize) -> Result<(), Difference> {
+        for (width, height) in [(0, 0), (-1, 0), (0, -1), (1, 0), (0, 1), (1, 1)] {
+            self.table(&Settings::D, &gen::corner(width, height))?;
+        }
         for limit in gen::LIMITS {
             for offset in -2..=2 {
                 for _ in 0..rounds {
@@ -313,13 +391,21 @@ impl<'a> Comparison<'a> {
         Ok(())
     }
 
-    /// Every list of up to three pieces of 0 to 4 at widths 0 to 9, then so many random ones, then counts past the limit.
+    /// Every list of up to three pieces of 0 to 4 at widths 0 to 9, lists of 511 and 512 equal pieces, then so many random ones, each also
+    /// with a count past the limit.
     pub fn lists(&mut self, rng: &mut Rng, rounds: usize) -> Result<(), Difference> {
         for count in 0..=3 {
             for pieces in 0..5usize.pow(count) {
                 let list: Vec<usize> = (0..count).map(|at| pieces / 5usize.pow(at) % 5).collect();
                 for width in 0..=9 {
                     self.list(&SplitList::new(&list), width)?;
+                }
+            }
+        }
+        for count in [511, 512] {
+            for piece in [0, 1, 65_535] {
+                for width in [0, 1, 2, 511, 512, 1023, 1024, 65_535] {
+                    self.list(&SplitList::new(&vec![piece; count]), width)?;
                 }
             }
         }
@@ -362,21 +448,12 @@ impl<'a> Comparison<'a> {
         self.share(usize::MAX, 1, 2, 0)?;
         self.share(usize::MAX, 2, 2, 0)
     }
-    /// Everything: the exhaustive inputs, then `rounds` of the random ones.
+
+    /// Every part, each with the seed anew.
     pub fn all(&mut self, seed: u64, rounds: usize) -> Result<(), Difference> {
-        let mut rng = Rng::new(seed);
-        let padded = Settings {
-            padding: [1, 0, 0, 1],
-            fills: *b"<>^~",
-            ..Settings::M
-        };
-        self.small_tables(5, &gen::few_settings())?;
-        self.small_tables(4, &gen::choices(padded))?;
-        self.two_groups(&gen::few_settings())?;
-        self.lists(&mut rng, 1000 * rounds)?;
-        self.shares(&mut rng, 12)?;
-        self.limits(&mut rng, 10 * rounds)?;
-        self.tables(&mut rng, 300 * rounds)?;
-        self.cases(&mut rng, 3000 * rounds)
+        for (_, run) in PARTS {
+            run(self, &mut Rng::new(seed), rounds)?;
+        }
+        Ok(())
     }
 }

@@ -100,8 +100,8 @@ pub fn two_groups(texts: &[&str]) -> Vec<Tree> {
     list
 }
 
-/// Every choice of alignments, line mode and priorities.
-pub fn choices(base: Settings) -> Vec<Settings> {
+/// Every choice of alignments, line mode and priorities, with a padding on two sides and four fills.
+pub fn choices() -> Vec<Settings> {
     let mut list = Vec::new();
     for n in 0..162u8 {
         list.push(Settings {
@@ -110,7 +110,9 @@ pub fn choices(base: Settings) -> Vec<Settings> {
             line_mode: n / 9 % 2,
             width_priority: n / 18 % 3,
             height_priority: n / 54,
-            ..base
+            padding: [1, 0, 0, 1],
+            fills: *b"<>^~",
+            ..Settings::M
         });
     }
     list
@@ -143,6 +145,60 @@ pub fn few_settings() -> Vec<Settings> {
         ..Settings::M
     };
     vec![Settings::D, Settings::M, bare, wide, late]
+}
+
+/// All byte strings of up to so many bytes, over a few that look like elements.
+pub fn short_bytes(most: usize) -> impl Iterator<Item = Vec<u8>> {
+    const FEW: [u8; 7] = [0, 1, 2, 3, 4, b'a', 0x0A];
+    (0..=most).flat_map(|length| {
+        let digit = |number: usize, at: usize| number / FEW.len().pow(at as u32) % FEW.len();
+        (0..FEW.len().pow(length as u32))
+            .map(move |number| (0..length).map(|at| FEW[digit(number, at)]).collect())
+    })
+}
+
+fn element(tag: u8, contents: &[u8]) -> Vec<u8> {
+    let length = u16::try_from(contents.len()).expect("a length has two bytes");
+    [&[tag][..], &length.to_be_bytes(), contents].concat()
+}
+
+/// Elements with a fault or none, each as node 512 or 513, at depth 16 or 17, both or neither: behind so many Cells of a Row, inside so
+/// many Rows more.
+pub fn faults() -> Vec<Vec<u8>> {
+    let lasts: [&[u8]; 8] = [
+        b"\x01\x00\x00",
+        b"\x02\x00\x00",
+        b"\x01\x00\x01a",
+        b"\x01\x00\x01\x07",
+        b"\x07\x00\x00",
+        b"\x01\x00\x02a",
+        b"\x01\x00",
+        b"\x01",
+    ];
+    let mut list = Vec::new();
+    for cells in [0, 495, 496, 497, 498, 509, 510, 511, 512] {
+        for rows in [0, 1, 13, 14, 15] {
+            for last in lasts {
+                let inner = (0..rows).fold(last.to_vec(), |inner, _| element(2, &inner));
+                list.push(element(2, &[[1, 0, 0].repeat(cells), inner].concat()));
+            }
+        }
+    }
+    list
+}
+
+/// Cells around the greatest length of a tree and of an element, with a good and with a forbidden text, the root's end at the tree's end
+/// or before it.
+pub fn long_trees() -> Vec<Vec<u8>> {
+    let mut list = Vec::new();
+    for text in [32_764, 32_765, 32_766, 65_535] {
+        for byte in [b'a', 0x07] {
+            let tree = element(1, &vec![byte; text]);
+            list.push([&tree[..], &[0]].concat());
+            list.push(tree);
+        }
+    }
+    list
 }
 
 // Random
@@ -404,6 +460,15 @@ pub fn near(rng: &mut Rng, limit: Limit, offset: isize) -> (Settings, Tree) {
         }
     };
     (settings, tree)
+}
+
+/// A Cell over another: W is so far from its limit under the defaults, and H from its.
+pub fn corner(width: isize, height: isize) -> Tree {
+    let at = |limit: usize, offset: isize| limit.checked_add_signed(offset).expect("a small offset");
+    let letters = at(judge::SHEET_WIDTH, width) - 4;
+    // Two lines of the sheet's edge, one of the Cell above, one between, and one that no feed ends.
+    let feeds = at(judge::SHEET_HEIGHT, height) - 5;
+    Tree::Column(vec![Tree::Cell(vec![b'w'; letters]), Tree::Cell(vec![0x0A; feeds])])
 }
 
 /// Groups of many small leaves beside groups of a few: long split lists, cut in many places.

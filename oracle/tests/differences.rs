@@ -1,4 +1,4 @@
-//! Where the crate goes its own way: README's 'Differences found', each with the smallest input. What it prints for zero-wide leaves rests
+//! Where the crate goes its own way: docs/DIFFERENCES.md, each with the smallest input. What it prints for zero-wide leaves rests
 //! on the stand-in `Table`, and document 01 refuses every such sheet.
 
 use oracle::{encode_settings, encode_tree, judge, original, paper, Settings, Tree};

@@ -2,7 +2,7 @@
 
 use std::collections::HashSet;
 
-use oracle::{encode_settings, encode_tree, judge, Settings, Tree};
+use oracle::{encode_settings, encode_tree, gen, judge, Settings, Tree};
 
 fn d() -> Vec<u8> {
     encode_settings(&Settings::D)
@@ -224,20 +224,11 @@ fn what_is_accepted() {
         assert_eq!(judge::read_tree(&encode_tree(tree)), Ok(tree.clone()));
     }
 
-    let alphabet = [0, 1, 2, 3, 4, b'a', 0x0A];
     let mut accepted = 0;
-    for length in 0..=LENGTH {
-        for number in 0..alphabet.len().pow(length as u32) {
-            let mut number = number;
-            let mut bytes = vec![0; length];
-            for byte in &mut bytes {
-                *byte = alphabet[number % alphabet.len()];
-                number /= alphabet.len();
-            }
-            let is_good = judge::tree(&bytes) == 0;
-            assert_eq!(is_good, forms.contains(&bytes), "{bytes:?}");
-            accepted += usize::from(is_good);
-        }
+    for bytes in gen::short_bytes(LENGTH) {
+        let is_good = judge::tree(&bytes) == 0;
+        assert_eq!(is_good, forms.contains(&bytes), "{bytes:?}");
+        accepted += usize::from(is_good);
     }
     assert_eq!(accepted, forms.len());
 }
