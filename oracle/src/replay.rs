@@ -134,7 +134,8 @@ fn with_texts(tree: &Tree, texts: &mut impl Iterator<Item = &'static str>) -> Tr
     }
 }
 
-/// Every shape of up to four nodes, under two settings by turns: sheets.
+/// Every shape of up to four nodes, under one of two settings: sheets. Rows and Columns come by turns, so the settings change with every
+/// second shape.
 fn shapes(lines: &mut Lines) {
     lines.title("Every shape of up to 4 nodes");
     let mut texts = ["a", "bcd", "e\nfg", ""].into_iter().cycle();
@@ -142,10 +143,12 @@ fn shapes(lines: &mut Lines) {
     let late = Settings { padding: [0, 1, 0, 1], horizontal: 2, vertical: 2, height_priority: 0, ..Settings::M };
     let settings = [Settings::M, late];
     for (turn, settings) in settings.iter().enumerate() {
-        for shape in shapes.iter().skip(turn).step_by(2) {
-            let tree = encode_tree(&with_texts(shape, &mut texts));
-            lines.given(&encode_settings(settings), &tree);
-            lines.sheet();
+        for (at, shape) in shapes.iter().enumerate() {
+            if at / 2 % 2 == turn {
+                let tree = encode_tree(&with_texts(shape, &mut texts));
+                lines.given(&encode_settings(settings), &tree);
+                lines.sheet();
+            }
         }
     }
 }
@@ -192,7 +195,7 @@ fn limits(lines: &mut Lines) {
     lines.title("Limits");
     let settings = encode_settings(&Settings::D);
     let bare = encode_settings(&Settings { padding: [0; 4], ..Settings::M });
-    let items: [(&[u8], usize, &[u8]); 8] = [
+    let items: [(&[u8], usize, &[u8]); 10] = [
         (&[1, 0x01, 0x8C], 396, b"a"),
         (&[1, 0x01, 0x8D], 397, b"a"),
         (&[1, 0x00, 0x9D], 157, b"\n"),
@@ -201,6 +204,8 @@ fn limits(lines: &mut Lines) {
         (&[3, 0x00, 0xF0], 80, &[1, 0, 0]),
         (&[2, 0x05, 0xFD], 511, &[1, 0, 0]),
         (&[2, 0x06, 0x00], 512, &[1, 0, 0]),
+        (&[1, 0x7F, 0xFD], 32_765, b"a"),
+        (&[1, 0x7F, 0xFE], 32_766, b"a"),
     ];
     for (head, n, item) in items {
         lines.repeated(&settings, head, n, item);
@@ -212,6 +217,12 @@ fn limits(lines: &mut Lines) {
         lines.given(&settings, &encode_tree(&tree));
         lines.readers();
         lines.both(depth - 1);
+    }
+    for size in [16, 17] {
+        let padded = Settings { padding: [size; 4], ..Settings::M };
+        lines.given(&encode_settings(&padded), &encode_tree(&Tree::cell("a")));
+        lines.readers();
+        lines.both(0);
     }
     lines.given(&bare, &encode_tree(&Tree::cell("")));
     lines.both(0);
