@@ -5,8 +5,9 @@
  * any bytes and any numbers may be handed in.
  *
  * Every function answers a word: LEG_NUMBER is 0 or the refusal of document 01's table, LEG_COUNT what was counted or written, 0 beside a
- * refusal. Tests are made in the table's order. A refusal writes to none of the lent lists; otherwise items past those said to be written
- * stay as they were. The functions keep nothing between calls and allocate nothing.
+ * refusal. Each function below names its refusals in the order of its tests; 2 to 5 are tested element by element in node order, at each
+ * one 2, 5, 4, then 3. A refusal writes to none of the lent lists; otherwise items past those said to be written stay as they were. The
+ * functions keep nothing between calls and allocate nothing; on the stack they took up to 77 kilobytes (measured, at depth 16).
  *
  *   1   settings not of the form or ranges          7   sheet: a leaf is allotted width 0
  *   2   tree: too long, cut short, unknown tag ..   8   a lent list is shorter than needed

@@ -1,6 +1,6 @@
-//! The wrapper by itself: figure F1 of document 01, refusals, and what they leave of a lent output.
+//! The wrapper by itself: figure F1 of document 01, refusals, what they leave of a lent output, and priorities that no settings have.
 
-use leg_sheet::{print_sheet, read_settings, Answer, SETTINGS};
+use leg_sheet::{print_sheet, read_settings, share, Answer, SETTINGS};
 
 /// The settings record with document 01's defaults D.
 const D: &[u8; 31] = b"\x10\x00\x1C--||-|+++++++++\x01\x01\x00\x00    \x00\x00\x00\x02\x02";
@@ -38,4 +38,22 @@ fn reads_settings() {
     assert_eq!(read_settings(D, &mut numbers), Answer { number: 0, count: SETTINGS });
     let bytes = D[3..].iter().map(|&byte| byte.into());
     assert_eq!(numbers.to_vec(), bytes.chain([0xA5A5]).collect::<Vec<u16>>());
+}
+
+/// The header: 'Priority 0 is First, 1 Last, 2 and every other number List.'
+#[test]
+fn every_priority_shares() {
+    for priority in 0..=255 {
+        let part = |index: usize| {
+            let mut part = 0xA5A5;
+            assert_eq!(share(7, 3, priority, index, &mut part), Answer { number: 0, count: 0 });
+            part
+        };
+        let parts = match priority {
+            0 => [7, 0, 0],
+            1 => [0, 0, 7],
+            _ => [3, 2, 2],
+        };
+        assert_eq!([0, 1, 2].map(part), parts, "priority {priority}");
+    }
 }
