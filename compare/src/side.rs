@@ -19,6 +19,12 @@ fn counted(answer: Answer) -> Counted {
     }
 }
 
+/// Yes is 1, no is 0.
+fn yes(word: u16) -> bool {
+    assert!(word < 2, "{word} is neither yes nor no");
+    word == 1
+}
+
 /// A count and its entries.
 fn list(words: &[u16]) -> SplitList {
     SplitList {
@@ -73,10 +79,6 @@ impl Calls for Library {
 
     fn leaf_record(&mut self, settings: &[u8], tree: &[u8], node: usize) -> LeafRecord {
         let (number, out) = lent::record(RECORD, |out| leg_sheet::leaf_record(settings, tree, node, out));
-        let yes = |at: usize| {
-            assert!(out[at] < 2, "flag {at}");
-            out[at] == 1
-        };
         LeafRecord {
             number,
             node: out[0].into(),
@@ -85,14 +87,14 @@ impl Calls for Library {
             horizontal: list(&out[11..]),
             vertical: list(&out[12 + PIECES..]),
             flags: Flags {
-                first_row: yes(3),
-                last_row: yes(4),
-                first_col: yes(5),
-                last_col: yes(6),
-                no_right: yes(7),
-                lean_top: yes(8),
-                top_left: yes(9),
-                top_intersection: yes(10),
+                first_row: yes(out[3]),
+                last_row: yes(out[4]),
+                first_col: yes(out[5]),
+                last_col: yes(out[6]),
+                no_right: yes(out[7]),
+                lean_top: yes(out[8]),
+                top_left: yes(out[9]),
+                top_intersection: yes(out[10]),
             },
         }
     }
@@ -112,7 +114,7 @@ impl Calls for Library {
         let out = lent.one.written(number, CUT);
         CutParts {
             number,
-            split: out[0] == 1,
+            split: yes(out[0]),
             taken: list(&out[1..]),
             left: list(&out[2 + PIECES..]),
         }
@@ -145,7 +147,7 @@ impl Calls for Library {
         }
         CutParts {
             number,
-            split: out[0] == 1,
+            split: yes(out[0]),
             taken: list(&out[2..]),
             left,
         }

@@ -183,9 +183,13 @@ pub fn seen(settings: &Settings, tree: &Tree) -> Seen {
     Seen { answer, uneven }
 }
 
-/// All that the original says about a table.
+/// All that the original says about a table. Panics where the stand-in `Table` filled up though no leaf has width 0: no compared sheet
+/// rests on how it fills.
 pub fn answer(settings: &Settings, tree: &Tree) -> Answer {
-    seen(settings, tree).answer
+    let Seen { answer, uneven } = seen(settings, tree);
+    let is_wide = answer.leaves.iter().all(|leaf| leaf.width > 0);
+    assert!(uneven == 0 || !is_wide, "blocks of unequal size are joined");
+    answer
 }
 
 /// `short_splits3`.
