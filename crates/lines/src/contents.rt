@@ -77,18 +77,27 @@ fn times(out: &mut [u8], from: usize, n: usize, s: &[u8]) -> usize {
     at
 }
 
-// The number that `s` begins with, up to 8 digits.
+// The value of a digit; of any other byte 10 or more.
+pub fn digit(b: u8) -> usize {
+    if b < b'0' {
+        return 10;
+    }
+    common::wide(b - b'0')
+}
+
+// The number that `s` begins with, as far as it fits.
 pub fn number(s: &[u8]) -> usize {
     let mut n: usize = 0;
     let mut i: usize = 0;
     while i < s.len() {
-        if s[i] == 32 {
+        let d = digit(s[i]);
+        if 9 < d {
             return n;
         }
-        if 9999999 < n {
+        if (usize::MAX - d) / 10 < n {
             return n;
         }
-        n = n * 10 + common::wide(s[i]) % 16;
+        n = n * 10 + d;
         i = i + 1;
     }
     n

@@ -1,116 +1,120 @@
-// One case of each call: run it, show what it answered, compare it with what is wanted.
+// One case of each call: what it answers, and whether that is what the line says.
+use crate::fields;
 use crate::lists;
-use crate::tell;
-use splits::CutParts;
+use splits::Positions;
 use splits::SplitList;
 use splits::lent::copy_pieces;
 use splits::lent::list_at;
-ghost use Prim.Native.Nat.{_≤_};
 
-// What `short_splits3` is to answer.
-fn parts(number: u8, split: bool, taken: SplitList, left: SplitList) -> CutParts {
-    CutParts {
+// What a call answers: its number, yes or no, the pieces taken or the positions, the list left.
+struct Answer {
+    number: usize,
+    yes: bool,
+    taken: Positions,
+    left: Positions,
+}
+
+fn answered(number: usize, yes: bool, taken: SplitList, left: SplitList) -> Answer {
+    Answer {
         number: number,
-        split: split,
-        taken: taken,
-        left: left,
+        yes: yes,
+        taken: lists::widened(taken),
+        left: lists::widened(left),
     }
 }
 
-pub fn yes(taken: SplitList, left: SplitList) -> CutParts {
-    parts(0, true, taken, left)
+fn by_value(list: SplitList, w: u16) -> Answer {
+    let r = splits::short_splits3(list, w);
+    let taken = r.taken;
+    let left = r.left;
+    answered(r.number as usize, r.split, taken, left)
 }
 
-pub fn no(taken: SplitList, left: SplitList) -> CutParts {
-    parts(0, false, taken, left)
+// The list left is then the lent one.
+fn in_place(list: SplitList, w: u16) -> Answer {
+    let r = splits::cut_here(list, w);
+    let a = r.answer;
+    let taken = a.taken;
+    let left = r.list;
+    answered(a.number as usize, a.split, taken, left)
 }
 
-pub fn refused() -> CutParts {
-    parts(10, false, lists::none(), lists::none())
+fn short(list: SplitList, w: u16) -> Answer {
+    let r = splits::short_splits(list, w);
+    let positions = r.positions;
+    let left = r.left;
+    Answer {
+        number: r.number as usize,
+        yes: false,
+        taken: positions,
+        left: lists::widened(left),
+    }
 }
 
-fn same_cut(a: CutParts, b: CutParts) -> bool {
+// The pieces of `b` behind the first of `a`, copied there in lent memory.
+fn join(a: SplitList, b: SplitList) -> Answer {
+    let none = splits::no_pieces();
+    if 511 < b.count {
+        return answered(0, false, none, none);
+    }
+    let first = a.pieces[0];
+    let mut room = [first; 512];
+    copy_pieces(&mut room, 1, &b.pieces, b.count);
+    let got = list_at(&room, 0, 1 + b.count);
+    answered(0, false, got, none)
+}
+
+fn answer_of(kind: u8, list: SplitList, w: u16, second: SplitList) -> Answer {
+    match kind {
+        b'v' => by_value(list, w),
+        b'l' => in_place(list, w),
+        b's' => short(list, w),
+        _ => join(list, second),
+    }
+}
+
+// What fields 2 to 4 of the line say.
+fn wanted(s: &[u8]) -> Answer {
+    answered(
+        fields::number(s, 4),
+        fields::yes(s, 4),
+        fields::list(s, 2),
+        fields::list(s, 3),
+    )
+}
+
+fn same(a: Answer, b: Answer) -> bool {
     let taken = a.taken;
     let left = a.left;
     let taken2 = b.taken;
     let left2 = b.left;
-    a.number == b.number
-        && a.split == b.split
-        && lists::same(taken, taken2)
-        && lists::same(left, left2)
+    let lists_same = lists::same(taken, taken2) && lists::same(left, left2);
+    lists_same && a.number == b.number && a.yes == b.yes
 }
 
-// The answer in place as one by value: after a refusal the list is to be as it was, which is told as none left.
-fn in_place(list: SplitList, w: u16) -> CutParts {
-    let k = splits::cut_here(list, w);
-    let answer = k.answer;
-    let taken = answer.taken;
-    let left = k.list;
-    if answer.number == 10 && lists::same(left, list) {
-        return parts(10, answer.split, taken, lists::none());
+// Whether a call of this kind answers what the line says.
+fn answers(kind: u8, s: &[u8]) -> bool {
+    let list = fields::list(s, 0);
+    let w = fields::number(s, 1) % 65536;
+    let second = fields::list(s, 1);
+    let got = answer_of(kind, list, w as u16, second);
+    same(got, wanted(s))
+}
+
+// Whether the place in field 2 is named where field 3 says so.
+fn named(s: &[u8]) -> bool {
+    let list = fields::list(s, 0);
+    let w = fields::number(s, 1) % 65536;
+    let place = fields::number(s, 2) % 4294967296;
+    splits::is_named(list, w as u16, place as u32) == fields::yes(s, 3)
+}
+
+// Whether the case in this line has the answer that the line says; a line of no kind has none.
+pub fn holds(kind: u8, s: &[u8]) -> bool {
+    match kind {
+        b'c' => answers(b'v', s) && answers(b'l', s),
+        b'v' | b'l' | b's' | b'j' => answers(kind, s),
+        b'n' => named(s),
+        _ => false,
     }
-    parts(answer.number, answer.split, taken, left)
-}
-
-// `short_splits3`, by value and in place.
-pub fn cut(list: SplitList, w: u16, want: CutParts) {
-    let got = splits::short_splits3(list, w);
-    let kept = in_place(list, w);
-    tell::asked(b"cut", list, w);
-    tell::cut(got);
-    if same_cut(kept, want) {
-        tell::verdict(same_cut(got, want));
-    } else {
-        tell::text(b"; in place");
-        tell::cut(kept);
-        tell::verdict(false);
-    }
-}
-
-// `short_splits`; the positions wanted fit 16 bits.
-pub fn short(list: SplitList, w: u16, number: u8, want: SplitList, want_left: SplitList) {
-    let got = splits::short_splits(list, w);
-    let positions = got.positions;
-    let left = got.left;
-    tell::asked(b"short", list, w);
-    if got.number == 0 {
-        tell::text(b": positions");
-        tell::positions(positions);
-        tell::text(b", left");
-        tell::list(left);
-    } else {
-        tell::refusal(got.number);
-    }
-    let right = lists::same_positions(positions, lists::widened(want));
-    tell::verdict(got.number == number && right && lists::same(left, want_left));
-}
-
-// Whether the squashed positions have `place`.
-pub fn named(list: SplitList, w: u16, place: u32, want: bool) {
-    let got = splits::is_named(list, w, place);
-    tell::asked(b"named", list, w);
-    tell::text(b":");
-    tell::number(place as u64);
-    if got {
-        tell::text(b" yes");
-    } else {
-        tell::text(b" no");
-    }
-    tell::verdict(got == want);
-}
-
-// The list joined to one piece, in lent memory.
-pub fn join(a: u16, b: SplitList, want: SplitList)
-    requires { ⌜ b .count ≤ 511 ⌝ }
-{
-    let mut room = [a; 512];
-    copy_pieces(&mut room, 1, &b.pieces, b.count);
-    let got = list_at(&room, 0, 1 + b.count);
-    tell::text(b"join");
-    tell::number(a as u64);
-    tell::text(b" and");
-    tell::list(b);
-    tell::text(b":");
-    tell::list(got);
-    tell::verdict(lists::same(got, want));
 }

@@ -1,87 +1,78 @@
-// Lists to try, and the comparing of lists.
+// Lists as they are written in a line, and the comparing of lists.
+// A list is its entries: `4 2`; `1*512` is 512 times 1, and with `+1` each is 1 more than the one before. `#N` makes the count N. Other words are passed over.
+use lines::contents;
 use splits::Positions;
 use splits::SplitList;
-ghost use mathlib.Core.Path.{_≡_};
-ghost use Prim.Native.Nat.{_≤_};
 
-// The list of the first `n` of these entries; those past it stay.
-pub fn first(n: usize, list: SplitList) -> SplitList
-    ensures { λ r. ⌜ r .count ≡ n ⌝ }
-{
-    let s = list.pieces;
+// The list with one more entry, where there is room.
+fn more(list: SplitList, piece: u16) -> SplitList {
+    let at = list.count;
+    if 512 <= at {
+        return list;
+    }
+    let mut s = list.pieces;
+    s[at] = piece;
     SplitList {
         pieces: s,
-        count: n,
+        count: at + 1,
     }
 }
 
-pub fn three(a: u16, b: u16, c: u16) -> SplitList
-    ensures { λ r. ⌜ r .count ≡ 3 ⌝ }
-{
-    let mut s = [0u16; 512];
-    s[0] = a;
-    s[1] = b;
-    s[2] = c;
-    SplitList {
-        pieces: s,
-        count: 3,
-    }
-}
-
-pub fn two(a: u16, b: u16) -> SplitList
-    ensures { λ r. ⌜ r .count ≡ 2 ⌝ }
-{
-    first(2, three(a, b, 0))
-}
-
-pub fn one(a: u16) -> SplitList
-    ensures { λ r. ⌜ r .count ≡ 1 ⌝ }
-{
-    first(1, three(a, 0, 0))
-}
-
-pub fn none() -> SplitList
-    ensures { λ r. ⌜ r .count ≡ 0 ⌝ }
-{
-    first(0, three(0, 0, 0))
-}
-
-// `start`, and `n` − 1 times `step` more.
-pub fn rising(start: u16, step: u16, n: usize) -> SplitList
-    requires { ⌜ (n ≤ 512) × (start ≤ 1) × (step ≤ 1) ⌝ }
-    ensures { λ r. ⌜ r .count ≡ n ⌝ }
-{
-    let mut s = [0u16; 512];
-    let mut next = start;
+// The list with `n` entries more: `first`, each next one `by` more.
+fn run(before: SplitList, first: u16, by: u16, n: usize) -> SplitList {
+    let mut list = before;
+    let mut piece = first;
     let mut i: usize = 0;
     while i < n {
-        s[i] = next;
-        next = next + step;
+        list = more(list, piece);
+        piece = std::num::wrapping_add_u16(piece, by);
         i = i + 1;
     }
-    SplitList {
-        pieces: s,
-        count: n,
-    }
-}
-
-pub fn ones(n: usize) -> SplitList
-    requires { ⌜ n ≤ 512 ⌝ }
-    ensures { λ r. ⌜ r .count ≡ n ⌝ }
-{
-    rising(1, 0, n)
-}
-
-// 0, then `n` ones.
-pub fn zero_ones(n: usize) -> SplitList
-    requires { ⌜ n ≤ 511 ⌝ }
-{
-    let mut list = ones(n + 1);
-    list.pieces[0] = 0;
     list
 }
 
-// Pieces as positions, so that one comparing and one showing serve both.
+// The number after the first byte `b`, or `none`.
+fn after(s: &[u8], b: u8, none: usize) -> usize {
+    let i = contents::find(s, b);
+    if i < s.len() {
+        return contents::number(&s[i + 1..]);
+    }
+    none
+}
+
+fn is_number(s: &[u8]) -> bool {
+    0 < s.len() && contents::digit(s[0]) < 10
+}
+
+// The list with the entries of a word.
+fn word(list: SplitList, s: &[u8]) -> SplitList {
+    if !is_number(s) {
+        return list;
+    }
+    let first = contents::number(s) % 65536;
+    let by = after(s, b'+', 0) % 65536;
+    run(list, first as u16, by as u16, after(s, b'*', 1))
+}
+
+// The entries that stand in `s`.
+fn entries(s: &[u8]) -> SplitList {
+    let mut list = splits::no_pieces();
+    let mut start: usize = 0;
+    while start < s.len() {
+        let end = start + contents::find(&s[start..], 32);
+        list = word(list, &s[start..end]);
+        start = end + 1;
+    }
+    list
+}
+
+pub fn list(s: &[u8]) -> SplitList {
+    let mut list = entries(s);
+    list.count = after(s, b'#', list.count);
+    list
+}
+
+// Pieces as positions, so that one comparing serves both.
 pub fn widened(list: SplitList) -> Positions {
     let s = list.pieces;
     let mut out = [0u32; 512];
@@ -97,7 +88,7 @@ pub fn widened(list: SplitList) -> Positions {
 }
 
 // The counts and all 512 entries, so also those past the count.
-pub fn same_positions(a: Positions, b: Positions) -> bool {
+pub fn same(a: Positions, b: Positions) -> bool {
     let s = a.entries;
     let t = b.entries;
     let mut i: usize = 0;
@@ -108,8 +99,4 @@ pub fn same_positions(a: Positions, b: Positions) -> bool {
         i = i + 1;
     }
     a.count == b.count
-}
-
-pub fn same(a: SplitList, b: SplitList) -> bool {
-    same_positions(widened(a), widened(b))
 }
