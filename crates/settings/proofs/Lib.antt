@@ -1,3 +1,4 @@
 -- What the proofs of several functions, and the layers above, use.
 pub mod Small
+pub mod Complete
 mod Within
