@@ -1,26 +1,19 @@
 // The public calls as C functions on bytes and numbers; include/leg_sheet.h says what each takes and gives.
 // None of them asks anything of the caller beyond what a C slice is: a pointer to as many items as its length says.
-mod cuts;
-mod fields;
-mod lists;
-
+use numbers::cuts;
+use numbers::fields;
+use numbers::lists;
+use numbers::pack;
 ghost use mathlib.Core.Path.{_≡_};
-ghost use Rattle.export.specs.Words.{packed, partAfter};
-ghost use Rattle.export.specs.Numbers.{settingsGiven, sizesGiven, recordGiven};
-ghost use Rattle.export.specs.Cuts.{splits3Given, lentGiven, splitsGiven};
+ghost use Rattle.numbers.specs.Words.{packed, partAfter};
+ghost use Rattle.numbers.specs.Numbers.{settingsGiven, sizesGiven, recordGiven};
+ghost use Rattle.numbers.specs.Cuts.{splits3Given, lentGiven, splitsGiven};
 ghost use Rattle.settings.specs.Reading.{priorityOf, readSettings};
 ghost use Rattle.sizes.specs.Sharing.{shareOf};
 ghost use Rattle.tree.specs.Reading.{answerOf, readTree};
 ghost use Rattle.sizes.specs.Input.{inputOf};
 ghost use Rattle.leaf.specs.Answers.{leafRecordOf, leafPrintOf};
 ghost use Rattle.sheet.specs.Answers.{sheetOf};
-
-// The answer word: the number in the upper half, the count in the lower.
-fn pack(number: u8, count: usize) -> u64
-    ensures { λ r. ⌜ r ≡ packed number count ⌝ }
-{
-    (number as u64) * 4294967296 + (count % 4294967296) as u64
-}
 
 #[no_mangle]
 pub extern "C" fn leg_read_settings(bytes: &[u8], out: &mut [u16]) -> u64

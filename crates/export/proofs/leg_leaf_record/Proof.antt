@@ -1,13 +1,13 @@
 use borrow.Author.Needs.{needs}
 use mathlib.Core.Path.{_≡_}
 use lib.ListN.{length}
-use Rattle.export.proofs.Record.{record-plain, record-refused, record-short, record-written}
+use Rattle.numbers.proofs.Record.{record-plain, record-refused, record-short, record-written}
 use Rattle.export.proofs.leg_leaf_record.Statement.{statement}
 use Rattle.export.proofs.leg_leaf_record.Tie as tie
 use Rattle.export.proofs.leg_leaf_record.Reads as reads
 use Rattle.export.proofs.leg_leaf_record.Lts as lts
-use Rattle.export.proofs.fields.put_record.Reads as put-record-reads
-use Rattle.export.proofs.pack.Reads as pack-reads
+use Rattle.numbers.proofs.fields.put_record.Reads as put-record-reads
+use Rattle.numbers.proofs.pack.Reads as pack-reads
 use Rattle.leaf.proofs.leaf_record.Reads as leaf-record-reads
 
 abbrev At : Type 0

@@ -1,6 +1,6 @@
 use borrow.Author.Needs.{needs}
 use mathlib.Core.List.{[]}
-use Rattle.export.proofs.Read.{read-refused, read-short, read-ranges, read-written}
+use Rattle.numbers.proofs.Read.{read-refused, read-short, read-ranges, read-written}
 use Rattle.export.proofs.leg_read_settings.Statement.{statement}
 use Rattle.export.proofs.leg_read_settings.Tie as tie
 

@@ -1,5 +1,5 @@
 use borrow.Author.Needs.{needs}
-use Rattle.export.proofs.Parts.{share-word, part-stays, part-comes}
+use Rattle.numbers.proofs.Parts.{share-word, part-stays, part-comes}
 use Rattle.export.proofs.leg_share.Statement.{statement}
 use Rattle.export.proofs.leg_share.Tie as tie
 

@@ -2,8 +2,8 @@ use borrow.Author.Needs.{needs}
 use mathlib.Core.Path.{_≡_}
 use native.Mathlib.Omega.{arith}
 use lib.ListN.{length}
-use Rattle.export.proofs.Counts.{short-few}
-use Rattle.export.proofs.Split.{two-refusal, splits-few, splits-short, splits-short-left, splits-refused, splits-written}
+use Rattle.numbers.proofs.Counts.{short-few}
+use Rattle.numbers.proofs.Split.{two-refusal, splits-few, splits-short, splits-short-left, splits-refused, splits-written}
 use Rattle.export.proofs.leg_short_splits.Statement.{statement}
 use Rattle.export.proofs.leg_short_splits.Tie as tie
 

@@ -1,16 +1,16 @@
 use borrow.Author.Needs.{needs}
 use mathlib.Core.Path.{_≡_}
 use lib.ListN.{length}
-use Rattle.export.proofs.Given.{same-refusal}
-use Rattle.export.proofs.Counts.{cut-few}
-use Rattle.export.proofs.Split.{splits3-few, splits3-short, splits3-refused, splits3-written}
+use Rattle.numbers.proofs.Given.{same-refusal}
+use Rattle.numbers.proofs.Counts.{cut-few}
+use Rattle.numbers.proofs.Split.{splits3-few, splits3-short, splits3-refused, splits3-written}
 use Rattle.export.proofs.leg_short_splits3.Statement.{statement}
 use Rattle.export.proofs.leg_short_splits3.Tie as tie
 use Rattle.export.proofs.leg_short_splits3.Reads as reads
 use Rattle.export.proofs.leg_short_splits3.Lts as lts
-use Rattle.export.proofs.cuts.put_cut.Reads as put-cut-reads
-use Rattle.export.proofs.lists.list_of.Reads as list-of-reads
-use Rattle.export.proofs.pack.Reads as pack-reads
+use Rattle.numbers.proofs.cuts.put_cut.Reads as put-cut-reads
+use Rattle.numbers.proofs.lists.list_of.Reads as list-of-reads
+use Rattle.numbers.proofs.pack.Reads as pack-reads
 use Rattle.splits.proofs.short_splits3.Reads as short-splits3-reads
 
 abbrev At : Type 0

@@ -2,8 +2,8 @@ use borrow.Author.Needs.{needs}
 use mathlib.Core.Path.{_≡_}
 use native.Mathlib.Omega.{arith}
 use lib.ListN.{length}
-use Rattle.export.proofs.Counts.{kept-few}
-use Rattle.export.proofs.Split.{two-refusal, lent-few, lent-short, lent-refused, lent-written}
+use Rattle.numbers.proofs.Counts.{kept-few}
+use Rattle.numbers.proofs.Split.{two-refusal, lent-few, lent-short, lent-refused, lent-written}
 use Rattle.export.proofs.leg_short_splits3_lent.Statement.{statement}
 use Rattle.export.proofs.leg_short_splits3_lent.Tie as tie
 

@@ -1,7 +1,7 @@
 use borrow.Author.Needs.{needs}
 use native.Mathlib.Omega.{arith}
 use mathlib.Core.List.{[]}
-use Rattle.export.proofs.Measured.{sizes-refused, few-nodes, sizes-short, sizes-written}
+use Rattle.numbers.proofs.Measured.{sizes-refused, few-nodes, sizes-short, sizes-written}
 use Rattle.export.proofs.leg_sizes.Statement.{statement}
 use Rattle.export.proofs.leg_sizes.Tie as tie
 

@@ -1,9 +1,0 @@
-mod Copies
-mod Parts
-mod Given
-mod Fours
-mod Read
-mod Measured
-mod Counts
-mod Split
-mod Record

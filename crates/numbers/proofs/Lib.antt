@@ -1,0 +1,10 @@
+-- What the proofs of several functions, and those of the C functions, use.
+mod Copies
+pub mod Parts
+pub mod Given
+mod Fours
+pub mod Read
+pub mod Measured
+pub mod Counts
+pub mod Split
+pub mod Record

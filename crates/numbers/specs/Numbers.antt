@@ -1,0 +1,110 @@
+-- What the C functions write into lent lists: numbers in the order of include/leg_sheet.h.
+use Prim.Native.Nat.{ℕ, zero, suc, _≤_, _<_}
+use mathlib.Core.Bool.{Bool}
+use mathlib.Core.List.{List, [], _∷_, _++_}
+use lib.ListN.{length, drop, getD}
+use lib.Dec.{ltb, eqb}
+use Rattle.common.specs.Choice.{pick}
+use Rattle.settings.specs.declared.Settings.{Settings}
+use Rattle.settings.specs.Reading.{Parsed}
+use Rattle.settings.specs.Defaults.{recordOf, alignmentNumber, priorityNumber}
+use Rattle.tree.specs.Tree.{nodes}
+use Rattle.sizes.specs.declared.Core.{Core}
+use Rattle.sizes.specs.Sizes.{Sizes, treeSizes}
+use Rattle.sizes.specs.Input.{Input, refused, given}
+use Rattle.splits.specs.declared.SplitList.{SplitList}
+use Rattle.splits.specs.declared.Positions.{Positions}
+use Rattle.sizes.specs.declared.Size.{Size}
+use Rattle.block.specs.declared.Flags.{Flags}
+use Rattle.leaf.specs.declared.LeafRecord.{LeafRecord}
+use Rattle.numbers.specs.Words.{packed}
+
+-- what a function answers, and what the list lent to it then holds
+pub record Gives : Type 0 where
+  pub word : ℕ
+  pub out : List ℕ
+
+-- a refusal writes nothing
+unfoldable pub refusal : ℕ → List ℕ → Gives
+refusal k o = record { word = packed k 0; out = o }
+
+-- numbers at the front of a list; what is past them stays
+abbrev pub over : List ℕ → List ℕ → List ℕ
+over numbers o = numbers ++ drop (length numbers) o
+
+unfoldable pub written : ℕ → List ℕ → List ℕ → Gives
+written count numbers o = record { word = packed 0 count; out = over numbers o }
+
+-- the same, or 8 where the list is too short for them
+unfoldable pub offered : ℕ → List ℕ → List ℕ → Gives
+unfolding refusal written
+offered count numbers o = pick (ltb (length o) (length numbers)) (refusal 8 o) (written count numbers o)
+
+-- ---- settings
+
+-- the record past its tag and length
+abbrev pub settingsNumbers : Settings → List ℕ
+settingsNumbers s = drop 3 (recordOf s)
+
+-- the last five of them
+abbrev pub choiceNumbers : Settings → List ℕ
+choiceNumbers s = alignmentNumber (s .horizontal) ∷ alignmentNumber (s .vertical) ∷ pick (s .«line_mode») 1 0 ∷ priorityNumber (s .«width_priority») ∷ priorityNumber (s .«height_priority») ∷ []
+
+unfoldable pub settingsGiven : Parsed → List ℕ → Gives
+unfolding refusal offered
+settingsGiven Parsed.refused o = refusal 1 o
+settingsGiven (Parsed.read s) o = offered 28 (settingsNumbers s) o
+
+-- ---- sizes
+
+-- natural width and height, allotted width and height, node by node
+unfoldable pub sizeNumbers : List Sizes → List ℕ
+sizeNumbers [] = []
+sizeNumbers (z ∷ zs) = z .natural .width ∷ z .natural .height ∷ z .allotted .width ∷ z .allotted .height ∷ sizeNumbers zs
+
+unfoldable pub sizesGiven : Input → List ℕ → Gives
+unfolding refusal offered sizeNumbers treeSizes nodes
+sizesGiven (refused k) o = refusal k o
+sizesGiven (given s t) o = offered (nodes t) (sizeNumbers (treeSizes s t)) o
+
+-- the first n numbers of four lists, by turns
+unfoldable pub fours : ℕ → List ℕ → List ℕ → List ℕ → List ℕ → List ℕ
+fours zero j k l m = []
+fours (suc n) j k l m = getD j 0 0 ∷ getD k 0 0 ∷ getD l 0 0 ∷ getD m 0 0 ∷ fours n (drop 1 j) (drop 1 k) (drop 1 l) (drop 1 m)
+
+abbrev pub coreNumbers : Core → List ℕ
+coreNumbers c = fours (c .count) (c .«natural_widths») (c .«natural_heights») (c .widths) (c .heights)
+
+-- ---- lists
+
+-- the count, then the 512 entries
+abbrev pub listNumbers : SplitList → List ℕ
+listNumbers l = l .count ∷ l .pieces
+
+abbrev pub positionNumbers : Positions → List ℕ
+positionNumbers p = p .count ∷ p .entries
+
+abbrev pub bit : Bool → ℕ
+bit b = pick b 1 0
+
+-- ---- leaf records
+
+abbrev pub frontNumbers : ℕ → Size → Flags → List ℕ
+frontNumbers node z f =
+    node ∷ z .width ∷ z .height ∷ bit (f .«first_row») ∷ bit (f .«last_row») ∷ bit (f .«first_col») ∷ bit (f .«last_col»)
+    ∷ bit (f .«no_right») ∷ bit (f .«lean_top») ∷ bit (f .«top_left») ∷ bit (f .«top_intersection») ∷ []
+
+abbrev pub recordNumbers : LeafRecord → List ℕ
+recordNumbers r = frontNumbers (r .node) (r .size) (r .flags) ++ (listNumbers (r .horizontal) ++ listNumbers (r .vertical))
+
+unfoldable pub recordGiven : LeafRecord → List ℕ → Gives
+unfolding refusal offered
+recordGiven r o = pick (eqb (r .number) 0) (offered 1037 (recordNumbers r) o) (refusal (r .number) o)
+
+-- a record whose numbers fit 16 bits
+pub record Plain (r : LeafRecord) : Type 0 where
+  pub node : r .node < 65536
+  pub wide : r .size .width < 65536
+  pub tall : r .size .height < 65536
+  pub horizontal : r .horizontal .count ≤ 512
+  pub vertical : r .vertical .count ≤ 512

@@ -1,0 +1,130 @@
+// Settings, sizes and leaf records as lent numbers.
+use crate::lists;
+use block::Flags;
+use leaf::LeafRecord;
+use settings::Alignment;
+use settings::Priority;
+use settings::Settings;
+use sizes::Core;
+use sizes::Size;
+ghost use mathlib.Core.Path.{_≡_};
+ghost use Prim.Native.Nat.{_*_, _≤_, _<_};
+ghost use mathlib.Core.List.{_∷_, []};
+ghost use lib.ListN.{length};
+ghost use lib.Seq.{sets};
+ghost use Rattle.settings.specs.Reading.{Ranges};
+ghost use Rattle.settings.specs.Defaults.{alignmentNumber, priorityNumber};
+ghost use Rattle.numbers.specs.Numbers.{settingsNumbers, choiceNumbers, coreNumbers, frontNumbers, recordNumbers, Plain};
+
+fn number_of_priority(p: Priority) -> u16
+    ensures { λ r. ⌜ r ≡ priorityNumber p ⌝ }
+{
+    match p {
+        Priority::First => 0,
+        Priority::Last => 1,
+        Priority::List => 2,
+    }
+}
+
+fn number_of_alignment(a: Alignment) -> u16
+    ensures { λ r. ⌜ r ≡ alignmentNumber a ⌝ }
+{
+    match a {
+        Alignment::Start => 0,
+        Alignment::Center => 1,
+        Alignment::End => 2,
+    }
+}
+
+// Left, right, top, bottom.
+fn padding(s: Settings) -> [u16; 4]
+    requires { ⌜ Ranges s ⌝ }
+    ensures { λ r. ⌜ r ≡ s .left ∷ s .right ∷ s .top ∷ s .bottom ∷ [] ⌝ }
+{
+    [s.left as u16, s.right as u16, s.top as u16, s.bottom as u16]
+}
+
+// Two alignments, the line mode, two priorities.
+fn choices(s: Settings) -> [u16; 5]
+    ensures { λ r. ⌜ r ≡ choiceNumbers s ⌝ }
+{
+    let horizontal = s.horizontal;
+    let vertical = s.vertical;
+    let width = s.width_priority;
+    let height = s.height_priority;
+    [
+        number_of_alignment(horizontal),
+        number_of_alignment(vertical),
+        lists::bit(s.line_mode),
+        number_of_priority(width),
+        number_of_priority(height),
+    ]
+}
+
+// The 28 numbers of the settings record.
+pub fn put_settings(s: Settings, out: &mut [u16])
+    requires { ⌜ Ranges s × (28 ≤ length (now out)) ⌝ }
+    ensures { λ _. ⌜ now (out .exit) ≡ sets (now (out .entry)) 0 (settingsNumbers s) ⌝ }
+{
+    let marks = s.marks;
+    lists::copy_bytes(&marks, out, 0);
+    let sides = padding(s);
+    lists::copy(&sides, out, 15);
+    let fills = s.fills;
+    lists::copy_bytes(&fills, out, 19);
+    let chosen = choices(s);
+    lists::copy(&chosen, out, 23);
+}
+
+// Four numbers a node.
+pub fn put_sizes(core: Core, out: &mut [u16])
+    requires { ⌜ (core .count ≤ 512) × (4 * core .count ≤ length (now out)) ⌝ }
+    ensures { λ _. ⌜ now (out .exit) ≡ sets (now (out .entry)) 0 (coreNumbers core) ⌝ }
+{
+    let natural_widths = core.natural_widths;
+    let natural_heights = core.natural_heights;
+    let widths = core.widths;
+    let heights = core.heights;
+    let n = core.count;
+    let mut i = 0;
+    while i < n {
+        let four = [natural_widths[i], natural_heights[i], widths[i], heights[i]];
+        lists::copy(&four, out, 4 * i);
+        i += 1;
+    }
+}
+
+// Node, width, height, eight flags.
+fn front(node: usize, size: Size, f: Flags) -> [u16; 11]
+    requires { ⌜ (node < 65536) × (size .width < 65536) × (size .height < 65536) ⌝ }
+    ensures { λ r. ⌜ r ≡ frontNumbers node size f ⌝ }
+{
+    [
+        node as u16,
+        size.width as u16,
+        size.height as u16,
+        lists::bit(f.first_row),
+        lists::bit(f.last_row),
+        lists::bit(f.first_col),
+        lists::bit(f.last_col),
+        lists::bit(f.no_right),
+        lists::bit(f.lean_top),
+        lists::bit(f.top_left),
+        lists::bit(f.top_intersection),
+    ]
+}
+
+// The front, the horizontal list, the vertical list.
+pub fn put_record(r: LeafRecord, out: &mut [u16])
+    requires { ⌜ Plain r × (1037 ≤ length (now out)) ⌝ }
+    ensures { λ _. ⌜ now (out .exit) ≡ sets (now (out .entry)) 0 (recordNumbers r) ⌝ }
+{
+    let size = r.size;
+    let flags = r.flags;
+    let first = front(r.node, size, flags);
+    lists::copy(&first, out, 0);
+    let horizontal = r.horizontal;
+    lists::put_list(horizontal, out, 11);
+    let vertical = r.vertical;
+    lists::put_list(vertical, out, 524);
+}
