@@ -4,7 +4,7 @@
  * items as the length says, even where the length is 0; lists that are written must overlap no other argument. Nothing else is asked:
  * any bytes and any numbers may be handed in.
  *
- * Every function answers a word: LEG_NUMBER is 0 or the refusal of document 01's table, LEG_COUNT what was counted or written, 0 beside a
+ * Every function answers a word: LEG_NUMBER is 0 or a refusal's number from the list below, LEG_COUNT what was counted or written, 0 beside a
  * refusal. Each function below names its refusals in the order of its tests; 2 to 5 are tested element by element in node order, at each
  * one 2, 5, 4, then 3. A refusal writes to none of the lent lists; otherwise items past those said to be written stay as they were. The
  * functions keep nothing between calls and allocate nothing; on the stack they took up to 77 kilobytes (measured, at depth 16).
@@ -15,6 +15,21 @@
  *   4   node 513 met                               10   split list count over 512
  *   5   depth 17 met                               11   share: n = 0 or index >= n
  *   6   over 400 columns or 160 lines
+ *
+ * Settings and trees are bytes (hex below). docs/FORMS.md has them with pictures, examples and the meaning of each; examples/build.c builds a tree.
+ *
+ * Settings, 31 bytes: 10 00 1C, then
+ *   15 marks, 20 to 7E: top, bottom, left, right, horizontal, vertical (these two are never printed), top_left, top_right, top_intersection,
+ *      bottom_left, bottom_right, bottom_intersection, left_intersection, right_intersection, intersection
+ *   4 padding sizes, 0 to 16 (decimal): left, right, top, bottom; 4 fills in that order, 20 to 7E
+ *   horizontal alignment (0 left, 1 center, 2 right), vertical alignment (0 top, 1 center, 2 bottom), line mode (0 moves all lines of a text
+ *      as its widest, 1 each by itself), width priority and height priority (0 First, 1 Last, 2 List)
+ * The defaults: "\x10\x00\x1C" "--||-|+++++++++" "\x01\x01\x00\x00" "    " "\x00\x00\x00\x02\x02".
+ *
+ * A tree, one element. An element is a tag, the length of its contents in two bytes, the high one first, and its contents:
+ *   01 Cell: a text, bytes 20 to 7E, and 0A between its lines
+ *   02 Row, 03 Column: elements, side by side or one under another
+ * The root ends where the bytes end. Nodes are numbered from 0 in the order of their tags. Column[`ab`, `c`]: 03 00 09 01 00 02 61 62 01 00 01 63.
  */
 #ifndef LEG_SHEET_H
 #define LEG_SHEET_H
