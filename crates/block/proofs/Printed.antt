@@ -1,4 +1,4 @@
--- The leaf printer: the block over bytes of 0A, from the first byte on. Assumes nothing.
+-- `paint_joined`: the block over bytes of 0A, from the first byte on. Assumes nothing.
 use mathlib.Core.Path.{_≡_, _∙_}
 use Prim.Native.Nat.{ℕ, suc, _+_, _-_, _*_, _≤_, _<_}
 use native.Mathlib.Omega.{arith}

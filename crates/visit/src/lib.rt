@@ -113,7 +113,7 @@ fn print_block(
     if out.len() < n {
         return;
     }
-    block::print_leaf(out, s, text, natural, size, flags, horizontal, vertical);
+    block::paint_joined(out, s, text, natural, size, flags, horizontal, vertical);
 }
 
 // The leaf's block at its start in the sheet.

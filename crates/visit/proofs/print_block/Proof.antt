@@ -13,16 +13,16 @@ returns c = sym (printed-none _ _ (bytes-are _ _ _ _ _ _ _ (c .before .before .b
 returns-2 : tie.Need-returns-2
 returns-2 c = let e = bytes-are _ _ _ _ _ _ _ (c .before .before .before .before .before .before .before .pre) _ (c .before .before .block-bytes .ensures) in sym (printed-short _ _ (rw e (c .if2 .taken)))
 
-print-leaf-requires : tie.Need-print-leaf-requires
-print-leaf-requires c κs = paintable _ _ _ _ _ _ _ (c .before .before .before .before .before .before .before .before .pre) _ (c .before .before .before .block-bytes .ensures) _ (c .before .before .if1 .left) (c .before .if2 .left)
+paint-joined-requires : tie.Need-paint-joined-requires
+paint-joined-requires c κs = paintable _ _ _ _ _ _ _ (c .before .before .before .before .before .before .before .before .pre) _ (c .before .before .before .block-bytes .ensures) _ (c .before .before .if1 .left) (c .before .if2 .left)
 
 same-length : tie.Need-same-length
 same-length c = search needs
 
 returns-3 : tie.Need-returns-3
-returns-3 c = let k = c .before .before .print-leaf .ensures in let e = bytes-are _ _ _ _ _ _ _ (c .before .before .before .before .before .before .before .before .before .before .before .pre) _ (c .before .before .before .before .before .before .block-bytes .ensures) in k .out-is ∙ rw (k .count-is) (sym (printed-whole _ _ (rw e (c .before .before .before .before .if2 .left))))
+returns-3 c = let k = c .before .before .paint-joined .ensures in let e = bytes-are _ _ _ _ _ _ _ (c .before .before .before .before .before .before .before .before .before .before .before .pre) _ (c .before .before .before .before .before .before .block-bytes .ensures) in k .out-is ∙ rw (k .count-is) (sym (printed-whole _ _ (rw e (c .before .before .before .before .if2 .left))))
 
 pub print-block-spec : {M : Type 1} → statement M
 print-block-spec =
     tie.close
-    (tie.spec block-bytes-requires returns returns-2 print-leaf-requires same-length returns-3)
+    (tie.spec block-bytes-requires returns returns-2 paint-joined-requires same-length returns-3)

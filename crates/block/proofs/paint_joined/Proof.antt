@@ -2,8 +2,8 @@ use mathlib.Core.Path.{refl}
 use native.Mathlib.Omega.{arith}
 use borrow.Author.Needs.{needs}
 use Rattle.block.proofs.Printed.{leaf-wide, leaf-mul, leaf-low, leaf-fill, leaf-paint, leaf-printed}
-use Rattle.block.proofs.print_leaf.Statement.{statement}
-use Rattle.block.proofs.print_leaf.Tie as tie
+use Rattle.block.proofs.paint_joined.Statement.{statement}
+use Rattle.block.proofs.paint_joined.Tie as tie
 
 block-wide-requires : tie.Need-block-wide-requires
 block-wide-requires c κs = search needs
@@ -42,8 +42,8 @@ returns c =
     let h = c .before .before .before .before .before .before .before .before .block-tall .ensures in
     leaf-printed k _ w _ h (c .before .before .before .before .before .before .before .before .before .before .before .before .before .before .args .out .now) _ _ refl (c .before .before .before .before .before .before .fill .ensures .out-is) (c .before .before .paint-block .ensures)
 
-pub print-leaf-spec : {M : Type 1} → statement M
-print-leaf-spec =
+pub paint-joined-spec : {M : Type 1} → statement M
+paint-joined-spec =
     tie.close
     (tie.spec
     block-wide-requires
