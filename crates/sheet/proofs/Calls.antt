@@ -72,11 +72,17 @@ sheet-printed bs ts o h = sheet-case bs ts o (inputOf bs ts) refl h
 
 -- ---- what the leaf printer, lent enough output, writes for a node
 
-leaf-case : (d : Bool) (bytes o : List ℕ) → d ≡ false → written (pick d (noPrint 8 o) (record { answer = record { number = 0; count = length bytes }; out = bytes ++ drop (length bytes) o })) ≡ bytes
-leaf-case true bytes o e = let z : _≡_ {A = ℕ} 0 1 = cc in absurd (omega arith)
-leaf-case false bytes o e = take-append-seam bytes (drop (length bytes) o)
+-- the printer answers 0 and the number of these bytes, which it has written
+pub record PrintsBytes (bytes : List ℕ) (p : Prints) : Type 0 where
+  pub number : p .answer .number ≡ 0
+  pub count : p .answer .count ≡ length bytes
+  pub bytes-are : written p ≡ bytes
 
-pub leaf-written : (s : Settings) (t : Tree) {n : ℕ} {f : Placed} (o : List ℕ) → tooLarge s t ≡ false → LeafAt s t n f → length (blockOf s f) ≤ length o → written (leafPrintOf (given s t) n o) ≡ blockOf s f
+leaf-case : (d : Bool) (bytes o : List ℕ) → d ≡ false → PrintsBytes bytes (pick d (noPrint 8 o) (record { answer = record { number = 0; count = length bytes }; out = bytes ++ drop (length bytes) o }))
+leaf-case true bytes o e = let z : _≡_ {A = ℕ} 0 1 = cc in absurd (omega arith)
+leaf-case false bytes o e = record { number = refl; count = refl; bytes-are = take-append-seam bytes (drop (length bytes) o) }
+
+pub leaf-written : (s : Settings) (t : Tree) {n : ℕ} {f : Placed} (o : List ℕ) → tooLarge s t ≡ false → LeafAt s t n f → length (blockOf s f) ≤ length o → PrintsBytes (blockOf s f) (leafPrintOf (given s t) n o)
 unfolding leafPrintOf
 leaf-written s t {f = f} o g p h = rw (g, leaf-found s t p) (leaf-case (ltb (length o) (length (blockOf s f))) (blockOf s f) o (le-ltb _ _ h))
 
@@ -99,10 +105,14 @@ module _ (bs ts o : List ℕ) (h : sheetOf (inputOf bs ts) o .answer .number ≡
   pub sheet-lines : Dims (lines (written (sheetOf (inputOf bs ts) o))) (H s t) (W s t)
   sheet-lines = rw (accepted .bytes) (sheet-rectangle s t demands)
 
+  -- for each leaf, the leaf printer, lent enough output, answers 0 and writes the leaf's block
+  pub leaf-prints : {n : ℕ} {f : Placed} → LeafAt s t n f → (o₁ : List ℕ) → length (blockOf s f) ≤ length o₁ → PrintsBytes (blockOf s f) (leafPrintOf (inputOf bs ts) n o₁)
+  leaf-prints p o₁ e = rw (accepted .input) (leaf-written s t o₁ (accepted .within) p e)
+
   -- a leaf's block, as the leaf printer writes it, has the lines and columns of the size that the collector writes at its node
   pub block-lines : {n : ℕ} {f : Placed} → LeafAt s t n f → (o₁ : List ℕ) → length (blockOf s f) ≤ length o₁
       → Dims (lines (written (leafPrintOf (inputOf bs ts) n o₁))) (tall s (sizesAt (treeSizes s t) n .allotted) (f .at .flags)) (wide s (sizesAt (treeSizes s t) n .allotted) (f .at .flags))
-  block-lines p o₁ e = rw (accepted .input, leaf-written s t o₁ (accepted .within) p e) (block-rectangle s t demands p)
+  block-lines p o₁ e = rw (leaf-prints p o₁ e .bytes-are) (block-rectangle s t demands p)
 
   -- "Each place of an accepted sheet's rectangle lies in exactly one leaf's block"
   pub each-place : (l k : ℕ) → l < H s t → k < W s t → OneLeaf s t l k
@@ -115,4 +125,4 @@ module _ (bs ts o : List ℕ) (h : sheetOf (inputOf bs ts) o .answer .number ≡
   -- "the sheet's byte at each place equals the byte that the leaf printer, with the same settings and tree, writes there in that block"
   pub each-byte : {n : ℕ} {f : Placed} → LeafAt s t n f → (l k : ℕ) → Covers s f l k → (o₁ : List ℕ) → length (blockOf s f) ≤ length o₁
       → placeAt (written (sheetOf (inputOf bs ts) o)) l k ≡ placeAt (written (leafPrintOf (inputOf bs ts) n o₁)) (l - f .at .line) (k - f .at .column)
-  each-byte p l k c o₁ e = rw (accepted .bytes, accepted .input, leaf-written s t o₁ (accepted .within) p e) (place-owned s t demands p l k c)
+  each-byte p l k c o₁ e = rw (accepted .bytes, leaf-prints p o₁ e .bytes-are) (place-owned s t demands p l k c)
