@@ -6,3 +6,4 @@ pub mod Numbered
 pub mod Entries
 pub mod Named
 pub mod Narrow
+pub mod Starts

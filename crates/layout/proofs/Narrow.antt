@@ -33,7 +33,7 @@ Wide y = 0 < y .allotted .width
 
 -- ---- from the leaves to all nodes
 
-join-leaves : (a : Axis) (w r : Walked) → joinWalked a w r .leaves ≡ w .leaves ++ r .leaves
+pub join-leaves : (a : Axis) (w r : Walked) → joinWalked a w r .leaves ≡ w .leaves ++ r .leaves
 unfolding joinWalked
 join-leaves across w r = refl
 join-leaves down w r = refl

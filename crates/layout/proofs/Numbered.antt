@@ -34,12 +34,12 @@ unfolding joinWalked
 join-numbered s across w r l e p q = then l p (rw (← e) at q)
 join-numbered s down w r l e p q = then l p (rw (← e) at q)
 
-none-leaves : (a : Axis) (h : List ℕ) → noneWalked a h .leaves ≡ []
+pub none-leaves : (a : Axis) (h : List ℕ) → noneWalked a h .leaves ≡ []
 unfolding noneWalked
 none-leaves across h = refl
 none-leaves down h = refl
 
-child-node : (a : Axis) (c : Context) (first last old : Bool) (node offset e : ℕ) (taken handed : List ℕ)
+pub child-node : (a : Axis) (c : Context) (first last old : Bool) (node offset e : ℕ) (taken handed : List ℕ)
     → child a c first last old node offset e taken handed .node ≡ node
 unfolding child
 child-node across c f l o n off e tk hd = refl

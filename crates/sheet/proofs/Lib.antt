@@ -8,3 +8,4 @@ pub mod Painted
 pub mod Planned
 pub mod Printed
 pub mod Calls
+pub mod StartsWritten
