@@ -101,26 +101,26 @@ module _ (s : Settings) (size : ℕ → Size) where
 
   -- ---- a group's children
 
-  -- the extents of those nodes, and a separator each
-  abbrev pub passed : Axis → List ℕ → ℕ
-  passed a ns = total (map (λ m. along a (size m) + sep s) ns)
+  -- the way past those nodes: their extents, and a separator each
+  abbrev pub pastNodes : Axis → List ℕ → ℕ
+  pastNodes a ns = total (map (λ m. along a (size m) + sep s) ns)
 
   children-start : {ps : List Place} (ts : Trees) (n : ℕ) (a : Axis) (p : Place) → Stand ps n (starts* s size n a p ts)
-      → (i m : ℕ) → getElem? (childNodes n ts) i ≡ some m → getElem? ps m ≡ some (further a p (passed a (take i (childNodes n ts))))
+      → (i m : ℕ) → getElem? (childNodes n ts) i ≡ some m → getElem? ps m ≡ some (further a p (pastNodes a (take i (childNodes n ts))))
   unfolding childNodes total
   children-start none n a p h i m d = elem-none i m d
   children-start (more t ts) n a p h zero m d =
       let e : n ≡ m = cc in
       rw (← e, further-none) (stand-own p t (stand-child a p t ts h))
   children-start (more t ts) n a p h (suc i) m d =
-      rw (← further-twice a p (along a (size n) + sep s) (passed a (take i (childNodes (n + nodes t) ts))))
+      rw (← further-twice a p (along a (size n) + sep s) (pastNodes a (take i (childNodes (n + nodes t) ts))))
       (children-start ts (n + nodes t) a (further a p (along a (size n) + sep s)) (stand-others a p t ts h) i m d)
 
   -- node n is a group of the trees ts along the axis a: it and its children in the list of starts
   record GroupStands (ps : List Place) (n : ℕ) (a : Axis) (ts : Trees) : Type 0 where
     start : Place
     own : getElem? ps n ≡ some start
-    each : (i m : ℕ) → getElem? (childNodes (suc n) ts) i ≡ some m → getElem? ps m ≡ some (further a start (passed a (take i (childNodes (suc n) ts))))
+    each : (i m : ℕ) → getElem? (childNodes (suc n) ts) i ≡ some m → getElem? ps m ≡ some (further a start (pastNodes a (take i (childNodes (suc n) ts))))
 
   module _ {ps : List Place} where
     here : (b : Axis) (us : Trees) (n : ℕ) (p : Place) → Stand ps n (starts s size n p (group b us)) → (k : ℕ) (a : Axis) (ts : Trees) → k ≡ 0 → group b us ≡ group a ts → GroupStands ps (n + k) a ts
@@ -161,7 +161,7 @@ module _ (s : Settings) (size : ℕ → Size) where
   module _ (t : Tree) (node : ℕ) where
     -- child i of a group, which is node m, starts where the group does, and along the axis further by the extents of the children before it and a separator each
     pub child-start : (a : Axis) (ts : Trees) → getElem? (subtrees t) node ≡ some (group a ts) → (i m : ℕ) → getElem? (childNodes (suc node) ts) i ≡ some m
-        → startAt s size t m ≡ further a (startAt s size t node) (passed a (take i (childNodes (suc node) ts)))
+        → startAt s size t m ≡ further a (startAt s size t node) (pastNodes a (take i (childNodes (suc node) ts)))
     unfolding startAt
     child-start a ts e i m d =
         let z : 0 + node ≡ node = omega arith in

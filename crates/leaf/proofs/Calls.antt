@@ -53,9 +53,21 @@ tree-ready job ts t c len k e a = record {
   asks = a;
 }
 
--- a walk that is not for the sheet asks only what every leaf has
-pub leaves-ask : (job : Job) (t : Tree) (len : ℕ) → (job .purpose ≡ Purpose.Sheet → ⊥) → Every (Asks job len) (leaves (job .settings) t)
-leaves-ask job t len n = every-map (LeafFits (job .settings)) (Asks job len) (λ l f. record { fits = f; in-sheet = λ e. absurd (n e) }) (leaves (job .settings) t) (leaves-fit (job .settings) t)
+-- a record's walk and a block's are not for the sheet
+abbrev pub NoSheet : Purpose → Type 0
+NoSheet Purpose.Record = Unit {0}
+NoSheet Purpose.Block = Unit {0}
+NoSheet Purpose.Sheet = ⊥
+
+no-sheet : (u : Purpose) → NoSheet u → u ≡ Purpose.Sheet → ⊥
+no-sheet Purpose.Record k e = let z : _≡_ {A = ℕ} 0 1 = cc in omega arith
+no-sheet Purpose.Block k e = let z : _≡_ {A = ℕ} 0 1 = cc in omega arith
+no-sheet Purpose.Sheet k e = k
+
+-- such a walk asks only what every leaf has
+leaves-ask : (job : Job) (t : Tree) (len : ℕ) → NoSheet (job .purpose) → Every (Asks job len) (leaves (job .settings) t)
+leaves-ask job t len n =
+    every-map (LeafFits (job .settings)) (Asks job len) (λ l f. record { fits = f; in-sheet = λ e. absurd (no-sheet (job .purpose) n e) }) (leaves (job .settings) t) (leaves-fit (job .settings) t)
 
 -- ---- the leaf record
 
@@ -95,25 +107,18 @@ module _ (bs ts : List ℕ) (m : Measured) (me : m ≡ measuredOf (inputOf bs ts
   pub call-large : (b c : Bool) → b ≡ largeOf (m .core) → b ≡ c → tooLarge (m .settings) (call .tree) ≡ c
   call-large b c e f = sym (large-is (m .settings) (call .tree) (m .core) (call .core)) ∙ sym e ∙ f
 
-  pub call-ready : (p : Purpose) (n len : ℕ) → (p ≡ Purpose.Sheet → ⊥) → ReadyTree (jobOf m p n) ts (coreLists (m .core)) len
+  pub call-ready : (p : Purpose) (n len : ℕ) → NoSheet p → ReadyTree (jobOf m p n) ts (coreLists (m .core)) len
   call-ready p n len k = tree-ready (jobOf m p n) ts (call .tree) (m .core) len call-takes (call .core) (leaves-ask (jobOf m p n) (call .tree) len k)
 
-  pub call-walks : (p : Purpose) (n len : ℕ) (k : p ≡ Purpose.Sheet → ⊥) (f : Found) (kept o₀ o : List ℕ)
+  pub call-walks : (p : Purpose) (n len : ℕ) (k : NoSheet p) (f : Found) (kept o₀ o : List ℕ)
       → WalksTree (jobOf m p n) (leaves (m .settings) (call-ready p n len k .tree)) f kept o₀ o → WalksTree (jobOf m p n) (leaves (m .settings) (call .tree)) f kept o₀ o
   unfolding call-ready tree-ready
   call-walks p n len k f kept o₀ o w = w
 
   -- the leaf record
-  pub record-answers : (n len : ℕ) (k : Purpose.Record ≡ Purpose.Sheet → ⊥) (f : Found) (kept o₀ o : List ℕ)
-      → WalksTree (jobOf m Purpose.Record n) (leaves (m .settings) (call-ready Purpose.Record n len k .tree)) f kept o₀ o → (b : Bool) → b ≡ largeOf (m .core) → b ≡ false
+  pub record-answers : (n len : ℕ) (f : Found) (kept o₀ o : List ℕ)
+      → WalksTree (jobOf m Purpose.Record n) (leaves (m .settings) (call-ready Purpose.Record n len tt .tree)) f kept o₀ o → (b : Bool) → b ≡ largeOf (m .core) → b ≡ false
       → foundRecord (keptOf f kept) ≡ leafRecordOf (inputOf bs ts) n
-  record-answers n len k f kept o₀ o w b e g =
-      record-found (jobOf m Purpose.Record n) (call .tree) (keptOf f kept) (call-walks Purpose.Record n len k f kept o₀ o w .found-is)
+  record-answers n len f kept o₀ o w b e g =
+      record-found (jobOf m Purpose.Record n) (call .tree) (keptOf f kept) (call-walks Purpose.Record n len tt f kept o₀ o w .found-is)
       ∙ sym (record-within bs ts n (m .settings) (call .tree) (call .input) (call-large b false e g))
-
--- no record's or block's walk is the sheet's
-pub record-no-sheet : Purpose.Record ≡ Purpose.Sheet → ⊥
-record-no-sheet e = let z : _≡_ {A = ℕ} 0 1 = cc in omega arith
-
-pub block-no-sheet : Purpose.Block ≡ Purpose.Sheet → ⊥
-block-no-sheet e = let z : _≡_ {A = ℕ} 0 1 = cc in omega arith

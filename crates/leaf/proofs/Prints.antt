@@ -32,7 +32,7 @@ use Rattle.layout.proofs.Entries.{Listed, numbered-listed}
 use Rattle.layout.proofs.Named.{leaves-numbered, leaves-rise}
 use Rattle.sizes.proofs.Given.{Takes, refuses}
 use Rattle.visit.proofs.Bytes.{block-bytes}
-use Rattle.leaf.proofs.Calls.{jobOf, call, call-takes, call-large, call-ready, call-walks, block-no-sheet}
+use Rattle.leaf.proofs.Calls.{NoSheet, jobOf, call, call-takes, call-large, call-ready, call-walks}
 use Rattle.leaf.proofs.Seek.{soughtOf, keep-numbered, shownOf, show-numbered}
 
 -- ---- a fact of every leaf is one of the wanted leaf
@@ -96,25 +96,27 @@ module _ (bs ts : List ℕ) (n : ℕ) (o : List ℕ) (m : Measured) (me : m ≡ 
     unfolding leafPrintOf
     print-within g = rw (call bs ts m me h .input, call-large bs ts m me h b false be g)
 
-    module _ (len : ℕ) (f : Found) (kept o₁ : List ℕ)
-        (w : WalksTree (jobOf m Purpose.Block n) (leaves (m .settings) (call-ready bs ts m me h Purpose.Block n len block-no-sheet .tree)) f kept o o₁) where
-      ls : List Placed
-      ls = leaves (m .settings) (call bs ts m me h .tree)
+    ls : List Placed
+    ls = leaves (m .settings) (call bs ts m me h .tree)
 
+    module _ (u : Purpose) (k : NoSheet u) (len : ℕ) (f : Found) (kept o₁ : List ℕ)
+        (w : WalksTree (jobOf m u n) (leaves (m .settings) (call-ready bs ts m me h u n len k .tree)) f kept o o₁) where
       found-is : keptOf f kept ≡ soughtOf noKept (numbered n ls)
       unfolding ls
-      found-is = call-walks bs ts m me h Purpose.Block n len block-no-sheet f kept o o₁ w .found-is ∙ keep-numbered (jobOf m Purpose.Block n) noKept 0 ls (leaves-rise (m .settings) (call bs ts m me h .tree))
+      found-is = call-walks bs ts m me h u n len k f kept o o₁ w .found-is ∙ keep-numbered (jobOf m u n) noKept 0 ls (leaves-rise (m .settings) (call bs ts m me h .tree))
 
       pub found-small : (f .size .width < 65536) × (f .size .height < 65536)
       unfolding ls
       found-small = rw (← found-is) at (kept-small (m .settings) n ls (numbered n ls) refl (leaves-small ts (m .settings) (call bs ts m me h .tree) (call-takes bs ts m me h)))
 
+    module _ (len : ℕ) (f : Found) (kept o₁ : List ℕ)
+        (w : WalksTree (jobOf m Purpose.Block n) (leaves (m .settings) (call-ready bs ts m me h Purpose.Block n len tt .tree)) f kept o o₁) where
       out-is : o₁ ≡ shownOf (m .settings) o (numbered n ls)
       unfolding ls
-      out-is = call-walks bs ts m me h Purpose.Block n len block-no-sheet f kept o o₁ w .out-is ∙ show-numbered (m .settings) n o 0 ls (leaves-rise (m .settings) (call bs ts m me h .tree))
+      out-is = call-walks bs ts m me h Purpose.Block n len tt f kept o o₁ w .out-is ∙ show-numbered (m .settings) n o 0 ls (leaves-rise (m .settings) (call bs ts m me h .tree))
 
       pub print-answers : b ≡ false → (r : Written) (len₁ : ℕ) → len₁ ≡ length o → r ≡ foundWritten (m .settings) (keptOf f kept) len₁ → Answers r o₁ (leafPrintOf (inputOf bs ts) n o)
       unfolding ls
       print-answers g r len₁ le re =
-          let k = found-prints (m .settings) n o ls (numbered n ls) refl (leaves-fit (m .settings) (call bs ts m me h .tree)) in
-          rw (print-within g) (re ∙ rw (found-is, le) (k .0), out-is ∙ k .1)
+          let x = found-prints (m .settings) n o ls (numbered n ls) refl (leaves-fit (m .settings) (call bs ts m me h .tree)) in
+          rw (print-within g) (re ∙ rw (found-is Purpose.Block tt len f kept o₁ w, le) (x .0), out-is ∙ x .1)

@@ -42,10 +42,10 @@ use Rattle.sheet.proofs.Planned.{narrow-wide, narrow-is, stride-is, byt
 
 -- ---- the walk's fold for the sheet pastes every block
 
-abbrev sheetJob : Settings → ℕ → Job
-sheetJob s stride = record { purpose = Purpose.Sheet; settings = s; wanted = 512; stride = stride }
+abbrev jobFor : Purpose → Settings → ℕ → Job
+jobFor u s stride = record { purpose = u; settings = s; wanted = 512; stride = stride }
 
-show-painted : (s : Settings) (stride : ℕ) (o : List ℕ) (ls : List Placed) → showAll (sheetJob s stride) o ls ≡ painted s stride ls o
+show-painted : (s : Settings) (stride : ℕ) (o : List ℕ) (ls : List Placed) → showAll (jobFor Purpose.Sheet s stride) o ls ≡ painted s stride ls o
 unfolding showAll painted
 show-painted s stride o [] = refl
 show-painted s stride o (l ∷ ls) = show-painted s stride _ ls
@@ -62,12 +62,12 @@ large-no a b h = large-case (ltb 400 a) a b refl h
 sheet-room : (w h len : ℕ) → w ≤ 400 → h ≤ 160 → (w + 1) * h - 1 ≤ len → Room (0 * (w + 1) + 0) (w + 1) h w len
 sheet-room w h len p q r = let m : (w + 1) * h ≤ 401 * 160 = mul-le-mul {n₂ = 401} {m₂ = 160} (omega arith) q in record { fits = omega arith; small = omega arith }
 
-leaves-ask : (s : Settings) (t : Tree) (len : ℕ) → tooLarge s t ≡ false → Every HasWidth (leaves s t) → (W s t + 1) * H s t - 1 ≤ len → Every (Asks (sheetJob s (W s t + 1)) len) (leaves s t)
+leaves-ask : (u : Purpose) (s : Settings) (t : Tree) (len : ℕ) → tooLarge s t ≡ false → Every HasWidth (leaves s t) → (W s t + 1) * H s t - 1 ≤ len → Every (Asks (jobFor u s (W s t + 1)) len) (leaves s t)
 unfolding tooLarge
-leaves-ask s t len g k r =
+leaves-ask u s t len g k r =
     let n = large-no (W s t) (H s t) g in
     let room = sheet-room (W s t) (H s t) len (n .0) (n .1) r in
-    every-map (λ l. (LeafFits s l × HasWidth l) × Inside s 0 0 (H s t) (W s t) l) (Asks (sheetJob s (W s t + 1)) len)
+    every-map (λ l. (LeafFits s l × HasWidth l) × Inside s 0 0 (H s t) (W s t) l) (Asks (jobFor u s (W s t + 1)) len)
     (λ l x. record { fits = x .0 .0; in-sheet = λ e. record { some = x .0 .1; apart = omega (arith, x .1 .right); room = room-inside (W s t + 1) len (x .1) room } })
     (leaves s t)
     (every-and (λ l. LeafFits s l × HasWidth l) (Inside s 0 0 (H s t) (W s t)) (leaves s t) (every-and (LeafFits s) HasWidth (leaves s t) (leaves-fit s t) k) (laid-inside (root-laid s t)))
@@ -151,14 +151,15 @@ module _ (bs ts : List ℕ) (o : List ℕ) (m : Measured) (me : m ≡ measuredOf
         large : tooLarge s t ≡ false
         large = sym (large-is s t (m .core) core-is) ∙ passed .first
 
-        asks : (len : ℕ) → len ≡ length o → Every (Asks (sheetJob s (p .stride)) len) (leaves s t)
-        asks len le = rw stride-of (leaves-ask s t len large widths (omega (arith, le, bytes-is s t (m .core) core-is, ltb-false (length o) n (passed .third))))
+        asks : (u : Purpose) (len : ℕ) → len ≡ length o → Every (Asks (jobFor u s (p .stride)) len) (leaves s t)
+        asks u len le = rw stride-of (leaves-ask u s t len large widths (omega (arith, le, bytes-is s t (m .core) core-is, ltb-false (length o) n (passed .third))))
 
-        pub sheet-ready : (len : ℕ) → len ≡ length o → ReadyTree (sheetJob s (p .stride)) ts (coreLists (m .core)) len
-        sheet-ready len le = tree-ready (sheetJob s (p .stride)) ts t (m .core) len (call-takes bs ts m me h) core-is (asks len le)
+        -- the walk can start, whatever its purpose
+        pub sheet-ready : (u : Purpose) (len : ℕ) → len ≡ length o → ReadyTree (jobFor u s (p .stride)) ts (coreLists (m .core)) len
+        sheet-ready u len le = tree-ready (jobFor u s (p .stride)) ts t (m .core) len (call-takes bs ts m me h) core-is (asks u len le)
 
         sheet-shown : (len : ℕ) (le : len ≡ length o) (f : Found) (kept o₁ o₂ : List ℕ) → o₁ ≡ sets o 0 (replicate (p .count) 10)
-            → WalksTree (sheetJob s (p .stride)) (leaves s (sheet-ready len le .tree)) f kept o₁ o₂ → o₂ ≡ sheet s t ++ drop n o
+            → WalksTree (jobFor Purpose.Sheet s (p .stride)) (leaves s (sheet-ready Purpose.Sheet len le .tree)) f kept o₁ o₂ → o₂ ≡ sheet s t ++ drop n o
         unfolding sheet-ready tree-ready
         sheet-shown len le f kept o₁ o₂ oe w =
             w .out-is
@@ -166,7 +167,7 @@ module _ (bs ts : List ℕ) (o : List ℕ) (m : Measured) (me : m ≡ measuredOf
             ∙ rw (oe, filled o (p .count) (omega (arith, fits)), stride-of, count-is, bytes-is s t (m .core) core-is) (sheet-painted s t (drop ((W s t + 1) * H s t - 1) o) widths)
 
         pub sheet-answers : (len : ℕ) (le : len ≡ length o) (f : Found) (kept o₁ o₂ : List ℕ) → o₁ ≡ sets o 0 (replicate (p .count) 10)
-            → WalksTree (sheetJob s (p .stride)) (leaves s (sheet-ready len le .tree)) f kept o₁ o₂
+            → WalksTree (jobFor Purpose.Sheet s (p .stride)) (leaves s (sheet-ready Purpose.Sheet len le .tree)) f kept o₁ o₂
             → (_≡_ {A = Written} (record { number = 0; count = p .count }) (sheetOf (inputOf bs ts) o .answer)) × (o₂ ≡ sheetOf (inputOf bs ts) o .out)
         sheet-answers len le f kept o₁ o₂ oe w =
             let e : sheetOf (inputOf bs ts) o ≡ whole = sheet-is ∙ rw (passed .first, passed .second, passed .third) in

@@ -1,6 +1,6 @@
 use borrow.Author.Needs.{needs}
 use Rattle.leaf.proofs.Prints.{refusal, print-refused, print-large, found-small, print-answers}
-use Rattle.leaf.proofs.Calls.{call-ready, block-no-sheet}
+use Rattle.leaf.proofs.Calls.{call-ready}
 use Rattle.leaf.proofs.print_leaf.Statement.{statement}
 use Rattle.leaf.proofs.print_leaf.Tie as tie
 use Rattle.leaf.proofs.print_leaf.Reads as reads
@@ -26,16 +26,16 @@ slice-aggregate-walk-core : tie.Need-slice-aggregate-walk-core
 slice-aggregate-walk-core c = search needs
 
 walk-core-requires : tie.Need-walk-core-requires
-walk-core-requires c κs = (call-ready _ _ _ (c .before .before .before .before .before .before .before .before .measure-tree .ensures) (c .before .before .before .before .before .before .if1 .left) _ _ _ block-no-sheet, search needs)
+walk-core-requires c κs = (call-ready _ _ _ (c .before .before .before .before .before .before .before .before .measure-tree .ensures) (c .before .before .before .before .before .before .if1 .left) _ _ _ tt, search needs)
 
 written-of-requires : tie.Need-written-of-requires
-written-of-requires c κs = let e = c .before .before .before .before .before .before .before .before .before .before .before .before .measure-tree .ensures in let h = c .before .before .before .before .before .before .before .before .before .before .if1 .left in found-small _ _ _ _ _ e h _ (c .before .before .before .before .before .before .before .before .is-large .ensures) _ _ _ _ (c .before .before .before .walk-core .ensures (call-ready _ _ _ e h _ _ _ block-no-sheet))
+written-of-requires c κs = let e = c .before .before .before .before .before .before .before .before .before .before .before .before .measure-tree .ensures in let h = c .before .before .before .before .before .before .before .before .before .before .if1 .left in found-small _ _ _ _ _ e h _ (c .before .before .before .before .before .before .before .before .is-large .ensures) _ tt _ _ _ _ (c .before .before .before .walk-core .ensures (call-ready _ _ _ e h _ _ _ tt))
 
 same-length : tie.Need-same-length
 same-length c = search needs
 
 returns-3 : tie.Need-returns-3
-returns-3 c = let e = c .before .before .before .before .before .before .before .before .before .before .before .before .before .measure-tree .ensures in let h = c .before .before .before .before .before .before .before .before .before .before .before .if1 .left in print-answers _ _ _ _ _ e h _ (c .before .before .before .before .before .before .before .before .before .is-large .ensures) _ _ _ _ (c .before .before .before .before .walk-core .ensures (call-ready _ _ _ e h _ _ _ block-no-sheet)) (c .before .before .before .before .before .before .before .before .if2 .left) _ _ (search needs) (c .written-of .ensures)
+returns-3 c = let e = c .before .before .before .before .before .before .before .before .before .before .before .before .before .measure-tree .ensures in let h = c .before .before .before .before .before .before .before .before .before .before .before .if1 .left in print-answers _ _ _ _ _ e h _ (c .before .before .before .before .before .before .before .before .before .is-large .ensures) _ _ _ _ (c .before .before .before .before .walk-core .ensures (call-ready _ _ _ e h _ _ _ tt)) (c .before .before .before .before .before .before .before .before .if2 .left) _ _ (search needs) (c .written-of .ensures)
 
 pub print-leaf-spec : {M : Type 1} → statement M
 print-leaf-spec =

@@ -29,13 +29,13 @@ slice-aggregate-walk-core : tie.Need-slice-aggregate-walk-core
 slice-aggregate-walk-core c = search needs
 
 walk-core-requires : tie.Need-walk-core-requires
-walk-core-requires c κs = (sheet-ready _ _ (c .before .before .before .before .before .before .before .before .before .before .before .before .before .before .before .before .before .args .out .now) _ (c .before .before .before .before .before .before .before .before .before .before .before .before .before .measure-tree .ensures) (c .before .before .before .before .before .before .before .before .before .before .before .if1 .left) _ (c .before .before .before .before .before .before .before .before .before .plan-sheet .ensures) (c .before .before .before .before .before .before .before .if2 .left) _ (search needs), search needs)
+walk-core-requires c κs = (sheet-ready _ _ (c .before .before .before .before .before .before .before .before .before .before .before .before .before .before .before .before .before .args .out .now) _ (c .before .before .before .before .before .before .before .before .before .before .before .before .before .measure-tree .ensures) (c .before .before .before .before .before .before .before .before .before .before .before .if1 .left) _ (c .before .before .before .before .before .before .before .before .before .plan-sheet .ensures) (c .before .before .before .before .before .before .before .if2 .left) _ _ (search needs), search needs)
 
 same-length : tie.Need-same-length
 same-length c = search needs
 
 returns-3 : tie.Need-returns-3
-returns-3 c = let e = c .before .before .before .before .before .before .before .before .before .before .before .before .before .before .before .before .before .measure-tree .ensures in let h = c .before .before .before .before .before .before .before .before .before .before .before .before .before .before .before .if1 .left in let pe = c .before .before .before .before .before .before .before .before .before .before .before .before .before .plan-sheet .ensures in let k = c .before .before .before .before .before .before .before .before .before .before .before .if2 .left in sheet-answers _ _ (c .before .before .before .before .before .before .before .before .before .before .before .before .before .before .before .before .before .before .before .before .before .args .out .now) _ e h _ pe k _ (search needs) _ _ _ _ (c .before .before .before .before .before .before .before .before .fill .ensures .out-is) (c .before .before .before .walk-core .ensures (sheet-ready _ _ (c .before .before .before .before .before .before .before .before .before .before .before .before .before .before .before .before .before .before .before .before .before .args .out .now) _ e h _ pe k _ (search needs)))
+returns-3 c = let e = c .before .before .before .before .before .before .before .before .before .before .before .before .before .before .before .before .before .measure-tree .ensures in let h = c .before .before .before .before .before .before .before .before .before .before .before .before .before .before .before .if1 .left in let pe = c .before .before .before .before .before .before .before .before .before .before .before .before .before .plan-sheet .ensures in let k = c .before .before .before .before .before .before .before .before .before .before .before .if2 .left in sheet-answers _ _ (c .before .before .before .before .before .before .before .before .before .before .before .before .before .before .before .before .before .before .before .before .before .args .out .now) _ e h _ pe k _ (search needs) _ _ _ _ (c .before .before .before .before .before .before .before .before .fill .ensures .out-is) (c .before .before .before .walk-core .ensures (sheet-ready _ _ (c .before .before .before .before .before .before .before .before .before .before .before .before .before .before .before .before .before .before .before .before .before .args .out .now) _ e h _ pe k _ _ (search needs)))
 
 pub print-sheet-spec : {M : Type 1} → statement M
 print-sheet-spec =
