@@ -4,6 +4,7 @@ use numbers::cuts;
 use numbers::fields;
 use numbers::lists;
 use numbers::pack;
+use splits::lent::list_at;
 ghost use mathlib.Core.Path.{_≡_};
 ghost use Rattle.numbers.specs.Words.{packed, partAfter};
 ghost use Rattle.numbers.specs.Numbers.{settingsGiven, sizesGiven, recordGiven};
@@ -96,17 +97,12 @@ pub extern "C" fn leg_short_splits3(pieces: &[u16], count: usize, w: u16, out: &
     ensures { λ r. ⌜ r ≡ splits3Given (now (pieces .entry)) count w (now (out .entry)) .word ⌝ }
     ensures shown { λ _. ⌜ now (out .exit) ≡ splits3Given (now (pieces .entry)) count w (now (out .entry)) .out ⌝ }
 {
-    if pieces.len() < 512 {
-        return pack(8, 0);
+    let number = cuts::refused_by(pieces.len(), count, out.len(), 1027);
+    if number != 0 {
+        return pack(number, 0);
     }
-    if out.len() < 1027 {
-        return pack(8, 0);
-    }
-    let list = lists::list_of(pieces, count);
+    let list = list_at(pieces, 0, count);
     let cut = splits::short_splits3(list, w);
-    if cut.number != 0 {
-        return pack(cut.number, 0);
-    }
     cuts::put_cut(cut, out);
     pack(0, 1027)
 }
@@ -122,21 +118,14 @@ pub extern "C" fn leg_short_splits3_lent(
     ensures left { λ _. ⌜ now (pieces .exit) ≡ lentGiven (now (pieces .entry)) count w (now (out .entry)) .first ⌝ }
     ensures shown { λ _. ⌜ now (out .exit) ≡ lentGiven (now (pieces .entry)) count w (now (out .entry)) .second ⌝ }
 {
-    if pieces.len() < 512 {
-        return pack(8, 0);
+    let number = cuts::refused_by(pieces.len(), count, out.len(), 515);
+    if number != 0 {
+        return pack(number, 0);
     }
-    if out.len() < 515 {
-        return pack(8, 0);
-    }
-    let list = lists::list_of(pieces, count);
+    let list = list_at(pieces, 0, count);
     let kept = splits::cut_here(list, w);
-    let answer = kept.answer;
-    if answer.number != 0 {
-        return pack(answer.number, 0);
-    }
     let left = kept.list;
-    let rest = left.pieces;
-    lists::copy(&rest, pieces, 0);
+    cuts::put_left(left, pieces);
     cuts::put_kept(kept, out);
     pack(0, 515)
 }
@@ -153,20 +142,13 @@ pub extern "C" fn leg_short_splits(
     ensures listed { λ _. ⌜ now (positions .exit) ≡ splitsGiven (now (pieces .entry)) count w (now (positions .entry)) (now (left .entry)) .first ⌝ }
     ensures rest { λ _. ⌜ now (left .exit) ≡ splitsGiven (now (pieces .entry)) count w (now (positions .entry)) (now (left .entry)) .second ⌝ }
 {
-    if pieces.len() < 512 {
-        return pack(8, 0);
+    let room = lists::lesser(positions.len(), left.len());
+    let number = cuts::refused_by(pieces.len(), count, room, 513);
+    if number != 0 {
+        return pack(number, 0);
     }
-    if positions.len() < 513 {
-        return pack(8, 0);
-    }
-    if left.len() < 513 {
-        return pack(8, 0);
-    }
-    let list = lists::list_of(pieces, count);
+    let list = list_at(pieces, 0, count);
     let cut = splits::short_splits(list, w);
-    if cut.number != 0 {
-        return pack(cut.number, 0);
-    }
     let listed = cut.positions;
     lists::put_positions(listed, positions);
     let rest = cut.left;

@@ -44,15 +44,15 @@ keptBy b x list = record {
   list = pick b (pick b (answered x) refusedCut .left) list;
 }
 
-kept-case : (b : Bool) (x : Cut) (list : SplitList) (k : Kept) → k ≡ keptBy b x list → k .answer .number ≡ 0 → length (k .answer .taken .pieces) ≡ 512 → length (k .list .pieces) ≡ 512
+kept-case : (b : Bool) (x : Cut) (list : SplitList) (k : Kept) → k ≡ keptBy b x list → list .count ≤ 512 → length (k .answer .taken .pieces) ≡ 512 → length (k .list .pieces) ≡ 512
     → (k .list .count ≤ 512) × (k .answer .taken .count ≤ 512)
-kept-case true x list k e z h g = (list-few _ (x .left) (ap (λ (y : Kept). y .list) e) g, list-few _ (x .taken) (ap (λ (y : Kept). y .answer .taken) e) h)
-kept-case false x list k e z h g = let n : _≡_ {A = ℕ} 10 0 = sym (ap (λ (y : Kept). y .answer .number) e) ∙ z in absurd (omega arith)
+kept-case true x list k e few h g = (list-few _ (x .left) (ap (λ (y : Kept). y .list) e) g, list-few _ (x .taken) (ap (λ (y : Kept). y .answer .taken) e) h)
+kept-case false x list k e few h g = (rw (ap (λ (y : Kept). y .list) e) few, list-few _ [] (ap (λ (y : Kept). y .answer .taken) e) h)
 
-pub kept-few : (list : SplitList) (w : ℕ) (k : Kept) → k ≡ keptOf list w → k .answer .number ≡ 0 → length (k .answer .taken .pieces) ≡ 512 → length (k .list .pieces) ≡ 512
+pub kept-few : (list : SplitList) (w : ℕ) (k : Kept) → k ≡ keptOf list w → list .count ≤ 512 → length (k .answer .taken .pieces) ≡ 512 → length (k .list .pieces) ≡ 512
     → (k .list .count ≤ 512) × (k .answer .taken .count ≤ 512)
 unfolding keptOf cutOf
-kept-few list w k e z h g = kept-case (leb (list .count) 512) (shortSplits3 (listOf list) w) list k e z h g
+kept-few list w k e few h g = kept-case (leb (list .count) 512) (shortSplits3 (listOf list) w) list k e few h g
 
 short-case : (b : Bool) (x : Short) (k : ShortParts) → k ≡ pick b (answeredShort x) refusedShort → length (k .positions .entries) ≡ 512 → length (k .left .pieces) ≡ 512
     → (k .positions .count ≤ 512) × (k .left .count ≤ 512)

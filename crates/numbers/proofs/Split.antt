@@ -1,19 +1,24 @@
 -- What the C functions on split lists answer and write, beside the definitions'. Assumes nothing.
-use mathlib.Core.Path.{_≡_, refl, _∙_}
-use Prim.Native.Nat.{ℕ, _+_, _≤_, _<_}
+use mathlib.Core.Path.{_≡_, refl, sym, _∙_}
+use mathlib.Core.Bool.{Bool, true, false}
+use Prim.Native.Nat.{ℕ, _+_, _≤_, min}
+use native.Mathlib.Nat.{min-eq-left, min-eq-right}
 use native.Mathlib.Omega.{arith}
 use mathlib.Core.List.{List, [], _∷_, _++_}
-use lib.ListN.{length, length-append}
-use lib.Seq.{sets}
-use borrow.Author.Tests.{lt-ltb, le-ltb, eq-eqb, ne-eqb}
+use lib.Dec.{ltb}
+use lib.ListN.{length, take, length-append, length-take}
+use lib.Seq.{sets, paste, take-all, take-length}
+use borrow.Author.Tests.{ltb-true, ltb-false, eq-eqb, ne-eqb}
+use Rattle.common.specs.Choice.{pick}
 use Rattle.splits.specs.declared.SplitList.{SplitList}
 use Rattle.splits.specs.declared.CutParts.{CutParts}
 use Rattle.splits.specs.declared.Kept.{Kept}
 use Rattle.splits.specs.declared.ShortParts.{ShortParts}
+use Rattle.splits.specs.Lists.{splitList}
 use Rattle.splits.specs.Cuts.{cutOf, keptOf, shortOf}
-use Rattle.numbers.specs.Words.{packed, firstPieces}
-use Rattle.numbers.specs.Numbers.{refusal, bit, listNumbers, positionNumbers}
-use Rattle.numbers.specs.Cuts.{cutNumbers, cutGiven, splits3Given, GivesTwo, refusalTwo, writtenTwo, keptNumbers, keptGiven, lentGiven, shortGiven, splitsGiven}
+use Rattle.numbers.specs.Words.{packed}
+use Rattle.numbers.specs.Numbers.{refusal, written, over, bit, listNumbers, positionNumbers}
+use Rattle.numbers.specs.Cuts.{refusedBy, cutNumbers, splits3Given, GivesTwo, refusalTwo, writtenTwo, keptNumbers, keptGiven, lentGiven, shortGiven, splitsGiven}
 use Rattle.numbers.proofs.Copies.{stored-on}
 use Rattle.numbers.proofs.Given.{Same, same-written, sets-front}
 
@@ -29,35 +34,53 @@ pub kept-stored : (k : Kept) (o : List ℕ) {b : ℕ} {o₁ o₂ : List ℕ} →
     → o₂ ≡ sets o 0 (keptNumbers k)
 kept-stored k o {b} eb e f = rw eb at (stored-on (b ∷ k .list .count ∷ []) (listNumbers (k .answer .taken)) o 0 e refl f)
 
+-- ---- the list left in the place of the lent one
+
+fits-take : (b : Bool) (m : ℕ) (l : List ℕ) → ltb m (length l) ≡ b → take (min m (length l)) l ≡ take m l
+fits-take true m l e = let k = ltb-true m (length l) e in let h : m ≤ length l = omega arith in rw (min-eq-left h)
+fits-take false m l e = let h = ltb-false m (length l) e in rw (min-eq-right h, take-length l) (sym (take-all m l h))
+
+pub left-pasted : (l o : List ℕ) {n : ℕ} {p : List ℕ} → length l ≡ 512 → n ≡ min (length o) 512 → p ≡ paste o 0 l n → p ≡ over (take (length o) l) o
+left-pasted l o {n} long e f =
+    let z : 0 + n ≡ n = omega arith in
+    f ∙ rw (z, e, ← long, fits-take _ (length o) l refl, length-take (length o) l)
+
+-- ---- what is not refused
+
+passed : (a b c : Bool) → _≡_ {A = ℕ} (pick a 10 (pick b 8 (pick c 8 0))) 0 → (a ≡ false) × ((b ≡ false) × (c ≡ false))
+passed true b c e = absurd (omega arith)
+passed false true c e = absurd (omega arith)
+passed false false true e = absurd (omega arith)
+passed false false false e = (refl, (refl, refl))
+
+pub record Passes (held n room needed : ℕ) : Type 0 where
+  pub few : n ≤ 512
+  pub within : n ≤ held
+  pub fits : needed ≤ room
+
+pub passes : (held n room needed : ℕ) {k : ℕ} → k ≡ refusedBy held n room needed → k ≡ 0 → Passes held n room needed
+unfolding refusedBy
+passes held n room needed e z =
+    let h = passed (ltb 512 n) (ltb held n) (ltb room needed) (sym e ∙ z) in
+    record { few = ltb-false 512 n (h .0); within = ltb-false held n (h .1 .0); fits = ltb-false room needed (h .1 .1) }
+
 -- ---- `short_splits3`
 
-module _ (s : List ℕ) (n w : ℕ) (o : List ℕ) where
-  pub splits3-few : length s < 512 → splits3Given s n w o ≡ refusal 8 o
+module _ (s : List ℕ) (n w : ℕ) (o : List ℕ) (r : ℕ) (er : r ≡ refusedBy (length s) n (length o) 1027) where
+  pub splits3-refused : (r ≡ 0 → ⊥) → splits3Given s n w o ≡ refusal r o
   unfolding splits3Given
-  splits3-few h = simp (lt-ltb _ _ h)
+  splits3-refused z = rw (← er, ne-eqb _ _ z)
 
-  pub splits3-short : 512 ≤ length s → length o < 1027 → splits3Given s n w o ≡ refusal 8 o
-  unfolding splits3Given
-  splits3-short h k = simp (le-ltb _ _ h, lt-ltb _ _ k)
-
-  module _ (h : 512 ≤ length s) (g : 1027 ≤ length o) (list : SplitList) (el : list ≡ firstPieces s n) (k : CutParts) (ek : k ≡ cutOf list w) where
-    splits3-passes : splits3Given s n w o ≡ cutGiven (cutOf (firstPieces s n) w) o
+  module _ (z : r ≡ 0) (list : SplitList) (el : list ≡ splitList (take n s)) (k : CutParts) (ek : k ≡ cutOf list w) where
+    splits3-is : splits3Given s n w o ≡ written 1027 (cutNumbers k) o
     unfolding splits3Given
-    splits3-passes = simp (le-ltb _ _ h, le-ltb _ _ g)
+    splits3-is = rw (← er, eq-eqb _ _ z, ek, el)
 
-    splits3-is : splits3Given s n w o ≡ cutGiven k o
-    splits3-is = splits3-passes ∙ rw (ek, el)
-
-    pub splits3-refused : (k .number ≡ 0 → ⊥) → splits3Given s n w o ≡ refusal (k .number) o
-    unfolding cutGiven
-    splits3-refused z = splits3-is ∙ simp (ne-eqb _ _ z)
-
-    pub splits3-written : (word : ℕ) (p : List ℕ) → k .number ≡ 0 → length (k .taken .pieces) ≡ 512 → length (k .left .pieces) ≡ 512 → word ≡ packed 0 1027
+    pub splits3-written : (word : ℕ) (p : List ℕ) → length (k .taken .pieces) ≡ 512 → length (k .left .pieces) ≡ 512 → word ≡ packed 0 1027
         → p ≡ sets o 0 (cutNumbers k) → Same word p (splits3Given s n w o)
-    unfolding cutGiven
-    splits3-written word p z t l x y =
+    splits3-written word p t l x y =
         let long : length (cutNumbers k) ≡ 1027 = rw (length-append (listNumbers (k .taken)), t, l) in
-        same-written 1027 (cutNumbers k) o p (splits3-is ∙ simp (eq-eqb _ _ z)) (omega arith) x y
+        same-written 1027 (cutNumbers k) o p splits3-is (rw long (passes (length s) n (length o) 1027 er z .fits)) x y
 
 -- ---- two lent lists
 
@@ -68,69 +91,42 @@ pub two-refusal : (k : ℕ) {word : ℕ} {a b : List ℕ} {g : GivesTwo} → g �
 unfolding refusalTwo
 two-refusal k e w = rw e (w, (refl, refl))
 
-two-written : (count : ℕ) (l m o p a b : List ℕ) {word : ℕ} {g : GivesTwo} → g ≡ writtenTwo count l m o p → length l ≤ length o → length m ≤ length p → word ≡ packed 0 count
-    → a ≡ sets o 0 l → b ≡ sets p 0 m → SameTwo word a b g
+two-written : (count : ℕ) (l m o p a b : List ℕ) {word : ℕ} {g : GivesTwo} → g ≡ writtenTwo count l m o p → word ≡ packed 0 count → a ≡ over l o → b ≡ over m p → SameTwo word a b g
 unfolding writtenTwo
-two-written count l m o p a b e h k w x y = rw e (w, (x ∙ sets-front l o h, y ∙ sets-front m p k))
+two-written count l m o p a b e w x y = rw e (w, (x, y))
 
 -- ---- `short_splits3` on a lent list
 
-module _ (s : List ℕ) (n w : ℕ) (o : List ℕ) where
-  pub lent-few : length s < 512 → lentGiven s n w o ≡ refusalTwo 8 s o
+module _ (s : List ℕ) (n w : ℕ) (o : List ℕ) (r : ℕ) (er : r ≡ refusedBy (length s) n (length o) 515) where
+  pub lent-refused : (r ≡ 0 → ⊥) → lentGiven s n w o ≡ refusalTwo r s o
   unfolding lentGiven
-  lent-few h = simp (lt-ltb _ _ h)
+  lent-refused z = rw (← er, ne-eqb _ _ z)
 
-  pub lent-short : 512 ≤ length s → length o < 515 → lentGiven s n w o ≡ refusalTwo 8 s o
-  unfolding lentGiven
-  lent-short h k = simp (le-ltb _ _ h, lt-ltb _ _ k)
+  module _ (z : r ≡ 0) (list : SplitList) (el : list ≡ splitList (take n s)) (k : Kept) (ek : k ≡ keptOf list w) where
+    lent-is : lentGiven s n w o ≡ writtenTwo 515 (take (length s) (k .list .pieces)) (keptNumbers k) s o
+    unfolding lentGiven keptGiven
+    lent-is = rw (← er, eq-eqb _ _ z, ek, el)
 
-  module _ (h : 512 ≤ length s) (g : 515 ≤ length o) (list : SplitList) (el : list ≡ firstPieces s n) (k : Kept) (ek : k ≡ keptOf list w) where
-    lent-passes : lentGiven s n w o ≡ keptGiven (keptOf (firstPieces s n) w) s o
-    unfolding lentGiven
-    lent-passes = simp (le-ltb _ _ h, le-ltb _ _ g)
-
-    lent-is : lentGiven s n w o ≡ keptGiven k s o
-    lent-is = lent-passes ∙ rw (ek, el)
-
-    pub lent-refused : (k .answer .number ≡ 0 → ⊥) → lentGiven s n w o ≡ refusalTwo (k .answer .number) s o
-    unfolding keptGiven
-    lent-refused z = lent-is ∙ simp (ne-eqb _ _ z)
-
-    pub lent-written : (word : ℕ) (a b : List ℕ) → k .answer .number ≡ 0 → length (k .list .pieces) ≡ 512 → length (k .answer .taken .pieces) ≡ 512 → word ≡ packed 0 515
-        → a ≡ sets s 0 (k .list .pieces) → b ≡ sets o 0 (keptNumbers k) → SameTwo word a b (lentGiven s n w o)
-    unfolding keptGiven
-    lent-written word a b z l t x y v =
-        two-written 515 (k .list .pieces) (keptNumbers k) s o a b (lent-is ∙ simp (eq-eqb _ _ z)) (omega arith) (omega arith) x y v
+    pub lent-written : (word : ℕ) (a b : List ℕ) → length (k .answer .taken .pieces) ≡ 512 → word ≡ packed 0 515
+        → a ≡ over (take (length s) (k .list .pieces)) s → b ≡ sets o 0 (keptNumbers k) → SameTwo word a b (lentGiven s n w o)
+    lent-written word a b t x y v =
+        let h = passes (length s) n (length o) 515 er z .fits in
+        two-written 515 (take (length s) (k .list .pieces)) (keptNumbers k) s o a b lent-is x y (v ∙ sets-front (keptNumbers k) o (omega arith))
 
 -- ---- `short_splits`
 
-module _ (s : List ℕ) (n w : ℕ) (o p : List ℕ) where
-  pub splits-few : length s < 512 → splitsGiven s n w o p ≡ refusalTwo 8 o p
+module _ (s : List ℕ) (n w : ℕ) (o p : List ℕ) (r : ℕ) (er : r ≡ refusedBy (length s) n (min (length o) (length p)) 513) where
+  pub splits-refused : (r ≡ 0 → ⊥) → splitsGiven s n w o p ≡ refusalTwo r o p
   unfolding splitsGiven
-  splits-few h = simp (lt-ltb _ _ h)
+  splits-refused z = rw (← er, ne-eqb _ _ z)
 
-  pub splits-short : 512 ≤ length s → length o < 513 → splitsGiven s n w o p ≡ refusalTwo 8 o p
-  unfolding splitsGiven
-  splits-short h k = simp (le-ltb _ _ h, lt-ltb _ _ k)
+  module _ (z : r ≡ 0) (list : SplitList) (el : list ≡ splitList (take n s)) (k : ShortParts) (ek : k ≡ shortOf list w) where
+    splits-is : splitsGiven s n w o p ≡ writtenTwo 513 (positionNumbers (k .positions)) (listNumbers (k .left)) o p
+    unfolding splitsGiven shortGiven
+    splits-is = rw (← er, eq-eqb _ _ z, ek, el)
 
-  pub splits-short-left : 512 ≤ length s → 513 ≤ length o → length p < 513 → splitsGiven s n w o p ≡ refusalTwo 8 o p
-  unfolding splitsGiven
-  splits-short-left h k l = simp (le-ltb _ _ h, le-ltb _ _ k, lt-ltb _ _ l)
-
-  module _ (h : 512 ≤ length s) (g : 513 ≤ length o) (f : 513 ≤ length p) (list : SplitList) (el : list ≡ firstPieces s n) (k : ShortParts) (ek : k ≡ shortOf list w) where
-    splits-passes : splitsGiven s n w o p ≡ shortGiven (shortOf (firstPieces s n) w) o p
-    unfolding splitsGiven
-    splits-passes = simp (le-ltb _ _ h, le-ltb _ _ g, le-ltb _ _ f)
-
-    splits-is : splitsGiven s n w o p ≡ shortGiven k o p
-    splits-is = splits-passes ∙ rw (ek, el)
-
-    pub splits-refused : (k .number ≡ 0 → ⊥) → splitsGiven s n w o p ≡ refusalTwo (k .number) o p
-    unfolding shortGiven
-    splits-refused z = splits-is ∙ simp (ne-eqb _ _ z)
-
-    pub splits-written : (word : ℕ) (a b : List ℕ) → k .number ≡ 0 → length (k .positions .entries) ≡ 512 → length (k .left .pieces) ≡ 512 → word ≡ packed 0 513
+    pub splits-written : (word : ℕ) (a b : List ℕ) → length (k .positions .entries) ≡ 512 → length (k .left .pieces) ≡ 512 → word ≡ packed 0 513
         → a ≡ sets o 0 (positionNumbers (k .positions)) → b ≡ sets p 0 (listNumbers (k .left)) → SameTwo word a b (splitsGiven s n w o p)
-    unfolding shortGiven
-    splits-written word a b z l t x y v =
-        two-written 513 (positionNumbers (k .positions)) (listNumbers (k .left)) o p a b (splits-is ∙ simp (eq-eqb _ _ z)) (omega arith) (omega arith) x y v
+    splits-written word a b l t x y v =
+        let h = passes (length s) n (min (length o) (length p)) 513 er z .fits in
+        two-written 513 (positionNumbers (k .positions)) (listNumbers (k .left)) o p a b splits-is x (y ∙ sets-front (positionNumbers (k .positions)) o (omega arith)) (v ∙ sets-front (listNumbers (k .left)) p (omega arith))

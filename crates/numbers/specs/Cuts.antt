@@ -1,15 +1,26 @@
 -- What the C functions on split lists answer and write (include/leg_sheet.h).
-use Prim.Native.Nat.{ℕ}
+use Prim.Native.Nat.{ℕ, min}
 use mathlib.Core.List.{List, _∷_, _++_}
-use lib.ListN.{length}
+use lib.ListN.{length, take}
 use lib.Dec.{ltb, eqb}
 use Rattle.common.specs.Choice.{pick}
 use Rattle.splits.specs.declared.CutParts.{CutParts}
 use Rattle.splits.specs.declared.Kept.{Kept}
 use Rattle.splits.specs.declared.ShortParts.{ShortParts}
+use Rattle.splits.specs.Lists.{splitList}
 use Rattle.splits.specs.Cuts.{cutOf, keptOf, shortOf}
-use Rattle.numbers.specs.Words.{packed, firstPieces}
+use Rattle.numbers.specs.Words.{packed}
 use Rattle.numbers.specs.Numbers.{Gives, refusal, written, over, bit, listNumbers, positionNumbers}
+
+-- ---- what all three refuse
+
+-- the number of a cut of the first n of `held` lent numbers, which writes `needed` numbers to a list of `room`: 10 where n is over 512, then 8 where n is over `held` or the list too short, else 0
+unfoldable pub refusedBy : ℕ → ℕ → ℕ → ℕ → ℕ
+refusedBy held n room needed = pick (ltb 512 n) 10 (pick (ltb held n) 8 (pick (ltb room needed) 8 0))
+
+-- what is given where that number is 0
+abbrev pub unless : {X : Type 0} → ℕ → (ℕ → X) → X → X
+unless k refused x = pick (eqb k 0) x (refused k)
 
 -- ---- `short_splits3`
 
@@ -17,14 +28,10 @@ use Rattle.numbers.specs.Numbers.{Gives, refusal, written, over, bit, li
 abbrev pub cutNumbers : CutParts → List ℕ
 cutNumbers k = bit (k .split) ∷ (listNumbers (k .taken) ++ listNumbers (k .left))
 
-unfoldable pub cutGiven : CutParts → List ℕ → Gives
-unfolding refusal written
-cutGiven k o = pick (eqb (k .number) 0) (written 1027 (cutNumbers k) o) (refusal (k .number) o)
-
--- 8 where the list lent is under 512 numbers or the output too short, then 10
+-- the list is the first n of s; those past them are not looked at
 unfoldable pub splits3Given : List ℕ → ℕ → ℕ → List ℕ → Gives
-unfolding refusal cutGiven cutOf
-splits3Given s n w o = pick (ltb (length s) 512) (refusal 8 o) (pick (ltb (length o) 1027) (refusal 8 o) (cutGiven (cutOf (firstPieces s n) w) o))
+splits3Given s n w o =
+    unless (refusedBy (length s) n (length o) 1027) (λ k. refusal k o) (written 1027 (cutNumbers (cutOf (splitList (take n s)) w)) o)
 
 -- ---- two lent lists
 
@@ -47,24 +54,19 @@ writtenTwo count a b o p = record { word = packed 0 count; first = over a o; sec
 abbrev pub keptNumbers : Kept → List ℕ
 keptNumbers k = bit (k .answer .split) ∷ k .list .count ∷ listNumbers (k .answer .taken)
 
--- the list left takes the lent one's place
+-- the list left, with 0 past its count, takes the place of the lent one, as far as that goes; numbers past 512 stay
 unfoldable pub keptGiven : Kept → List ℕ → List ℕ → GivesTwo
-unfolding refusalTwo writtenTwo
-keptGiven k s o = pick (eqb (k .answer .number) 0) (writtenTwo 515 (k .list .pieces) (keptNumbers k) s o) (refusalTwo (k .answer .number) s o)
+keptGiven k s o = writtenTwo 515 (take (length s) (k .list .pieces)) (keptNumbers k) s o
 
 unfoldable pub lentGiven : List ℕ → ℕ → ℕ → List ℕ → GivesTwo
-unfolding refusalTwo keptGiven keptOf
-lentGiven s n w o = pick (ltb (length s) 512) (refusalTwo 8 s o) (pick (ltb (length o) 515) (refusalTwo 8 s o) (keptGiven (keptOf (firstPieces s n) w) s o))
+lentGiven s n w o = unless (refusedBy (length s) n (length o) 515) (λ k. refusalTwo k s o) (keptGiven (keptOf (splitList (take n s)) w) s o)
 
 -- ---- `short_splits`
 
 unfoldable pub shortGiven : ShortParts → List ℕ → List ℕ → GivesTwo
-unfolding refusalTwo writtenTwo
-shortGiven k o p = pick (eqb (k .number) 0) (writtenTwo 513 (positionNumbers (k .positions)) (listNumbers (k .left)) o p) (refusalTwo (k .number) o p)
+shortGiven k o p = writtenTwo 513 (positionNumbers (k .positions)) (listNumbers (k .left)) o p
 
+-- the room is that of the shorter of the two lists
 unfoldable pub splitsGiven : List ℕ → ℕ → ℕ → List ℕ → List ℕ → GivesTwo
-unfolding refusalTwo shortGiven shortOf
 splitsGiven s n w o p =
-    pick (ltb (length s) 512) (refusalTwo 8 o p)
-    (pick (ltb (length o) 513) (refusalTwo 8 o p)
-    (pick (ltb (length p) 513) (refusalTwo 8 o p) (shortGiven (shortOf (firstPieces s n) w) o p)))
+    unless (refusedBy (length s) n (min (length o) (length p)) 513) (λ k. refusalTwo k o p) (shortGiven (shortOf (splitList (take n s)) w) o p)
