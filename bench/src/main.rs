@@ -50,15 +50,26 @@ struct Measured {
 }
 
 fn measure(table: &Table, output: &mut [u8]) -> Measured {
-    let Table { name, settings, tree } = table;
+    let Table {
+        name,
+        settings,
+        tree,
+    } = table;
     let (settings_bytes, tree_bytes) = (encode_settings(settings), encode_tree(tree));
     let answer = leg_sheet::print_sheet(&settings_bytes, &tree_bytes, output);
     assert_eq!(answer.number, 0, "{name} is refused");
     let sheet = original::sheet(settings, tree);
     assert_eq!(output[..answer.count], sheet, "{name}");
-    let width = sheet.iter().position(|&byte| byte == b'\n').expect("a sheet has three lines");
+    let width = sheet
+        .iter()
+        .position(|&byte| byte == b'\n')
+        .expect("a sheet has three lines");
     let ours = least(|| {
-        black_box(leg_sheet::print_sheet(&settings_bytes, &tree_bytes, black_box(output)));
+        black_box(leg_sheet::print_sheet(
+            &settings_bytes,
+            &tree_bytes,
+            black_box(output),
+        ));
     });
     let theirs = least(|| {
         black_box(original::sheet(black_box(settings), black_box(tree)));
@@ -67,18 +78,27 @@ fn measure(table: &Table, output: &mut [u8]) -> Measured {
     let (nodes, bytes) = (tree.nodes(), answer.count);
     let faster = theirs.as_secs_f64() / ours.as_secs_f64();
     let slower = ours.as_secs_f64() / plain.as_secs_f64();
-    let (a_node, a_byte) = (ours.as_nanos() / nodes as u128, ours.as_secs_f64() * 1e9 / bytes as f64);
+    let (a_node, a_byte) = (
+        ours.as_nanos() / nodes as u128,
+        ours.as_secs_f64() * 1e9 / bytes as f64,
+    );
     println!(
         "{name:<22} {nodes:>5} {bytes:>6} {ours:>10.1?} {theirs:>10.1?} {plain:>10.1?} {faster:>8.2} {slower:>8.1} {a_node:>8} {a_byte:>8.2}"
     );
-    Measured { nodes, faster, slower }
+    Measured {
+        nodes,
+        faster,
+        slower,
+    }
 }
 
 fn main() -> ExitCode {
     let mut output = vec![0; 64_159];
     let mut all = Vec::new();
     println!("times faster: tabled / library. by memset: library / memset.");
-    let heads = ["library", "tabled", "memset", "faster", "by mem", "ns/node", "ns/byte"];
+    let heads = [
+        "library", "tabled", "memset", "faster", "by mem", "ns/node", "ns/byte",
+    ];
     let [ours, theirs, plain, faster, slower, a_node, a_byte] = heads;
     for (family, tables) in families() {
         println!(
@@ -87,10 +107,14 @@ fn main() -> ExitCode {
         );
         all.extend(tables.iter().map(|table| measure(table, &mut output)));
     }
-    let least_of = |some: &mut dyn Iterator<Item = &Measured>| some.map(|m| m.faster).fold(f64::MAX, f64::min);
+    let least_of =
+        |some: &mut dyn Iterator<Item = &Measured>| some.map(|m| m.faster).fold(f64::MAX, f64::min);
     let large = least_of(&mut all.iter().filter(|m| m.nodes >= 100));
     let slowest = all.iter().map(|m| m.slower).fold(0.0, f64::max);
-    println!("\nleast of times faster: {:.2}; of 100 nodes and more: {large:.2} (bar {BAR}, goal 10)", least_of(&mut all.iter()));
+    println!(
+        "\nleast of times faster: {:.2}; of 100 nodes and more: {large:.2} (bar {BAR}, goal 10)",
+        least_of(&mut all.iter())
+    );
     println!("most by memset: {slowest:.1} (goal 5)");
     if large < BAR {
         return ExitCode::FAILURE;

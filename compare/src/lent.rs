@@ -25,7 +25,10 @@ impl<T: Copy + Default + PartialEq + From<u16>> Lent<T> {
     pub fn new(given: &[T], length: usize) -> Self {
         let mut before = given[..length.min(given.len())].to_vec();
         before.extend((before.len()..length).map(canary::<T>));
-        Lent { list: before.clone(), before }
+        Lent {
+            list: before.clone(),
+            before,
+        }
     }
 
     /// Whether everything past the first `written` numbers stayed.
@@ -59,10 +62,18 @@ pub fn record(needed: usize, call: impl Fn(&mut [u16]) -> Answer) -> (u8, Vec<u1
     let mut short = Lent::new(&[], needed - 1);
     let Answer { number, count } = call(&mut long.list);
     let refused = call(&mut short.list);
-    let (written, refusal) = if number == 0 { (needed, 8) } else { (0, number) };
+    let (written, refusal) = if number == 0 {
+        (needed, 8)
+    } else {
+        (0, number)
+    };
     let kept = count == written
         && long.kept(written)
-        && refused == Answer { number: refusal, count: 0 }
+        && refused
+            == Answer {
+                number: refusal,
+                count: 0,
+            }
         && short.kept(0);
     (sound(number, kept), long.written(number, needed))
 }
@@ -88,7 +99,11 @@ pub fn cut<T: Copy + Default + PartialEq + From<u16>>(
             one: Lent::new(&[], one),
             other: Lent::new(&[], other),
         };
-        let answer = call(&mut lent.pieces.list, &mut lent.one.list, &mut lent.other.list);
+        let answer = call(
+            &mut lent.pieces.list,
+            &mut lent.one.list,
+            &mut lent.other.list,
+        );
         (answer, lent)
     };
     let kept = |lent: &Cut<T>, [pieces, one, other]: [usize; 3]| {
@@ -96,28 +111,53 @@ pub fn cut<T: Copy + Default + PartialEq + From<u16>>(
     };
     let needed = [given.len(), writes[1], writes[2]];
     let (Answer { number, count }, lent) = run(needed.map(|length| length + MORE));
-    let (written, counted) = if number == 0 { (writes, counts) } else { ([0; 3], 0) };
+    let (written, counted) = if number == 0 {
+        (writes, counts)
+    } else {
+        ([0; 3], 0)
+    };
     let refuses = |at: usize| {
         let mut lengths = needed;
         lengths[at] -= 1;
         let (answer, lent) = run(lengths);
-        answer == Answer { number: 8, count: 0 } && kept(&lent, [0; 3])
+        answer
+            == Answer {
+                number: 8,
+                count: 0,
+            }
+            && kept(&lent, [0; 3])
     };
     let refused = (0..3).all(|at| needed[at] == 0 || refuses(at));
-    (sound(number, count == counted && kept(&lent, written) && refused), lent)
+    (
+        sound(number, count == counted && kept(&lent, written) && refused),
+        lent,
+    )
 }
 
 #[cfg(test)]
 mod tests {
     use super::*;
 
-    const DONE: Answer = Answer { number: 0, count: 2 };
-    const SHORT: Answer = Answer { number: 8, count: 0 };
-    const REFUSED: Answer = Answer { number: 10, count: 0 };
+    const DONE: Answer = Answer {
+        number: 0,
+        count: 2,
+    };
+    const SHORT: Answer = Answer {
+        number: 8,
+        count: 0,
+    };
+    const REFUSED: Answer = Answer {
+        number: 10,
+        count: 0,
+    };
 
     /// Writes 0 to the first `written` of a list of two or more; a shorter one is refused after `spoilt` zeros.
     fn fill(list: &mut [u16], written: usize, spoilt: usize) -> Answer {
-        let (zeros, answer) = if list.len() < 2 { (spoilt, SHORT) } else { (written, DONE) };
+        let (zeros, answer) = if list.len() < 2 {
+            (spoilt, SHORT)
+        } else {
+            (written, DONE)
+        };
         list[..zeros].fill(0);
         answer
     }

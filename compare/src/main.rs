@@ -38,7 +38,10 @@ fn compare(seed: u64, rounds: usize) -> (usize, usize) {
             }
             Err(difference) => {
                 parted += 1;
-                println!("{part}: DIFFERENCE after {} calls", comparison.counts.total());
+                println!(
+                    "{part}: DIFFERENCE after {} calls",
+                    comparison.counts.total()
+                );
                 println!("{difference}");
             }
         }

@@ -61,7 +61,14 @@ impl Calls for Library {
     fn sizes(&mut self, settings: &[u8], tree: &[u8], list: &mut [SizeRecord]) -> Counted {
         let numbers: Vec<u16> = list
             .iter()
-            .flat_map(|s| [s.natural_width, s.natural_height, s.allotted_width, s.allotted_height])
+            .flat_map(|s| {
+                [
+                    s.natural_width,
+                    s.natural_height,
+                    s.allotted_width,
+                    s.allotted_height,
+                ]
+            })
             .collect();
         let mut lent = Lent::new(&numbers, numbers.len() + MORE);
         let Answer { number, count } = leg_sheet::sizes(settings, tree, &mut lent.list);
@@ -78,7 +85,9 @@ impl Calls for Library {
     }
 
     fn leaf_record(&mut self, settings: &[u8], tree: &[u8], node: usize) -> LeafRecord {
-        let (number, out) = lent::record(RECORD, |out| leg_sheet::leaf_record(settings, tree, node, out));
+        let (number, out) = lent::record(RECORD, |out| {
+            leg_sheet::leaf_record(settings, tree, node, out)
+        });
         LeafRecord {
             number,
             node: out[0].into(),
@@ -122,9 +131,14 @@ impl Calls for Library {
 
     fn short_splits(&mut self, cut: &SplitList, width: u16) -> CutPositions {
         let both = 1 + PIECES;
-        let (number, lent) = lent::cut(&cut.pieces, [0, both, both], both, |pieces, positions, left| {
-            leg_sheet::short_splits(pieces, cut.count, width, positions, left)
-        });
+        let (number, lent) = lent::cut(
+            &cut.pieces,
+            [0, both, both],
+            both,
+            |pieces, positions, left| {
+                leg_sheet::short_splits(pieces, cut.count, width, positions, left)
+            },
+        );
         let positions: Vec<u32> = lent.one.written(number, both);
         CutPositions {
             number,
@@ -135,9 +149,12 @@ impl Calls for Library {
     }
 
     fn short_splits3_lent(&mut self, cut: &mut SplitList, width: u16) -> CutParts {
-        let (number, lent) = lent::cut(&cut.pieces, [PIECES, LENT_CUT, 0], LENT_CUT, |pieces, out, _| {
-            leg_sheet::short_splits3_lent(pieces, cut.count, width, out)
-        });
+        let (number, lent) = lent::cut(
+            &cut.pieces,
+            [PIECES, LENT_CUT, 0],
+            LENT_CUT,
+            |pieces, out, _| leg_sheet::short_splits3_lent(pieces, cut.count, width, out),
+        );
         let out = lent.one.written(number, LENT_CUT);
         cut.pieces = lent.pieces.list[..PIECES].try_into().expect("512 entries");
         let mut left = SplitList::EMPTY;
@@ -158,8 +175,14 @@ impl Calls for Library {
         let mut part = lent;
         let Answer { number, count } = leg_sheet::share(spare, n, priority, index, &mut part);
         if number != 0 {
-            return Shared { number: sound(number, count == 0 && part == lent), part: 0 };
+            return Shared {
+                number: sound(number, count == 0 && part == lent),
+                part: 0,
+            };
         }
-        Shared { number: sound(number, count == 0), part: part as usize }
+        Shared {
+            number: sound(number, count == 0),
+            part: part as usize,
+        }
     }
 }

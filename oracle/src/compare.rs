@@ -37,7 +37,9 @@ impl Counts {
 
     /// The numbers that a call gave.
     pub fn reached(&self, call: &'static str) -> Vec<u8> {
-        (0..=255).filter(|&number| self.of(call, number) > 0).collect()
+        (0..=255)
+            .filter(|&number| self.of(call, number) > 0)
+            .collect()
     }
 
     pub fn total(&self) -> usize {
@@ -81,19 +83,28 @@ pub struct Comparison<'a> {
 }
 
 /// A part of the comparison: its name and its inputs, with so many rounds of the random ones.
-pub type Part = (&'static str, fn(&mut Comparison, &mut Rng, usize) -> Result<(), Difference>);
+pub type Part = (
+    &'static str,
+    fn(&mut Comparison, &mut Rng, usize) -> Result<(), Difference>,
+);
 
 pub const PARTS: [Part; 10] = [
     ("settings records", |c, _, _| c.settings_records()),
     ("short and faulty trees", |c, _, _| c.faulty_trees()),
-    ("all trees of up to 5 nodes", |c, _, _| c.small_tables(5, &gen::few_settings())),
-    ("all trees of up to 4 nodes, all choices", |c, _, _| c.small_tables(4, &gen::choices())),
+    ("all trees of up to 5 nodes", |c, _, _| {
+        c.small_tables(5, &gen::few_settings())
+    }),
+    ("all trees of up to 4 nodes, all choices", |c, _, _| {
+        c.small_tables(4, &gen::choices())
+    }),
     ("two groups", |c, _, _| c.two_groups(&gen::few_settings())),
     ("lists", |c, rng, rounds| c.lists(rng, 1000 * rounds)),
     ("shares", |c, rng, _| c.shares(rng, 12)),
     ("limits", |c, rng, rounds| c.limits(rng, 10 * rounds)),
     ("tables", |c, rng, rounds| c.tables(rng, 300 * rounds)),
-    ("damaged bytes", |c, rng, rounds| c.cases(rng, 3000 * rounds)),
+    ("damaged bytes", |c, rng, rounds| {
+        c.cases(rng, 3000 * rounds)
+    }),
 ];
 
 fn bytes(bytes: &[u8]) -> String {

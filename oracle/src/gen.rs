@@ -464,11 +464,15 @@ pub fn near(rng: &mut Rng, limit: Limit, offset: isize) -> (Settings, Tree) {
 
 /// A Cell over another: W is so far from its limit under the defaults, and H from its.
 pub fn corner(width: isize, height: isize) -> Tree {
-    let at = |limit: usize, offset: isize| limit.checked_add_signed(offset).expect("a small offset");
+    let at =
+        |limit: usize, offset: isize| limit.checked_add_signed(offset).expect("a small offset");
     let letters = at(judge::SHEET_WIDTH, width) - 4;
     // Two lines of the sheet's edge, one of the Cell above, one between, and one that no feed ends.
     let feeds = at(judge::SHEET_HEIGHT, height) - 5;
-    Tree::Column(vec![Tree::Cell(vec![b'w'; letters]), Tree::Cell(vec![0x0A; feeds])])
+    Tree::Column(vec![
+        Tree::Cell(vec![b'w'; letters]),
+        Tree::Cell(vec![0x0A; feeds]),
+    ])
 }
 
 /// Groups of many small leaves beside groups of a few: long split lists, cut in many places.

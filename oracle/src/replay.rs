@@ -31,7 +31,10 @@ fn list(list: &SplitList) -> String {
     if list.count == 0 {
         return " none".to_string();
     }
-    list.list().iter().map(|piece| format!(" {piece}")).collect()
+    list.list()
+        .iter()
+        .map(|piece| format!(" {piece}"))
+        .collect()
 }
 
 fn record(record: &LeafRecord) -> String {
@@ -49,7 +52,10 @@ fn record(record: &LeafRecord) -> String {
     let flags = flags.map(|yes| if yes { 'y' } else { 'n' });
     let (across, down) = (list(&record.horizontal), list(&record.vertical));
     let flags: String = flags.iter().collect();
-    format!("{} by {}, across{across}, down{down}, {flags}", record.width, record.height)
+    format!(
+        "{} by {}, across{across}, down{down}, {flags}",
+        record.width, record.height
+    )
 }
 
 impl Lines {
@@ -103,7 +109,9 @@ impl Lines {
             return self.line('!', &answer.number.to_string());
         }
         let mut output = vec![0; (judge::SHEET_WIDTH + 1) * judge::SHEET_HEIGHT];
-        let block = self.original.leaf(&self.settings, &self.tree, node, &mut output);
+        let block = self
+            .original
+            .leaf(&self.settings, &self.tree, node, &mut output);
         self.line('?', &record(&answer));
         self.line('>', &escaped(&output[..block.count]));
     }
@@ -111,11 +119,23 @@ impl Lines {
     fn sizes(&mut self, node: usize) {
         let mut list = vec![SizeRecord::default(); judge::NODES];
         let answer = self.original.sizes(&self.settings, &self.tree, &mut list);
-        assert!(answer.number == 0 && node < answer.count, "sizes of node {node}: {answer:?}");
+        assert!(
+            answer.number == 0 && node < answer.count,
+            "sizes of node {node}: {answer:?}"
+        );
         let z = &list[node];
-        let (natural, allotted) = ((z.natural_width, z.natural_height), (z.allotted_width, z.allotted_height));
+        let (natural, allotted) = (
+            (z.natural_width, z.natural_height),
+            (z.allotted_width, z.allotted_height),
+        );
         self.line('@', &node.to_string());
-        self.line('s', &format!("{} by {}, {} by {}", natural.0, natural.1, allotted.0, allotted.1));
+        self.line(
+            's',
+            &format!(
+                "{} by {}, {} by {}",
+                natural.0, natural.1, allotted.0, allotted.1
+            ),
+        );
     }
 
     fn both(&mut self, node: usize) {
@@ -126,7 +146,12 @@ impl Lines {
 
 /// The same tree with these texts in its Cells, by turns.
 fn with_texts(tree: &Tree, texts: &mut impl Iterator<Item = &'static str>) -> Tree {
-    let mut group = |children: &[Tree]| children.iter().map(|child| with_texts(child, texts)).collect();
+    let mut group = |children: &[Tree]| {
+        children
+            .iter()
+            .map(|child| with_texts(child, texts))
+            .collect()
+    };
     match tree {
         Tree::Row(children) => Tree::Row(group(children)),
         Tree::Column(children) => Tree::Column(group(children)),
@@ -139,8 +164,16 @@ fn with_texts(tree: &Tree, texts: &mut impl Iterator<Item = &'static str>) -> Tr
 fn shapes(lines: &mut Lines) {
     lines.title("Every shape of up to 4 nodes");
     let mut texts = ["a", "bcd", "e\nfg", ""].into_iter().cycle();
-    let shapes: Vec<Tree> = (1..=4).flat_map(|nodes| gen::small_trees(nodes, &["a"])).collect();
-    let late = Settings { padding: [0, 1, 0, 1], horizontal: 2, vertical: 2, height_priority: 0, ..Settings::M };
+    let shapes: Vec<Tree> = (1..=4)
+        .flat_map(|nodes| gen::small_trees(nodes, &["a"]))
+        .collect();
+    let late = Settings {
+        padding: [0, 1, 0, 1],
+        horizontal: 2,
+        vertical: 2,
+        height_priority: 0,
+        ..Settings::M
+    };
     let settings = [Settings::M, late];
     for (turn, settings) in settings.iter().enumerate() {
         for (at, shape) in shapes.iter().enumerate() {
@@ -194,7 +227,10 @@ fn damaged(lines: &mut Lines, rng: &mut Rng, count: usize) {
 fn limits(lines: &mut Lines) {
     lines.title("Limits");
     let settings = encode_settings(&Settings::D);
-    let bare = encode_settings(&Settings { padding: [0; 4], ..Settings::M });
+    let bare = encode_settings(&Settings {
+        padding: [0; 4],
+        ..Settings::M
+    });
     let items: [(&[u8], usize, &[u8]); 10] = [
         (&[1, 0x01, 0x8C], 396, b"a"),
         (&[1, 0x01, 0x8D], 397, b"a"),
@@ -219,7 +255,10 @@ fn limits(lines: &mut Lines) {
         lines.both(depth - 1);
     }
     for size in [16, 17] {
-        let padded = Settings { padding: [size; 4], ..Settings::M };
+        let padded = Settings {
+            padding: [size; 4],
+            ..Settings::M
+        };
         lines.given(&encode_settings(&padded), &encode_tree(&Tree::cell("a")));
         lines.readers();
         lines.both(0);

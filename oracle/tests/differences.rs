@@ -81,12 +81,20 @@ fn other_texts() {
 #[test]
 fn other_settings() {
     let refused = |settings: &Settings| judge::settings(&encode_settings(settings));
-    let printed = |settings: &Settings| String::from_utf8(original::sheet(settings, &Tree::cell("a"))).unwrap();
+    let printed = |settings: &Settings| {
+        String::from_utf8(original::sheet(settings, &Tree::cell("a"))).unwrap()
+    };
 
-    let wide = Settings { padding: [17, 0, 0, 0], ..BARE };
+    let wide = Settings {
+        padding: [17, 0, 0, 0],
+        ..BARE
+    };
     assert_eq!(refused(&wide), 1);
     let line = |edge: char| edge.to_string().repeat(18);
-    assert_eq!(printed(&wide), format!("1{}2\n({}a)\n4{}5", line('-'), " ".repeat(17), line('_')));
+    assert_eq!(
+        printed(&wide),
+        format!("1{}2\n({}a)\n4{}5", line('-'), " ".repeat(17), line('_'))
+    );
 
     let mut marks = BARE.marks;
     marks[0] = 0x7F;
@@ -94,7 +102,11 @@ fn other_settings() {
     assert_eq!(refused(&top), 1);
     assert_eq!(printed(&top), "1\u{7f}2\n(a)\n4_5");
 
-    let fill = Settings { padding: [1, 0, 0, 0], fills: [0x1F, 32, 32, 32], ..BARE };
+    let fill = Settings {
+        padding: [1, 0, 0, 0],
+        fills: [0x1F, 32, 32, 32],
+        ..BARE
+    };
     assert_eq!(refused(&fill), 1);
     assert_eq!(printed(&fill), "1--2\n(\u{1f}a)\n4__5");
 }
@@ -103,7 +115,10 @@ fn other_settings() {
 #[test]
 fn long_lists() {
     let cut = original::cut3(&[0; 513], 0);
-    assert_eq!((judge::cut(513), cut.yes, cut.taken, cut.left), (10, true, vec![], vec![0; 512]));
+    assert_eq!(
+        (judge::cut(513), cut.yes, cut.taken, cut.left),
+        (10, true, vec![], vec![0; 512])
+    );
 
     // `short_splits` says neither yes nor no, and takes no piece away at width 0.
     let cut = original::cut(&[0; 513], 0);
