@@ -10,6 +10,7 @@ use std::hint::black_box;
 use std::process::ExitCode;
 use std::time::{Duration, Instant};
 
+use leg_sheet::calls::{self, print_sheet};
 use oracle::form::{encode_settings, encode_tree};
 use oracle::original;
 use tables::{families, Table};
@@ -56,26 +57,23 @@ fn measure(table: &Table, output: &mut [u8]) -> Measured {
         tree,
     } = table;
     let (settings_bytes, tree_bytes) = (encode_settings(settings), encode_tree(tree));
-    let answer = leg_sheet::print_sheet(&settings_bytes, &tree_bytes, output);
-    assert_eq!(answer.number, 0, "{name} is refused");
+    let bytes = print_sheet(&settings_bytes, &tree_bytes, output)
+        .unwrap_or_else(|refusal| panic!("{name}: {refusal}"));
     let sheet = original::sheet(settings, tree);
-    assert_eq!(output[..answer.count], sheet, "{name}");
+    assert_eq!(output[..bytes], sheet, "{name}");
     let width = sheet
         .iter()
         .position(|&byte| byte == b'\n')
         .expect("a sheet has three lines");
     let ours = least(|| {
-        black_box(leg_sheet::print_sheet(
-            &settings_bytes,
-            &tree_bytes,
-            black_box(output),
-        ));
+        let answer = print_sheet(&settings_bytes, &tree_bytes, black_box(output));
+        black_box(answer).expect("printed before");
     });
     let theirs = least(|| {
         black_box(original::sheet(black_box(settings), black_box(tree)));
     });
-    let plain = least(|| lines(black_box(&mut output[..answer.count]), width));
-    let (nodes, bytes) = (tree.nodes(), answer.count);
+    let plain = least(|| lines(black_box(&mut output[..bytes]), width));
+    let nodes = tree.nodes();
     let faster = theirs.as_secs_f64() / ours.as_secs_f64();
     let slower = ours.as_secs_f64() / plain.as_secs_f64();
     let (a_node, a_byte) = (
@@ -93,7 +91,7 @@ fn measure(table: &Table, output: &mut [u8]) -> Measured {
 }
 
 fn main() -> ExitCode {
-    let mut output = vec![0; 64_159];
+    let mut output = vec![0; calls::SHEET];
     let mut all = Vec::new();
     println!("times faster: tabled / library. by memset: library / memset.");
     let heads = [

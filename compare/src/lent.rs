@@ -1,13 +1,27 @@
 //! Lists lent to the library, and what a call may leave of them.
 
-use leg_sheet::Answer;
+use leg_sheet::calls::PIECES;
+use leg_sheet::Refusal;
+use oracle::calls::SplitList;
 
 /// How many numbers more than needed are lent.
 pub const MORE: usize = 3;
 
-/// In place of a call's number where the call leaves a lent list otherwise than include/leg_sheet.h says. No call has it, so the comparison shows
-/// the input.
+/// In place of a call's number where the call leaves a lent list otherwise than include/leg_sheet.h says, or answers a word that has no meaning there.
+/// No call has it, so the comparison shows the input.
 const BROKEN: u8 = 255;
+
+/// What a call on lent lists answers.
+pub type Answer = Result<usize, Refusal>;
+
+/// The number of an answer.
+pub fn number(answer: Answer) -> u8 {
+    match answer {
+        Ok(_) => 0,
+        Err(Refusal::Unknown { .. }) => BROKEN,
+        Err(refusal) => refusal.number(),
+    }
+}
 
 /// What stands in a lent list before a call: never 0, and never the same twice.
 pub fn canary<T: From<u16>>(at: usize) -> T {
@@ -36,13 +50,18 @@ impl<T: Copy + Default + PartialEq + From<u16>> Lent<T> {
         self.list[written..] == self.before[written..]
     }
 
+    /// Whether the first `written` numbers are those of another list, and everything past them stayed.
+    fn is_written_as(&self, other: &Self, written: usize) -> bool {
+        self.list[..written] == other.list[..written] && self.kept(written)
+    }
+
     /// The numbers written; 0 for each of them beside a refusal.
-    pub fn written(&self, number: u8, needed: usize) -> Vec<T> {
+    pub fn written<const N: usize>(&self, number: u8) -> [T; N] {
+        let mut numbers = [T::default(); N];
         if number == 0 {
-            self.list[..needed].to_vec()
-        } else {
-            vec![T::default(); needed]
+            numbers.copy_from_slice(&self.list[..N]);
         }
+        numbers
     }
 }
 
@@ -57,25 +76,45 @@ pub fn sound(number: u8, kept: bool) -> u8 {
 
 /// A call that writes so many numbers, or none: on a list with more, and on one with one less, where 8 is the last of its refusals. Answers the
 /// number and the numbers written.
-pub fn record(needed: usize, call: impl Fn(&mut [u16]) -> Answer) -> (u8, Vec<u16>) {
-    let mut long = Lent::new(&[], needed + MORE);
-    let mut short = Lent::new(&[], needed - 1);
-    let Answer { number, count } = call(&mut long.list);
+pub fn record<const N: usize>(call: impl Fn(&mut [u16]) -> Answer) -> (u8, [u16; N]) {
+    let mut long = Lent::new(&[], N + MORE);
+    let mut short = Lent::new(&[], N - 1);
+    let answer = call(&mut long.list);
     let refused = call(&mut short.list);
-    let (written, refusal) = if number == 0 {
-        (needed, 8)
-    } else {
-        (0, number)
+    let (written, refusal) = match answer {
+        Ok(_) => (N, Refusal::TooShort),
+        Err(refusal) => (0, refusal),
     };
-    let kept = count == written
+    let kept = answer.unwrap_or(0) == written
         && long.kept(written)
-        && refused
-            == Answer {
-                number: refusal,
-                count: 0,
-            }
+        && refused == Err(refusal)
         && short.kept(0);
-    (sound(number, kept), long.written(number, needed))
+    let number = number(answer);
+    (sound(number, kept), long.written(number))
+}
+
+/// What a cut writes.
+pub struct Writes {
+    /// Whether the list left takes the place of the pieces.
+    pub left: bool,
+    /// So many numbers to its two lists.
+    pub lists: [usize; 2],
+    /// What it counts.
+    pub count: usize,
+}
+
+impl Writes {
+    /// What the cut answers on lists of such lengths where it answers `long` on long ones, and how much of them it writes.
+    fn on(&self, list: &SplitList, long: Answer, lengths: [usize; 3]) -> (Answer, [usize; 3]) {
+        let [one, other] = self.lists;
+        let is_short = lengths[0] < list.count || lengths[1] < one || lengths[2] < other;
+        let left = if self.left { lengths[0].min(PIECES) } else { 0 };
+        match long {
+            Err(_) => (long, [0; 3]),
+            Ok(_) if is_short => (Err(Refusal::TooShort), [0; 3]),
+            Ok(_) => (Ok(self.count), [left, one, other]),
+        }
+    }
 }
 
 /// The lists of a cut: the pieces, and two that it writes.
@@ -85,71 +124,62 @@ pub struct Cut<T> {
     pub other: Lent<u16>,
 }
 
-/// A cut that writes so many numbers to the three lists and counts so many: on lists with more, and with one less in each in turn, which is refused with 8 before
-/// anything else. Answers the number and the lists.
-pub fn cut<T: Copy + Default + PartialEq + From<u16>>(
-    given: &[u16],
-    writes: [usize; 3],
-    counts: usize,
-    call: impl Fn(&mut [u16], &mut [T], &mut [u16]) -> Answer,
-) -> (u8, Cut<T>) {
-    let run = |[pieces, one, other]: [usize; 3]| {
-        let mut lent = Cut {
+impl<T: Copy + Default + PartialEq + From<u16>> Cut<T> {
+    fn new(given: &[u16], [pieces, one, other]: [usize; 3]) -> Self {
+        Cut {
             pieces: Lent::new(given, pieces),
             one: Lent::new(&[], one),
             other: Lent::new(&[], other),
-        };
-        let answer = call(
-            &mut lent.pieces.list,
-            &mut lent.one.list,
-            &mut lent.other.list,
-        );
-        (answer, lent)
+        }
+    }
+
+    fn is_written_as(&self, long: &Self, [pieces, one, other]: [usize; 3]) -> bool {
+        self.pieces.is_written_as(&long.pieces, pieces)
+            && self.one.is_written_as(&long.one, one)
+            && self.other.is_written_as(&long.other, other)
+    }
+}
+
+/// A cut of a list: on lists that are all longer than needed; with as many pieces lent as the list has, some more, and one less; with one less in each list that
+/// it writes; and with no number in any list. A count over 512 is refused whatever is lent; else 8 says that a list is too short. Answers the number and the long lists.
+pub fn cut<T: Copy + Default + PartialEq + From<u16>>(
+    list: &SplitList,
+    writes: &Writes,
+    call: impl Fn(&mut [u16], &mut [T], &mut [u16]) -> Answer,
+) -> (u8, Cut<T>) {
+    let run = |lengths: [usize; 3]| {
+        let mut lent = Cut::new(&list.pieces, lengths);
+        let Cut { pieces, one, other } = &mut lent;
+        (call(&mut pieces.list, &mut one.list, &mut other.list), lent)
     };
-    let kept = |lent: &Cut<T>, [pieces, one, other]: [usize; 3]| {
-        lent.pieces.kept(pieces) && lent.one.kept(one) && lent.other.kept(other)
-    };
-    let needed = [given.len(), writes[1], writes[2]];
-    let (Answer { number, count }, lent) = run(needed.map(|length| length + MORE));
-    let (written, counted) = if number == 0 {
-        (writes, counts)
-    } else {
-        ([0; 3], 0)
-    };
-    let refuses = |at: usize| {
-        let mut lengths = needed;
-        lengths[at] -= 1;
+    let [one, other] = writes.lists;
+    let count = list.count.min(PIECES);
+    let more = [PIECES + MORE, one + MORE, other + MORE];
+    let lengths = [
+        more,
+        [count, one, other],
+        [count + MORE, one, other],
+        [count.saturating_sub(1), one, other],
+        [count, one.saturating_sub(1), other],
+        [count, one, other.saturating_sub(1)],
+        [0; 3],
+    ];
+    let (answer, long) = run(more);
+    let is_sound = |&lengths: &[usize; 3]| {
+        let (expected, written) = writes.on(list, answer, lengths);
         let (answer, lent) = run(lengths);
-        answer
-            == Answer {
-                number: 8,
-                count: 0,
-            }
-            && kept(&lent, [0; 3])
+        answer == expected && lent.is_written_as(&long, written)
     };
-    let refused = (0..3).all(|at| needed[at] == 0 || refuses(at));
-    (
-        sound(number, count == counted && kept(&lent, written) && refused),
-        lent,
-    )
+    (sound(number(answer), lengths.iter().all(is_sound)), long)
 }
 
 #[cfg(test)]
 mod tests {
     use super::*;
 
-    const DONE: Answer = Answer {
-        number: 0,
-        count: 2,
-    };
-    const SHORT: Answer = Answer {
-        number: 8,
-        count: 0,
-    };
-    const REFUSED: Answer = Answer {
-        number: 10,
-        count: 0,
-    };
+    const DONE: Answer = Ok(2);
+    const SHORT: Answer = Err(Refusal::TooShort);
+    const REFUSED: Answer = Err(Refusal::TooManyPieces);
 
     /// Writes 0 to the first `written` of a list of two or more; a shorter one is refused after `spoilt` zeros.
     fn fill(list: &mut [u16], written: usize, spoilt: usize) -> Answer {
@@ -164,35 +194,124 @@ mod tests {
 
     #[test]
     fn a_zero_in_the_wrong_place_shows() {
-        assert_eq!(record(2, |list| fill(list, 2, 0)), (0, vec![0, 0]));
-        assert_eq!(record(2, |list| fill(list, 3, 0)).0, BROKEN);
-        assert_eq!(record(2, |list| fill(list, 2, 1)).0, BROKEN);
-        assert_eq!(record(2, |_| REFUSED), (10, vec![0, 0]));
+        assert_eq!(record(|list| fill(list, 2, 0)), (0, [0, 0]));
+        assert_eq!(record::<2>(|list| fill(list, 3, 0)).0, BROKEN);
+        assert_eq!(record::<2>(|list| fill(list, 2, 1)).0, BROKEN);
+        assert_eq!(record(|_| REFUSED), (10, [0, 0]));
         let spoil = |list: &mut [u16]| {
             list[0] = 0;
             REFUSED
         };
-        assert_eq!(record(2, spoil).0, BROKEN);
-        assert_eq!(record(2, |_| DONE).0, BROKEN);
+        assert_eq!(record::<2>(spoil).0, BROKEN);
+        assert_eq!(record::<2>(|_| DONE).0, BROKEN);
+    }
+
+    /// Leaves the first `count` pieces, then 0, and writes 0 to two numbers of each list.
+    fn good(
+        count: usize,
+        pieces: &mut [u16],
+        one: &mut [u16],
+        other: &mut [u16],
+        is_left: bool,
+    ) -> Answer {
+        if count > PIECES {
+            return REFUSED;
+        }
+        if pieces.len() < count || one.len() < 2 || other.len() < 2 {
+            return SHORT;
+        }
+        if is_left {
+            let end = pieces.len().min(PIECES);
+            pieces[count..end].fill(0);
+        }
+        one[..2].fill(0);
+        other[..2].fill(0);
+        DONE
+    }
+
+    /// The number for a cut of so many pieces that does this before the good one, or in its place.
+    fn number_of(
+        count: usize,
+        left: bool,
+        first: impl Fn(&mut [u16], &mut [u16], &mut [u16]) -> Option<Answer>,
+    ) -> u8 {
+        let list = SplitList {
+            count,
+            pieces: [7; PIECES],
+        };
+        let writes = Writes {
+            left,
+            lists: [2, 2],
+            count: 2,
+        };
+        let call = |pieces: &mut [u16], one: &mut [u16], other: &mut [u16]| {
+            first(pieces, one, other).unwrap_or_else(|| good(count, pieces, one, other, left))
+        };
+        cut(&list, &writes, call).0
+    }
+
+    #[test]
+    fn a_good_cut_is_sound() {
+        for left in [true, false] {
+            for count in [0, 1, 4, 511, 512] {
+                assert_eq!(number_of(count, left, |_, _, _| None), 0);
+            }
+            for count in [513, usize::MAX] {
+                assert_eq!(number_of(count, left, |_, _, _| None), 10);
+            }
+        }
+    }
+
+    /// Whatever is refused or not: 0 to the first number.
+    fn spoil_first(list: &mut [u16]) -> Option<Answer> {
+        list.iter_mut().take(1).for_each(|number| *number = 0);
+        None
+    }
+
+    /// 0 past the two numbers that are written.
+    fn spoil_rest(list: &mut [u16]) -> Option<Answer> {
+        list.iter_mut().skip(2).for_each(|number| *number = 0);
+        None
     }
 
     #[test]
     fn a_cut_is_held_to_every_list() {
-        let number = |writes, spoil: fn(&mut [u16], &mut [u16])| {
-            let run = |pieces: &mut [u16], one: &mut [u16], other: &mut [u16]| {
-                if pieces.len() < 4 || one.len() < 2 || other.len() < 2 {
-                    return SHORT;
-                }
-                spoil(pieces, other);
-                fill(one, 2, 0)
-            };
-            cut(&[7; 4], writes, 2, run).0
+        for left in [true, false] {
+            let pieces = number_of(4, left, |pieces, _, _| spoil_first(pieces));
+            let one = number_of(4, left, |_, one, _| spoil_rest(one));
+            let other = number_of(4, left, |_, _, other| spoil_rest(other));
+            let refused = number_of(4, left, |_, _, other| spoil_first(other));
+            assert_eq!([pieces, one, other, refused], [BROKEN; 4]);
+        }
+    }
+
+    #[test]
+    fn a_cut_is_held_to_its_refusals() {
+        let refused = |count: usize, refuses: fn(&[u16], &[u16]) -> bool, answer: Answer| {
+            number_of(count, true, |pieces, one, _| {
+                refuses(pieces, one).then_some(answer)
+            })
         };
-        assert_eq!(number([0, 2, 2], |_, _| {}), 0);
-        assert_eq!(number([0, 2, 2], |_, other| other[2] = 0), BROKEN);
-        assert_eq!(number([0, 2, 2], |pieces, _| pieces[0] = 0), BROKEN);
-        assert_eq!(number([4, 2, 2], |pieces, _| pieces[0] = 0), 0);
-        assert_eq!(number([4, 2, 2], |pieces, _| pieces[4] = 0), BROKEN);
-        assert_eq!(number([0, 2, 3], |_, _| {}), BROKEN);
+        // Fewer than 512 pieces are enough where the count is lower.
+        assert_eq!(refused(4, |pieces, _| pieces.len() < PIECES, SHORT), BROKEN);
+        // 10 comes before 8.
+        assert_eq!(refused(513, |_, one| one.len() < 2, SHORT), BROKEN);
+        // One piece too few is 8.
+        assert_eq!(refused(4, |pieces, _| pieces.len() < 4, DONE), BROKEN);
+        // Another count.
+        assert_eq!(refused(4, |_, one| one.len() == 2, Ok(3)), BROKEN);
+        // Nothing written.
+        assert_eq!(refused(4, |_, one| one.len() == 2, DONE), BROKEN);
+    }
+
+    #[test]
+    fn the_list_left_ends_at_512() {
+        let all = |pieces: &mut [u16], _: &mut [u16], _: &mut [u16]| {
+            if pieces.len() > PIECES {
+                pieces[PIECES] = 0;
+            }
+            None
+        };
+        assert_eq!(number_of(4, true, all), BROKEN);
     }
 }

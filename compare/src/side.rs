@@ -1,171 +1,190 @@
 //! The library as a side of the comparison. Its lists are lent full of canaries, with some numbers more than needed and with one less (`lent`), so that
-//! whatever a refusal writes, or a result past its end, shows.
+//! whatever a refusal writes, or a result past its end, shows. What was written is read by the library's own records.
 
-use leg_sheet::{Answer, CUT, LENT_CUT, PIECES, RECORD, SETTINGS};
+use leg_sheet::calls::{self, CUT, LENT_CUT, LIST, PIECES, SETTINGS, SIZES};
+use leg_sheet::List;
 use oracle::calls::{
     Calls, Counted, CutParts, CutPositions, LeafRecord, ReadSettings, Shared, SizeRecord, SplitList,
 };
-use oracle::form::{Flags, Settings};
+use oracle::form::{encode_settings, Flags, Settings};
 
-use crate::lent::{self, canary, sound, Lent, MORE};
+use crate::lent::{self, canary, number, sound, Answer, Lent, Writes, MORE};
 
 #[derive(Debug, Default)]
 pub struct Library;
 
 fn counted(answer: Answer) -> Counted {
     Counted {
-        number: answer.number,
-        count: answer.count,
+        number: number(answer),
+        count: answer.unwrap_or(0),
     }
 }
 
-/// Yes is 1, no is 0.
-fn yes(word: u16) -> bool {
-    assert!(word < 2, "{word} is neither yes nor no");
-    word == 1
+fn sides(sides: leg_sheet::Sides) -> [u8; 4] {
+    [sides.left, sides.right, sides.top, sides.bottom]
 }
 
-/// A count and its entries.
-fn list(words: &[u16]) -> SplitList {
+fn settings_of(settings: leg_sheet::Settings) -> Settings {
+    Settings {
+        marks: settings.marks(),
+        padding: sides(settings.padding()),
+        fills: sides(settings.fills()),
+        horizontal: settings.horizontal() as u8,
+        vertical: settings.vertical() as u8,
+        line_mode: settings.line_mode().into(),
+        width_priority: settings.width_priority() as u8,
+        height_priority: settings.height_priority() as u8,
+    }
+}
+
+fn size_of(size: leg_sheet::SizeRecord) -> SizeRecord {
+    SizeRecord {
+        natural_width: size.natural_width,
+        natural_height: size.natural_height,
+        allotted_width: size.allotted_width,
+        allotted_height: size.allotted_height,
+    }
+}
+
+fn numbers_of(size: &SizeRecord) -> [u16; SIZES] {
+    [
+        size.natural_width,
+        size.natural_height,
+        size.allotted_width,
+        size.allotted_height,
+    ]
+}
+
+fn flags_of(flags: leg_sheet::Flags) -> Flags {
+    Flags {
+        first_row: flags.first_row,
+        last_row: flags.last_row,
+        first_col: flags.first_col,
+        last_col: flags.last_col,
+        no_right: flags.no_right,
+        lean_top: flags.lean_top,
+        top_left: flags.top_left,
+        top_intersection: flags.top_intersection,
+    }
+}
+
+fn list_of(list: &leg_sheet::SplitList) -> SplitList {
     SplitList {
-        count: words[0].into(),
-        pieces: words[1..=PIECES].try_into().expect("512 entries"),
+        count: list.len(),
+        pieces: *list.entries(),
     }
 }
 
 impl Calls for Library {
+    /// The numbers written and the settings that the library makes of them are held to each other.
     fn read_settings(&mut self, settings: &[u8]) -> ReadSettings {
-        let (number, out) = lent::record(SETTINGS, |out| leg_sheet::read_settings(settings, out));
-        let byte = |&number: &u16| u8::try_from(number).expect("a byte of the record");
-        let out: Vec<u8> = out.iter().map(byte).collect();
+        let (number, out) = lent::record::<SETTINGS>(|out| calls::read_settings(settings, out));
+        let read = leg_sheet::Settings::from_bytes(settings);
+        let is_same = number == lent::number(read.map(|_| SETTINGS));
+        let settings = read.map_or(Settings::BLANK, settings_of);
+        let record = encode_settings(&settings);
+        let is_written = record[3..].iter().map(|&byte| u16::from(byte)).eq(out);
         ReadSettings {
-            number,
-            settings: Settings {
-                marks: out[..15].try_into().expect("15 marks"),
-                padding: out[15..19].try_into().expect("4 sizes"),
-                fills: out[19..23].try_into().expect("4 fills"),
-                horizontal: out[23],
-                vertical: out[24],
-                line_mode: out[25],
-                width_priority: out[26],
-                height_priority: out[27],
-            },
+            number: sound(number, is_same && is_written),
+            settings,
         }
     }
 
     fn read_tree(&mut self, tree: &[u8]) -> Counted {
-        counted(leg_sheet::read_tree(tree))
+        counted(calls::read_tree(tree))
     }
 
     /// Three numbers more than the list's: one less than a further record needs.
     fn sizes(&mut self, settings: &[u8], tree: &[u8], list: &mut [SizeRecord]) -> Counted {
-        let numbers: Vec<u16> = list
-            .iter()
-            .flat_map(|s| {
-                [
-                    s.natural_width,
-                    s.natural_height,
-                    s.allotted_width,
-                    s.allotted_height,
-                ]
-            })
-            .collect();
+        let numbers: Vec<u16> = list.iter().flat_map(numbers_of).collect();
         let mut lent = Lent::new(&numbers, numbers.len() + MORE);
-        let Answer { number, count } = leg_sheet::sizes(settings, tree, &mut lent.list);
-        for (record, four) in list.iter_mut().zip(lent.list.chunks(4)) {
-            *record = SizeRecord {
-                natural_width: four[0],
-                natural_height: four[1],
-                allotted_width: four[2],
-                allotted_height: four[3],
-            };
+        let Counted { number, count } = counted(calls::sizes(settings, tree, &mut lent.list));
+        for (record, four) in list.iter_mut().zip(lent.list.chunks_exact(SIZES)) {
+            let four = four.try_into().expect("four numbers");
+            *record = size_of(leg_sheet::SizeRecord::from_numbers(four));
         }
         let number = sound(number, lent.kept(numbers.len()));
         Counted { number, count }
     }
 
     fn leaf_record(&mut self, settings: &[u8], tree: &[u8], node: usize) -> LeafRecord {
-        let (number, out) = lent::record(RECORD, |out| {
-            leg_sheet::leaf_record(settings, tree, node, out)
-        });
+        let (number, out) = lent::record(|out| calls::leaf_record(settings, tree, node, out));
+        let leaf = leg_sheet::LeafRecord::from_numbers(&out);
         LeafRecord {
             number,
-            node: out[0].into(),
-            width: out[1],
-            height: out[2],
-            horizontal: list(&out[11..]),
-            vertical: list(&out[12 + PIECES..]),
-            flags: Flags {
-                first_row: yes(out[3]),
-                last_row: yes(out[4]),
-                first_col: yes(out[5]),
-                last_col: yes(out[6]),
-                no_right: yes(out[7]),
-                lean_top: yes(out[8]),
-                top_left: yes(out[9]),
-                top_intersection: yes(out[10]),
-            },
+            node: leaf.node,
+            width: leaf.width,
+            height: leaf.height,
+            horizontal: list_of(&leaf.horizontal),
+            vertical: list_of(&leaf.vertical),
+            flags: flags_of(leaf.flags),
         }
     }
 
     fn leaf(&mut self, settings: &[u8], tree: &[u8], node: usize, output: &mut [u8]) -> Counted {
-        counted(leg_sheet::print_leaf(settings, tree, node, output))
+        counted(calls::print_leaf(settings, tree, node, output))
     }
 
     fn sheet(&mut self, settings: &[u8], tree: &[u8], output: &mut [u8]) -> Counted {
-        counted(leg_sheet::print_sheet(settings, tree, output))
+        counted(calls::print_sheet(settings, tree, output))
     }
 
-    fn short_splits3(&mut self, cut: &SplitList, width: u16) -> CutParts {
-        let (number, lent) = lent::cut(&cut.pieces, [0, CUT, 0], CUT, |pieces, out, _| {
-            leg_sheet::short_splits3(pieces, cut.count, width, out)
+    fn short_splits3(&mut self, list: &SplitList, width: u16) -> CutParts {
+        let writes = Writes {
+            left: false,
+            lists: [CUT, 0],
+            count: CUT,
+        };
+        let (number, lent) = lent::cut(list, &writes, |pieces, out, _| {
+            calls::short_splits3(pieces, list.count, width, out)
         });
-        let out = lent.one.written(number, CUT);
+        let cut = leg_sheet::CutParts::from_numbers(&lent.one.written(number));
         CutParts {
             number,
-            split: yes(out[0]),
-            taken: list(&out[1..]),
-            left: list(&out[2 + PIECES..]),
+            split: cut.split,
+            taken: list_of(&cut.taken),
+            left: list_of(&cut.left),
         }
     }
 
-    fn short_splits(&mut self, cut: &SplitList, width: u16) -> CutPositions {
-        let both = 1 + PIECES;
-        let (number, lent) = lent::cut(
-            &cut.pieces,
-            [0, both, both],
-            both,
-            |pieces, positions, left| {
-                leg_sheet::short_splits(pieces, cut.count, width, positions, left)
-            },
-        );
-        let positions: Vec<u32> = lent.one.written(number, both);
+    fn short_splits(&mut self, list: &SplitList, width: u16) -> CutPositions {
+        let writes = Writes {
+            left: false,
+            lists: [LIST, LIST],
+            count: LIST,
+        };
+        let (number, lent) = lent::cut(list, &writes, |pieces, positions, left| {
+            calls::short_splits(pieces, list.count, width, positions, left)
+        });
+        let positions: leg_sheet::Positions = List::from_numbers(&lent.one.written(number));
         CutPositions {
             number,
-            positions: positions[1..].try_into().expect("512 entries"),
-            count: positions[0] as usize,
-            left: list(&lent.other.written(number, both)),
+            positions: *positions.entries(),
+            count: positions.len(),
+            left: list_of(&List::from_numbers(&lent.other.written(number))),
         }
     }
 
-    fn short_splits3_lent(&mut self, cut: &mut SplitList, width: u16) -> CutParts {
-        let (number, lent) = lent::cut(
-            &cut.pieces,
-            [PIECES, LENT_CUT, 0],
-            LENT_CUT,
-            |pieces, out, _| leg_sheet::short_splits3_lent(pieces, cut.count, width, out),
-        );
-        let out = lent.one.written(number, LENT_CUT);
-        cut.pieces = lent.pieces.list[..PIECES].try_into().expect("512 entries");
+    fn short_splits3_lent(&mut self, list: &mut SplitList, width: u16) -> CutParts {
+        let writes = Writes {
+            left: true,
+            lists: [LENT_CUT, 0],
+            count: LENT_CUT,
+        };
+        let (number, lent) = lent::cut(list, &writes, |pieces, out, _| {
+            calls::short_splits3_lent(pieces, list.count, width, out)
+        });
+        let cut = leg_sheet::CutAnswer::from_numbers(&lent.one.written(number));
+        list.pieces.copy_from_slice(&lent.pieces.list[..PIECES]);
         let mut left = SplitList::EMPTY;
         if number == 0 {
-            cut.count = out[1].into();
-            left = cut.clone();
+            list.count = cut.left;
+            left = list.clone();
         }
         CutParts {
             number,
-            split: yes(out[0]),
-            taken: list(&out[2..]),
+            split: cut.split,
+            taken: list_of(&cut.taken),
             left,
         }
     }
@@ -173,16 +192,15 @@ impl Calls for Library {
     fn share(&mut self, spare: usize, n: usize, priority: u8, index: usize) -> Shared {
         let lent = canary(0);
         let mut part = lent;
-        let Answer { number, count } = leg_sheet::share(spare, n, priority, index, &mut part);
-        if number != 0 {
-            return Shared {
-                number: sound(number, count == 0 && part == lent),
+        match calls::share(spare, n, priority, index, &mut part) {
+            Ok(count) => Shared {
+                number: sound(0, count == 0),
+                part: part as usize,
+            },
+            refused => Shared {
+                number: sound(number(refused), part == lent),
                 part: 0,
-            };
-        }
-        Shared {
-            number: sound(number, count == 0),
-            part: part as usize,
+            },
         }
     }
 }

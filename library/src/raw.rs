@@ -1,15 +1,81 @@
 //! The C functions of `include/leg_sheet.h`. A lent slice is a pointer and then a length.
 
-#[rustfmt::skip]
 extern "C" {
-    pub fn leg_read_settings(bytes: *const u8, bytes_len: usize, out: *mut u16, out_len: usize) -> u64;
+    pub fn leg_read_settings(
+        bytes: *const u8,
+        bytes_len: usize,
+        out: *mut u16,
+        out_len: usize,
+    ) -> u64;
+
     pub fn leg_read_tree(tree: *const u8, tree_len: usize) -> u64;
-    pub fn leg_sizes(settings: *const u8, settings_len: usize, tree: *const u8, tree_len: usize, list: *mut u16, list_len: usize) -> u64;
-    pub fn leg_leaf_record(settings: *const u8, settings_len: usize, tree: *const u8, tree_len: usize, node: usize, out: *mut u16, out_len: usize) -> u64;
-    pub fn leg_print_leaf(settings: *const u8, settings_len: usize, tree: *const u8, tree_len: usize, node: usize, out: *mut u8, out_len: usize) -> u64;
-    pub fn leg_print_sheet(settings: *const u8, settings_len: usize, tree: *const u8, tree_len: usize, out: *mut u8, out_len: usize) -> u64;
-    pub fn leg_short_splits3(pieces: *const u16, pieces_len: usize, count: usize, w: u16, out: *mut u16, out_len: usize) -> u64;
-    pub fn leg_short_splits3_lent(pieces: *mut u16, pieces_len: usize, count: usize, w: u16, out: *mut u16, out_len: usize) -> u64;
-    pub fn leg_short_splits(pieces: *const u16, pieces_len: usize, count: usize, w: u16, positions: *mut u32, positions_len: usize, left: *mut u16, left_len: usize) -> u64;
+
+    pub fn leg_sizes(
+        settings: *const u8,
+        settings_len: usize,
+        tree: *const u8,
+        tree_len: usize,
+        list: *mut u16,
+        list_len: usize,
+    ) -> u64;
+
+    pub fn leg_leaf_record(
+        settings: *const u8,
+        settings_len: usize,
+        tree: *const u8,
+        tree_len: usize,
+        node: usize,
+        out: *mut u16,
+        out_len: usize,
+    ) -> u64;
+
+    pub fn leg_print_leaf(
+        settings: *const u8,
+        settings_len: usize,
+        tree: *const u8,
+        tree_len: usize,
+        node: usize,
+        out: *mut u8,
+        out_len: usize,
+    ) -> u64;
+
+    pub fn leg_print_sheet(
+        settings: *const u8,
+        settings_len: usize,
+        tree: *const u8,
+        tree_len: usize,
+        out: *mut u8,
+        out_len: usize,
+    ) -> u64;
+
+    pub fn leg_short_splits3(
+        pieces: *const u16,
+        pieces_len: usize,
+        count: usize,
+        w: u16,
+        out: *mut u16,
+        out_len: usize,
+    ) -> u64;
+
+    pub fn leg_short_splits3_lent(
+        pieces: *mut u16,
+        pieces_len: usize,
+        count: usize,
+        w: u16,
+        out: *mut u16,
+        out_len: usize,
+    ) -> u64;
+
+    pub fn leg_short_splits(
+        pieces: *const u16,
+        pieces_len: usize,
+        count: usize,
+        w: u16,
+        positions: *mut u32,
+        positions_len: usize,
+        left: *mut u16,
+        left_len: usize,
+    ) -> u64;
+
     pub fn leg_share(spare: usize, n: usize, priority: u8, index: usize, part: *mut u64) -> u64;
 }

@@ -35,6 +35,18 @@ impl Settings {
         height_priority: 2,
     };
 
+    /// What stands beside a refusal.
+    pub const BLANK: Settings = Settings {
+        marks: [0; 15],
+        padding: [0; 4],
+        fills: [0; 4],
+        horizontal: 0,
+        vertical: 0,
+        line_mode: 0,
+        width_priority: 0,
+        height_priority: 0,
+    };
+
     /// The set M of the figures.
     pub const M: Settings = Settings {
         marks: *b"-_()hv123456789",

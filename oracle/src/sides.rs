@@ -117,16 +117,7 @@ impl<A: Answers> Calls for Side<A> {
             },
             Err(number) => ReadSettings {
                 number,
-                settings: Settings {
-                    marks: [0; 15],
-                    padding: [0; 4],
-                    fills: [0; 4],
-                    horizontal: 0,
-                    vertical: 0,
-                    line_mode: 0,
-                    width_priority: 0,
-                    height_priority: 0,
-                },
+                settings: Settings::BLANK,
             },
         }
     }

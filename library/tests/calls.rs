@@ -1,6 +1,7 @@
-//! The wrapper by itself: figure F1 of document 01, refusals, what they leave of a lent output, and priorities that no settings have.
+//! The calls on lent buffers by themselves: figure F1 of document 01, refusals, what they leave of a lent output, and priorities that no settings have.
 
-use leg_sheet::{print_sheet, read_settings, share, Answer, SETTINGS};
+use leg_sheet::calls::{print_sheet, read_settings, share, SETTINGS};
+use leg_sheet::Refusal;
 
 /// The settings record with document 01's defaults D.
 const D: &[u8; 31] = b"\x10\x00\x1C--||-|+++++++++\x01\x01\x00\x00    \x00\x00\x00\x02\x02";
@@ -13,7 +14,7 @@ const LENT: [u8; 24] = *b"abcdefghijklmnopqrstuvwx";
 #[test]
 fn prints_and_keeps_the_rest() {
     let mut output = LENT;
-    assert_eq!(print_sheet(D, AB, &mut output), Answer { number: 0, count: 20 });
+    assert_eq!(print_sheet(D, AB, &mut output), Ok(20));
     assert_eq!(output[..20], *F1);
     assert_eq!(output[20..], LENT[20..]);
 }
@@ -23,8 +24,8 @@ fn refuses_and_writes_nothing() {
     let refused = |settings: &[u8], tree: &[u8], length: usize| {
         let mut output = LENT;
         let answer = print_sheet(settings, tree, &mut output[..length]);
-        assert_eq!((answer.count, output), (0, LENT));
-        answer.number
+        assert_eq!(output, LENT);
+        answer.expect_err("a refusal").number()
     };
     assert_eq!(refused(b"", AB, 24), 1);
     assert_eq!(refused(D, b"", 24), 2);
@@ -35,9 +36,12 @@ fn refuses_and_writes_nothing() {
 #[test]
 fn reads_settings() {
     let mut numbers = [0xA5A5; SETTINGS + 1];
-    assert_eq!(read_settings(D, &mut numbers), Answer { number: 0, count: SETTINGS });
+    assert_eq!(read_settings(D, &mut numbers), Ok(SETTINGS));
     let bytes = D[3..].iter().map(|&byte| byte.into());
-    assert_eq!(numbers.to_vec(), bytes.chain([0xA5A5]).collect::<Vec<u16>>());
+    assert_eq!(
+        numbers.to_vec(),
+        bytes.chain([0xA5A5]).collect::<Vec<u16>>()
+    );
 }
 
 /// The header: 'Priority 0 is First, 1 Last, 2 and every other number List.'
@@ -46,7 +50,7 @@ fn every_priority_shares() {
     for priority in 0..=255 {
         let part = |index: usize| {
             let mut part = 0xA5A5;
-            assert_eq!(share(7, 3, priority, index, &mut part), Answer { number: 0, count: 0 });
+            assert_eq!(share(7, 3, priority, index, &mut part), Ok(0));
             part
         };
         let parts = match priority {
@@ -55,5 +59,14 @@ fn every_priority_shares() {
             _ => [3, 2, 2],
         };
         assert_eq!([0, 1, 2].map(part), parts, "priority {priority}");
+    }
+}
+
+#[test]
+fn no_child_leaves_the_part() {
+    for (n, index) in [(0, 0), (3, 3)] {
+        let mut part = 0xA5A5;
+        assert_eq!(share(7, n, 2, index, &mut part), Err(Refusal::NoChild));
+        assert_eq!(part, 0xA5A5);
     }
 }

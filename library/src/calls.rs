@@ -1,0 +1,236 @@
+//! The calls on bytes and lent buffers, as `include/leg_sheet.h` has them.
+//!
+//! Each answers how many nodes, numbers or bytes were counted or written. A refused call has written nothing; any other leaves what stands past the
+//! result as it was. Nothing is asked of the caller, nothing is allocated and nothing is kept.
+//!
+//! ```
+//! let settings = leg_sheet::Settings::default().to_bytes();
+//! let mut out = [0; 100];
+//! let count = leg_sheet::calls::print_sheet(&settings, b"\x01\x00\x02ab", &mut out)?;
+//! assert_eq!(&out[..count], b"+----+\n| ab |\n+----+");
+//! # Ok::<(), leg_sheet::Refusal>(())
+//! ```
+//!
+//! Every `unsafe` block below is sound for one reason. The C functions ask that a pointer be to as many items as the length beside it says, not null
+//! and aligned even where that is none, and that what is written overlap no other argument. Each pair is of one slice, borrowed for the call, the
+//! written ones by `&mut`.
+
+use crate::raw;
+use crate::refusal::Refusal;
+
+/// The numbers of a settings record, past its tag and length.
+pub const SETTINGS: usize = 28;
+/// The numbers of a size record.
+pub const SIZES: usize = 4;
+/// A list's entries at the most.
+pub const PIECES: usize = 512;
+/// A list that is written: its count, then its entries with 0 past the count.
+pub const LIST: usize = 1 + PIECES;
+/// A leaf record: node, width, height, eight flags, two lists.
+pub const RECORD: usize = 11 + 2 * LIST;
+/// `short_splits3`: yes or no, the list taken, the list left.
+pub const CUT: usize = 1 + 2 * LIST;
+/// `short_splits3_lent`: yes or no, the count left, the list taken.
+pub const LENT_CUT: usize = 2 + LIST;
+/// The largest sheet or block: 160 lines of 400 columns, with a line feed between them.
+pub const SHEET: usize = 401 * 160 - 1;
+/// The nodes of a tree at the most.
+pub const NODES: usize = 512;
+
+/// A word has the count, or above 32 bits the number of a refusal.
+fn answer(word: u64) -> Result<usize, Refusal> {
+    u32::try_from(word)
+        .map(|count| count as usize)
+        .map_err(|_| Refusal::of_word(word))
+}
+
+/// Reads a settings record and writes its [`SETTINGS`] numbers.
+///
+/// # Errors
+/// 1, 8.
+pub fn read_settings(bytes: &[u8], out: &mut [u16]) -> Result<usize, Refusal> {
+    // SAFETY: pointers and lengths of slices that are borrowed here.
+    answer(unsafe {
+        raw::leg_read_settings(bytes.as_ptr(), bytes.len(), out.as_mut_ptr(), out.len())
+    })
+}
+
+/// Reads a tree and counts its nodes.
+///
+/// # Errors
+/// 2 to 5.
+pub fn read_tree(tree: &[u8]) -> Result<usize, Refusal> {
+    // SAFETY: pointer and length of a slice that is borrowed here.
+    answer(unsafe { raw::leg_read_tree(tree.as_ptr(), tree.len()) })
+}
+
+/// Writes [`SIZES`] numbers for each node: natural width and height, allotted width and height. Counts the nodes.
+///
+/// # Errors
+/// 1 to 5, 8.
+pub fn sizes(settings: &[u8], tree: &[u8], list: &mut [u16]) -> Result<usize, Refusal> {
+    // SAFETY: pointers and lengths of slices that are borrowed here.
+    answer(unsafe {
+        raw::leg_sizes(
+            settings.as_ptr(),
+            settings.len(),
+            tree.as_ptr(),
+            tree.len(),
+            list.as_mut_ptr(),
+            list.len(),
+        )
+    })
+}
+
+/// Writes the [`RECORD`] numbers of a leaf.
+///
+/// # Errors
+/// 1 to 6, 9, 8.
+pub fn leaf_record(
+    settings: &[u8],
+    tree: &[u8],
+    node: usize,
+    out: &mut [u16],
+) -> Result<usize, Refusal> {
+    // SAFETY: pointers and lengths of slices that are borrowed here.
+    answer(unsafe {
+        raw::leg_leaf_record(
+            settings.as_ptr(),
+            settings.len(),
+            tree.as_ptr(),
+            tree.len(),
+            node,
+            out.as_mut_ptr(),
+            out.len(),
+        )
+    })
+}
+
+/// Prints a leaf's block, [`SHEET`] bytes at the most.
+///
+/// # Errors
+/// 1 to 6, 9, 8.
+pub fn print_leaf(
+    settings: &[u8],
+    tree: &[u8],
+    node: usize,
+    out: &mut [u8],
+) -> Result<usize, Refusal> {
+    // SAFETY: pointers and lengths of slices that are borrowed here.
+    answer(unsafe {
+        raw::leg_print_leaf(
+            settings.as_ptr(),
+            settings.len(),
+            tree.as_ptr(),
+            tree.len(),
+            node,
+            out.as_mut_ptr(),
+            out.len(),
+        )
+    })
+}
+
+/// Prints the sheet, [`SHEET`] bytes at the most.
+///
+/// # Errors
+/// 1 to 8.
+pub fn print_sheet(settings: &[u8], tree: &[u8], out: &mut [u8]) -> Result<usize, Refusal> {
+    // SAFETY: pointers and lengths of slices that are borrowed here.
+    answer(unsafe {
+        raw::leg_print_sheet(
+            settings.as_ptr(),
+            settings.len(),
+            tree.as_ptr(),
+            tree.len(),
+            out.as_mut_ptr(),
+            out.len(),
+        )
+    })
+}
+
+/// Cuts the list of the first `count` pieces at `width` and writes [`CUT`] numbers.
+///
+/// # Errors
+/// 10; 8 where a list is too short, `pieces` among them.
+pub fn short_splits3(
+    pieces: &[u16],
+    count: usize,
+    width: u16,
+    out: &mut [u16],
+) -> Result<usize, Refusal> {
+    // SAFETY: pointers and lengths of slices that are borrowed here.
+    answer(unsafe {
+        raw::leg_short_splits3(
+            pieces.as_ptr(),
+            pieces.len(),
+            count,
+            width,
+            out.as_mut_ptr(),
+            out.len(),
+        )
+    })
+}
+
+/// The same cut, with the list left in the place of the lent one, in its first 512 numbers, 0 past the count; writes [`LENT_CUT`] numbers to `out`.
+///
+/// # Errors
+/// 10; 8 where a list is too short, `pieces` among them.
+pub fn short_splits3_lent(
+    pieces: &mut [u16],
+    count: usize,
+    width: u16,
+    out: &mut [u16],
+) -> Result<usize, Refusal> {
+    // SAFETY: pointers and lengths of slices that are borrowed here.
+    answer(unsafe {
+        raw::leg_short_splits3_lent(
+            pieces.as_mut_ptr(),
+            pieces.len(),
+            count,
+            width,
+            out.as_mut_ptr(),
+            out.len(),
+        )
+    })
+}
+
+/// Cuts the list and writes the positions and the list left, [`LIST`] numbers each.
+///
+/// # Errors
+/// 10; 8 where a list is too short, `pieces` among them.
+pub fn short_splits(
+    pieces: &[u16],
+    count: usize,
+    width: u16,
+    positions: &mut [u32],
+    left: &mut [u16],
+) -> Result<usize, Refusal> {
+    // SAFETY: pointers and lengths of slices that are borrowed here.
+    answer(unsafe {
+        raw::leg_short_splits(
+            pieces.as_ptr(),
+            pieces.len(),
+            count,
+            width,
+            positions.as_mut_ptr(),
+            positions.len(),
+            left.as_mut_ptr(),
+            left.len(),
+        )
+    })
+}
+
+/// Writes the part of `spare` that child `index` of `n` gets, and counts nothing. Priority 0 is First, 1 Last, every other number List.
+///
+/// # Errors
+/// 11.
+pub fn share(
+    spare: usize,
+    n: usize,
+    priority: u8,
+    index: usize,
+    part: &mut u64,
+) -> Result<usize, Refusal> {
+    // SAFETY: a pointer to a number that is borrowed here.
+    answer(unsafe { raw::leg_share(spare, n, priority, index, part) })
+}

@@ -1,0 +1,86 @@
+//! Settings and tree together, as bytes.
+
+use crate::calls;
+use crate::records::{LeafRecord, SizeRecord};
+use crate::refusal::Refusal;
+use crate::tree;
+
+/// The settings record.
+const SETTINGS_BYTES: usize = 3 + calls::SETTINGS;
+
+/// The bytes of settings and of a tree, good or bad. The calls answer values.
+///
+/// ```
+/// use leg_sheet::{Input, Refusal, Settings};
+///
+/// let settings = Settings::default().to_bytes();
+/// let input = Input { settings: &settings, tree: b"\x02\x00\x08\x01\x00\x01a\x01\x00\x01b" };
+/// assert_eq!(input.print_leaf(1)?, "+---\n| a \n+---");
+/// assert_eq!(input.print_leaf(0), Err(Refusal::NoLeaf));
+/// # Ok::<(), leg_sheet::Refusal>(())
+/// ```
+#[derive(Debug, Clone, Copy, PartialEq, Eq)]
+pub struct Input<'a> {
+    /// The settings record.
+    pub settings: &'a [u8],
+    /// The tree.
+    pub tree: &'a [u8],
+}
+
+impl<'a> Input<'a> {
+    /// One byte more than the longest input that can be accepted: a longer one is refused as its beginning of so many bytes is.
+    pub const BYTES: usize = SETTINGS_BYTES + tree::BYTES + 1;
+
+    /// The sheet program's input: the settings record (the first 31 bytes, or all if there are fewer), then the tree.
+    #[must_use]
+    pub fn split(bytes: &'a [u8]) -> Input<'a> {
+        let (settings, tree) = bytes.split_at(bytes.len().min(SETTINGS_BYTES));
+        Input { settings, tree }
+    }
+
+    /// The sheet.
+    ///
+    /// # Errors
+    /// 1 to 7.
+    pub fn print_sheet(self) -> Result<String, Refusal> {
+        printed(|out| calls::print_sheet(self.settings, self.tree, out))
+    }
+
+    /// A leaf's block.
+    ///
+    /// # Errors
+    /// 1 to 6, 9.
+    pub fn print_leaf(self, node: usize) -> Result<String, Refusal> {
+        printed(|out| calls::print_leaf(self.settings, self.tree, node, out))
+    }
+
+    /// The size of each node, by its number.
+    ///
+    /// # Errors
+    /// 1 to 5.
+    pub fn sizes(self) -> Result<Vec<SizeRecord>, Refusal> {
+        let mut list = [[0; calls::SIZES]; calls::NODES];
+        let count = calls::sizes(self.settings, self.tree, list.as_flattened_mut())?;
+        let records = list.into_iter().take(count);
+        Ok(records.map(SizeRecord::from_numbers).collect())
+    }
+
+    /// A leaf's record.
+    ///
+    /// # Errors
+    /// 1 to 6, 9.
+    pub fn leaf_record(self, node: usize) -> Result<LeafRecord, Refusal> {
+        let mut out = [0; calls::RECORD];
+        calls::leaf_record(self.settings, self.tree, node, &mut out)?;
+        Ok(LeafRecord::from_numbers(&out))
+    }
+}
+
+/// What a printer writes, lent enough for the largest sheet.
+fn printed(print: impl Fn(&mut [u8]) -> Result<usize, Refusal>) -> Result<String, Refusal> {
+    let mut out = vec![0; calls::SHEET];
+    let count = print(&mut out)?;
+    out.truncate(count);
+    out.shrink_to_fit();
+    Ok(String::from_utf8(out).expect("a printer writes ASCII alone"))
+}

@@ -1,0 +1,226 @@
+//! What the calls answer, as values; `from_numbers` makes them of the numbers that a call on lent lists has written.
+
+use std::fmt;
+use std::ops::Deref;
+
+use crate::calls::{CUT, LENT_CUT, LIST, PIECES, RECORD, SIZES};
+
+/// A node's size.
+#[derive(Debug, Clone, Copy, Default, PartialEq, Eq, Hash)]
+pub struct SizeRecord {
+    /// What its own contents need, padding included.
+    pub natural_width: u16,
+    /// The lines they need.
+    pub natural_height: u16,
+    /// What it gets: its natural width and its part of the spare.
+    pub allotted_width: u16,
+    /// The lines it gets.
+    pub allotted_height: u16,
+}
+
+impl SizeRecord {
+    /// A record of [`calls::sizes`](crate::calls::sizes).
+    #[must_use]
+    pub const fn from_numbers(numbers: [u16; SIZES]) -> SizeRecord {
+        let [natural_width, natural_height, allotted_width, allotted_height] = numbers;
+        SizeRecord {
+            natural_width,
+            natural_height,
+            allotted_width,
+            allotted_height,
+        }
+    }
+
+    /// The record as [`calls::sizes`](crate::calls::sizes) writes it.
+    #[must_use]
+    pub const fn to_numbers(self) -> [u16; SIZES] {
+        [
+            self.natural_width,
+            self.natural_height,
+            self.allotted_width,
+            self.allotted_height,
+        ]
+    }
+}
+
+/// Up to 512 numbers; it is a slice of them.
+#[derive(Clone, Copy, PartialEq, Eq, Hash)]
+pub struct List<T> {
+    entries: [T; PIECES],
+    count: usize,
+}
+
+/// The lengths of pieces.
+pub type SplitList = List<u16>;
+
+/// The positions that `short_splits` lists.
+pub type Positions = List<u32>;
+
+impl<T: Copy + Into<u64>> List<T> {
+    /// A list that a call has written: its count, then 512 entries.
+    #[must_use]
+    pub fn from_numbers(numbers: &[T; LIST]) -> List<T> {
+        List {
+            entries: std::array::from_fn(|at| numbers[1 + at]),
+            count: numbers[0].into() as usize,
+        }
+    }
+
+    /// All 512 entries, those past the count included, which are 0.
+    #[must_use]
+    pub const fn entries(&self) -> &[T; PIECES] {
+        &self.entries
+    }
+}
+
+impl<T> Deref for List<T> {
+    type Target = [T];
+
+    fn deref(&self) -> &[T] {
+        &self.entries[..self.count]
+    }
+}
+
+impl<T: fmt::Debug> fmt::Debug for List<T> {
+    fn fmt(&self, f: &mut fmt::Formatter<'_>) -> fmt::Result {
+        self.deref().fmt(f)
+    }
+}
+
+/// What a leaf knows of its place; its corner marks and edges follow from these.
+#[derive(Debug, Clone, Copy, Default, PartialEq, Eq, Hash)]
+#[allow(missing_docs)]
+pub struct Flags {
+    pub first_row: bool,
+    pub last_row: bool,
+    pub first_col: bool,
+    pub last_col: bool,
+    pub no_right: bool,
+    pub lean_top: bool,
+    pub top_left: bool,
+    pub top_intersection: bool,
+}
+
+impl Flags {
+    /// Each flag with its name, in the record's order.
+    #[must_use]
+    pub const fn named(self) -> [(&'static str, bool); 8] {
+        [
+            ("first_row", self.first_row),
+            ("last_row", self.last_row),
+            ("first_col", self.first_col),
+            ("last_col", self.last_col),
+            ("no_right", self.no_right),
+            ("lean_top", self.lean_top),
+            ("top_left", self.top_left),
+            ("top_intersection", self.top_intersection),
+        ]
+    }
+}
+
+/// A leaf: its size, the split lists that it is handed, its flags.
+#[derive(Debug, Clone, Copy, PartialEq, Eq, Hash)]
+pub struct LeafRecord {
+    /// Its number.
+    pub node: usize,
+    /// The columns it is allotted.
+    pub width: u16,
+    /// The lines it is allotted.
+    pub height: u16,
+    /// Its flags.
+    pub flags: Flags,
+    /// The pieces above it.
+    pub horizontal: SplitList,
+    /// The pieces left of it.
+    pub vertical: SplitList,
+}
+
+impl LeafRecord {
+    /// What [`calls::leaf_record`](crate::calls::leaf_record) has written.
+    #[must_use]
+    pub fn from_numbers(numbers: &[u16; RECORD]) -> LeafRecord {
+        LeafRecord {
+            node: numbers[0].into(),
+            width: numbers[1],
+            height: numbers[2],
+            flags: Flags {
+                first_row: yes(numbers[3]),
+                last_row: yes(numbers[4]),
+                first_col: yes(numbers[5]),
+                last_col: yes(numbers[6]),
+                no_right: yes(numbers[7]),
+                lean_top: yes(numbers[8]),
+                top_left: yes(numbers[9]),
+                top_intersection: yes(numbers[10]),
+            },
+            horizontal: list_at(numbers, 11),
+            vertical: list_at(numbers, 11 + LIST),
+        }
+    }
+}
+
+/// What `short_splits3` answers.
+#[derive(Debug, Clone, Copy, PartialEq, Eq, Hash)]
+pub struct CutParts {
+    /// Whether the cut falls between two pieces, so that a piece was removed.
+    pub split: bool,
+    /// The pieces taken.
+    pub taken: SplitList,
+    /// The list left.
+    pub left: SplitList,
+}
+
+impl CutParts {
+    /// What [`calls::short_splits3`](crate::calls::short_splits3) has written.
+    #[must_use]
+    pub fn from_numbers(numbers: &[u16; CUT]) -> CutParts {
+        CutParts {
+            split: yes(numbers[0]),
+            taken: list_at(numbers, 1),
+            left: list_at(numbers, 1 + LIST),
+        }
+    }
+}
+
+/// What `short_splits3` answers in place: the list left stays with the caller.
+#[derive(Debug, Clone, Copy, PartialEq, Eq, Hash)]
+pub struct CutAnswer {
+    /// Whether the cut falls between two pieces, so that a piece was removed.
+    pub split: bool,
+    /// How many pieces are left.
+    pub left: usize,
+    /// The pieces taken.
+    pub taken: SplitList,
+}
+
+impl CutAnswer {
+    /// What [`calls::short_splits3_lent`](crate::calls::short_splits3_lent) has written beside the list left.
+    #[must_use]
+    pub fn from_numbers(numbers: &[u16; LENT_CUT]) -> CutAnswer {
+        CutAnswer {
+            split: yes(numbers[0]),
+            left: numbers[1].into(),
+            taken: list_at(numbers, 2),
+        }
+    }
+}
+
+/// What `short_splits` answers.
+#[derive(Debug, Clone, Copy, PartialEq, Eq, Hash)]
+pub struct ShortParts {
+    /// The position after each piece taken.
+    pub positions: Positions,
+    /// The list left.
+    pub left: SplitList,
+}
+
+/// Yes is 1, no is 0.
+fn yes(number: u16) -> bool {
+    debug_assert!(number < 2, "{number} is neither yes nor no");
+    number == 1
+}
+
+/// The list among a record's numbers.
+fn list_at(numbers: &[u16], start: usize) -> SplitList {
+    List::from_numbers(&std::array::from_fn(|at| numbers[start + at]))
+}

@@ -1,0 +1,107 @@
+//! What is refused, by the table of document 01.
+
+use std::error::Error;
+use std::fmt;
+
+/// The enum and its two columns from one line for each refusal.
+macro_rules! refusals {
+    ($($number:literal $name:ident $sentence:literal,)*) => {
+        /// Why a call was refused: a number and a sentence. A refused call has written nothing.
+        ///
+        /// ```
+        /// use leg_sheet::{Refusal, Tree};
+        ///
+        /// let refusal = Tree::from("a\ttab").to_bytes().unwrap_err();
+        /// assert_eq!(refusal, Refusal::BadText);
+        /// assert_eq!(refusal.number(), 3);
+        /// assert_eq!(refusal.to_string(), "refused 3: a text has a byte other than hex 20 to 7E and 0A");
+        /// ```
+        #[derive(Debug, Clone, Copy, PartialEq, Eq, Hash)]
+        #[non_exhaustive]
+        pub enum Refusal {
+            $(
+                #[doc = concat!($number, ": ", $sentence, ".")]
+                $name,
+            )*
+            /// A word that `include/leg_sheet.h` gives no meaning: the archive that was linked is not of this library's source.
+            #[non_exhaustive]
+            Unknown(u64),
+        }
+
+        impl Refusal {
+            /// The refusals of the table, by number.
+            pub const TABLE: &'static [Refusal] = &[$(Refusal::$name),*];
+
+            /// The number in the table.
+            #[must_use]
+            pub const fn number(self) -> u8 {
+                match self {
+                    $(Refusal::$name => $number,)*
+                    Refusal::Unknown(word) => (word >> 32) as u8,
+                }
+            }
+
+            /// When this is refused, in words.
+            #[must_use]
+            pub const fn sentence(self) -> &'static str {
+                match self {
+                    $(Refusal::$name => $sentence,)*
+                    Refusal::Unknown(_) => "an answer that this library does not know",
+                }
+            }
+        }
+    };
+}
+
+refusals! {
+    1 BadSettings "the settings are not of their form or ranges",
+    2 BadTree "the tree is too long, is cut short, has an unknown tag or a length past the end, or does not end at the end",
+    3 BadText "a text has a byte other than hex 20 to 7E and 0A",
+    4 TooManyNodes "the tree has more than 512 nodes",
+    5 TooDeep "the tree is more than 16 deep",
+    6 TooLarge "the sheet has over 400 columns or over 160 lines",
+    7 ZeroWidth "a leaf of the sheet has width 0",
+    8 TooShort "a lent list or output is shorter than needed",
+    9 NoLeaf "the number names no leaf",
+    10 TooManyPieces "the split list has over 512 pieces",
+    11 NoChild "there are no children to share among, or the index is past them",
+}
+
+impl Refusal {
+    /// The refusal in a C function's word: its number above 32 bits, and no count below.
+    pub(crate) fn of_word(word: u64) -> Refusal {
+        let mut table = Refusal::TABLE.iter().copied();
+        table
+            .find(|refusal| u64::from(refusal.number()) << 32 == word)
+            .unwrap_or(Refusal::Unknown(word))
+    }
+}
+
+impl fmt::Display for Refusal {
+    fn fmt(&self, f: &mut fmt::Formatter<'_>) -> fmt::Result {
+        write!(f, "refused {}: {}", self.number(), self.sentence())
+    }
+}
+
+impl Error for Refusal {}
+
+#[cfg(test)]
+mod tests {
+    use super::*;
+
+    #[test]
+    fn the_table_is_numbered_from_1() {
+        for (refusal, number) in Refusal::TABLE.iter().zip(1..) {
+            assert_eq!(refusal.number(), number);
+            assert_eq!(Refusal::of_word(u64::from(number) << 32), *refusal);
+        }
+    }
+
+    #[test]
+    fn an_unknown_word_is_kept() {
+        for word in [0xFF_0000_0000, 0x1_0000_0001, 0x101_0000_0000] {
+            assert_eq!(Refusal::of_word(word), Refusal::Unknown(word));
+        }
+        assert_eq!(Refusal::of_word(0xFF_0000_0000).number(), 255);
+    }
+}

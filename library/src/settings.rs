@@ -1,0 +1,281 @@
+//! The settings of a sheet.
+
+use crate::calls;
+use crate::refusal::Refusal;
+
+/// Where a text stands in a larger space.
+#[derive(Debug, Clone, Copy, Default, PartialEq, Eq, Hash)]
+pub enum Alignment {
+    /// Left, or at the top.
+    #[default]
+    Start,
+    /// In the middle; of an odd slack the smaller half comes before.
+    Center,
+    /// Right, or at the bottom.
+    End,
+}
+
+/// Which children get the spare space.
+#[derive(Debug, Clone, Copy, PartialEq, Eq, Hash)]
+pub enum Priority {
+    /// The first child gets all of it.
+    First,
+    /// The last child gets all of it.
+    Last,
+    /// Each child gets an equal part, and the first ones one more where that leaves a rest.
+    List,
+}
+
+/// A number for each side.
+#[derive(Debug, Clone, Copy, PartialEq, Eq, Hash)]
+#[allow(missing_docs)]
+pub struct Sides {
+    pub left: u8,
+    pub right: u8,
+    pub top: u8,
+    pub bottom: u8,
+}
+
+/// What a sheet looks like: marks, padding, alignments, priorities. No value is out of its range.
+///
+/// ```
+/// use leg_sheet::{print_sheet, Alignment, Settings, Sides, Tree};
+///
+/// let settings = Settings::default()
+///     .with_marks(*b"=_()hv123456789")?
+///     .with_padding(Sides { left: 3, right: 3, top: 0, bottom: 1 })?
+///     .with_horizontal(Alignment::Center);
+/// assert_eq!(
+///     print_sheet(&settings, &Tree::from("leg 1\nup"))?,
+///     "1===========2\n\
+///      (   leg 1   )\n\
+///      (   up      )\n\
+///      (           )\n\
+///      4___________5"
+/// );
+/// assert!(settings.with_padding(Sides { left: 17, ..settings.padding() }).is_err());
+/// # Ok::<(), leg_sheet::Refusal>(())
+/// ```
+#[derive(Debug, Clone, Copy, PartialEq, Eq, Hash)]
+pub struct Settings {
+    marks: [u8; 15],
+    padding: Sides,
+    fills: Sides,
+    horizontal: Alignment,
+    vertical: Alignment,
+    line_mode: bool,
+    width_priority: Priority,
+    height_priority: Priority,
+}
+
+impl Alignment {
+    /// As the reader has it: 0 is Start, 1 Center.
+    fn of(number: u8) -> Alignment {
+        match number {
+            0 => Alignment::Start,
+            1 => Alignment::Center,
+            _ => Alignment::End,
+        }
+    }
+}
+
+impl Priority {
+    /// As the reader has it: 0 is First, 1 Last.
+    fn of(number: u8) -> Priority {
+        match number {
+            0 => Priority::First,
+            1 => Priority::Last,
+            _ => Priority::List,
+        }
+    }
+}
+
+impl Sides {
+    /// The same on every side.
+    #[must_use]
+    pub const fn all(number: u8) -> Sides {
+        Sides::of([number; 4])
+    }
+
+    /// In the record's order.
+    const fn of([left, right, top, bottom]: [u8; 4]) -> Sides {
+        Sides {
+            left,
+            right,
+            top,
+            bottom,
+        }
+    }
+
+    const fn numbers(self) -> [u8; 4] {
+        [self.left, self.right, self.top, self.bottom]
+    }
+}
+
+impl Default for Settings {
+    /// Document 01's defaults.
+    fn default() -> Settings {
+        Settings {
+            marks: *b"--||-|+++++++++",
+            padding: Sides::of([1, 1, 0, 0]),
+            fills: Sides::all(b' '),
+            horizontal: Alignment::Start,
+            vertical: Alignment::Start,
+            line_mode: false,
+            width_priority: Priority::List,
+            height_priority: Priority::List,
+        }
+    }
+}
+
+impl Settings {
+    /// The settings of a record.
+    ///
+    /// # Errors
+    /// 1, where the proved reader refuses it.
+    pub fn from_bytes(bytes: &[u8]) -> Result<Settings, Refusal> {
+        let mut out = [0; calls::SETTINGS];
+        calls::read_settings(bytes, &mut out)?;
+        // The reader writes what the record's bytes are.
+        let out = out.map(|number| number as u8);
+        let sides = |at: usize| Sides::of([out[at], out[at + 1], out[at + 2], out[at + 3]]);
+        Ok(Settings {
+            marks: std::array::from_fn(|at| out[at]),
+            padding: sides(15),
+            fills: sides(19),
+            horizontal: Alignment::of(out[23]),
+            vertical: Alignment::of(out[24]),
+            line_mode: out[25] == 1,
+            width_priority: Priority::of(out[26]),
+            height_priority: Priority::of(out[27]),
+        })
+    }
+
+    /// The settings record, which every call on bytes accepts.
+    #[must_use]
+    pub fn to_bytes(&self) -> Vec<u8> {
+        let choices = [
+            self.horizontal as u8,
+            self.vertical as u8,
+            self.line_mode.into(),
+            self.width_priority as u8,
+            self.height_priority as u8,
+        ];
+        let sides = [self.padding.numbers(), self.fills.numbers()].concat();
+        [&[0x10, 0, 28], &self.marks[..], &sides, &choices].concat()
+    }
+
+    /// These, if the proved reader accepts them: it alone knows the ranges.
+    fn checked(self) -> Result<Settings, Refusal> {
+        Settings::from_bytes(&self.to_bytes())
+    }
+
+    /// Top, bottom, left, right, horizontal, vertical, top left, top right, top intersection, bottom left, bottom right, bottom intersection, left
+    /// intersection, right intersection, intersection. Horizontal and vertical are never printed.
+    #[must_use]
+    pub const fn marks(&self) -> [u8; 15] {
+        self.marks
+    }
+
+    /// The columns and lines around a text.
+    #[must_use]
+    pub const fn padding(&self) -> Sides {
+        self.padding
+    }
+
+    /// The characters that the padding is filled with.
+    #[must_use]
+    pub const fn fills(&self) -> Sides {
+        self.fills
+    }
+
+    /// Where a text stands in a wider leaf.
+    #[must_use]
+    pub const fn horizontal(&self) -> Alignment {
+        self.horizontal
+    }
+
+    /// Where a text stands in a higher leaf.
+    #[must_use]
+    pub const fn vertical(&self) -> Alignment {
+        self.vertical
+    }
+
+    /// Whether each line of a text is aligned by its own width; else all are indented as the widest.
+    #[must_use]
+    pub const fn line_mode(&self) -> bool {
+        self.line_mode
+    }
+
+    /// How a Row shares spare width.
+    #[must_use]
+    pub const fn width_priority(&self) -> Priority {
+        self.width_priority
+    }
+
+    /// How a Column shares spare height.
+    #[must_use]
+    pub const fn height_priority(&self) -> Priority {
+        self.height_priority
+    }
+
+    /// Other [marks](Settings::marks), each hex 20 to 7E.
+    ///
+    /// # Errors
+    /// 1, where one is out of its range.
+    pub fn with_marks(self, marks: [u8; 15]) -> Result<Settings, Refusal> {
+        Settings { marks, ..self }.checked()
+    }
+
+    /// Another [padding](Settings::padding), each 0 to 16.
+    ///
+    /// # Errors
+    /// 1, where one is out of its range.
+    pub fn with_padding(self, padding: Sides) -> Result<Settings, Refusal> {
+        Settings { padding, ..self }.checked()
+    }
+
+    /// Other [fills](Settings::fills), each hex 20 to 7E.
+    ///
+    /// # Errors
+    /// 1, where one is out of its range.
+    pub fn with_fills(self, fills: Sides) -> Result<Settings, Refusal> {
+        Settings { fills, ..self }.checked()
+    }
+
+    /// Another [horizontal alignment](Settings::horizontal).
+    #[must_use]
+    pub const fn with_horizontal(self, horizontal: Alignment) -> Settings {
+        Settings { horizontal, ..self }
+    }
+
+    /// Another [vertical alignment](Settings::vertical).
+    #[must_use]
+    pub const fn with_vertical(self, vertical: Alignment) -> Settings {
+        Settings { vertical, ..self }
+    }
+
+    /// Another [line mode](Settings::line_mode).
+    #[must_use]
+    pub const fn with_line_mode(self, line_mode: bool) -> Settings {
+        Settings { line_mode, ..self }
+    }
+
+    /// Another [width priority](Settings::width_priority).
+    #[must_use]
+    pub const fn with_width_priority(self, width_priority: Priority) -> Settings {
+        Settings {
+            width_priority,
+            ..self
+        }
+    }
+
+    /// Another [height priority](Settings::height_priority).
+    #[must_use]
+    pub const fn with_height_priority(self, height_priority: Priority) -> Settings {
+        Settings {
+            height_priority,
+            ..self
+        }
+    }
+}

@@ -1,0 +1,132 @@
+//! The tree of a sheet.
+
+use crate::calls;
+use crate::refusal::Refusal;
+
+/// The longest tree in bytes.
+pub(crate) const BYTES: usize = 32_768;
+
+/// A sheet's nodes as values. A text is a Cell.
+///
+/// ```
+/// use leg_sheet::Tree;
+///
+/// let tree = Tree::column(["Home pad".into(), Tree::row(["height", "0 m"])]);
+/// let bytes = tree.to_bytes()?;
+/// assert_eq!(bytes, b"\x03\x00\x1D\x01\x00\x08Home pad\x02\x00\x0F\x01\x00\x06height\x01\x00\x030 m");
+/// assert_eq!(Tree::from_bytes(&bytes)?, tree);
+/// # Ok::<(), leg_sheet::Refusal>(())
+/// ```
+#[derive(Debug, Clone, PartialEq, Eq, Hash)]
+pub enum Tree {
+    /// A text; a line feed parts its lines.
+    Cell(String),
+    /// Children side by side.
+    Row(Vec<Tree>),
+    /// Children one below the other.
+    Column(Vec<Tree>),
+}
+
+impl From<&str> for Tree {
+    fn from(text: &str) -> Tree {
+        Tree::Cell(text.into())
+    }
+}
+
+impl From<String> for Tree {
+    fn from(text: String) -> Tree {
+        Tree::Cell(text)
+    }
+}
+
+impl Tree {
+    /// Children side by side.
+    #[must_use]
+    pub fn row<T: Into<Tree>>(children: impl IntoIterator<Item = T>) -> Tree {
+        Tree::Row(children.into_iter().map(Into::into).collect())
+    }
+
+    /// Children one below the other.
+    #[must_use]
+    pub fn column<T: Into<Tree>>(children: impl IntoIterator<Item = T>) -> Tree {
+        Tree::Column(children.into_iter().map(Into::into).collect())
+    }
+
+    /// The tree's bytes, which every call on bytes accepts.
+    ///
+    /// # Errors
+    /// 2 to 5, as the proved reader says.
+    pub fn to_bytes(&self) -> Result<Vec<u8>, Refusal> {
+        let mut bytes = Vec::new();
+        self.put(&mut bytes)?;
+        calls::read_tree(&bytes)?;
+        Ok(bytes)
+    }
+
+    /// The tree of bytes that the proved reader accepts.
+    ///
+    /// # Errors
+    /// 2 to 5.
+    pub fn from_bytes(bytes: &[u8]) -> Result<Tree, Refusal> {
+        calls::read_tree(bytes)?;
+        element(&mut &bytes[..])
+    }
+
+    fn tag(&self) -> u8 {
+        match self {
+            Tree::Cell(_) => 1,
+            Tree::Row(_) => 2,
+            Tree::Column(_) => 3,
+        }
+    }
+
+    /// Puts the element behind the bytes. Where they are too many for a tree it stops: the reader's answer is 2, whatever would follow.
+    fn put(&self, bytes: &mut Vec<u8>) -> Result<(), Refusal> {
+        let start = bytes.len() + 3;
+        bytes.extend([self.tag(), 0, 0]);
+        match self {
+            Tree::Cell(text) => bytes.extend(text.bytes()),
+            Tree::Row(children) | Tree::Column(children) => {
+                for child in children {
+                    if bytes.len() > BYTES {
+                        return Err(Refusal::BadTree);
+                    }
+                    child.put(bytes)?;
+                }
+            }
+        }
+        let length = u16::try_from(bytes.len() - start).map_err(|_| Refusal::BadTree)?;
+        bytes[start - 2..start].copy_from_slice(&length.to_be_bytes());
+        Ok(())
+    }
+}
+
+/// Takes so many bytes off the front.
+fn take<'a>(bytes: &mut &'a [u8], count: usize) -> Result<&'a [u8], Refusal> {
+    let (front, rest) = bytes.split_at_checked(count).ok_or(Refusal::BadTree)?;
+    *bytes = rest;
+    Ok(front)
+}
+
+/// Takes an element off the front.
+fn element(bytes: &mut &[u8]) -> Result<Tree, Refusal> {
+    let header = take(bytes, 3)?;
+    let length = u16::from_be_bytes([header[1], header[2]]);
+    let contents = take(bytes, length.into())?;
+    match header[0] {
+        1 => String::from_utf8(contents.to_vec())
+            .map(Tree::Cell)
+            .map_err(|_| Refusal::BadText),
+        2 => sequence(contents).map(Tree::Row),
+        3 => sequence(contents).map(Tree::Column),
+        _ => Err(Refusal::BadTree),
+    }
+}
+
+fn sequence(mut bytes: &[u8]) -> Result<Vec<Tree>, Refusal> {
+    let mut children = Vec::new();
+    while !bytes.is_empty() {
+        children.push(element(&mut bytes)?);
+    }
+    Ok(children)
+}

@@ -1,0 +1,157 @@
+//! The calls on values.
+
+use crate::calls::{self, CUT, LENT_CUT, LIST};
+use crate::input::Input;
+use crate::records::{CutAnswer, CutParts, LeafRecord, List, ShortParts, SizeRecord};
+use crate::refusal::Refusal;
+use crate::settings::{Priority, Settings};
+use crate::tree::Tree;
+
+/// The call on the bytes of both.
+fn on_bytes<T>(
+    settings: &Settings,
+    tree: &Tree,
+    call: impl Fn(Input) -> Result<T, Refusal>,
+) -> Result<T, Refusal> {
+    call(Input {
+        settings: &settings.to_bytes(),
+        tree: &tree.to_bytes()?,
+    })
+}
+
+/// The sheet: its lines with a line feed between them, none at the end.
+///
+/// ```
+/// use leg_sheet::{print_sheet, Settings, Tree};
+///
+/// let tree = Tree::row(["1", "Home pad"]);
+/// assert_eq!(
+///     print_sheet(&Settings::default(), &tree)?,
+///     "+---+----------+\n\
+///      | 1 | Home pad |\n\
+///      +---+----------+"
+/// );
+/// # Ok::<(), leg_sheet::Refusal>(())
+/// ```
+///
+/// # Errors
+/// 2 to 7.
+pub fn print_sheet(settings: &Settings, tree: &Tree) -> Result<String, Refusal> {
+    on_bytes(settings, tree, |input| input.print_sheet())
+}
+
+/// The block of a leaf, by the number of its node: a parent is numbered before its children, these from left to right, from 0 on.
+///
+/// # Errors
+/// 2 to 6, 9.
+pub fn print_leaf(settings: &Settings, tree: &Tree, node: usize) -> Result<String, Refusal> {
+    on_bytes(settings, tree, |input| input.print_leaf(node))
+}
+
+/// The size of each node, by its number.
+///
+/// ```
+/// use leg_sheet::{sizes, Settings, Tree};
+///
+/// let sizes = sizes(&Settings::default(), &Tree::row(["1", "Home pad"]))?;
+/// let widths: Vec<u16> = sizes.iter().map(|size| size.allotted_width).collect();
+/// assert_eq!(widths, [14, 3, 10]);
+/// # Ok::<(), leg_sheet::Refusal>(())
+/// ```
+///
+/// # Errors
+/// 2 to 5.
+pub fn sizes(settings: &Settings, tree: &Tree) -> Result<Vec<SizeRecord>, Refusal> {
+    on_bytes(settings, tree, |input| input.sizes())
+}
+
+/// The record of a leaf, by the number of its node.
+///
+/// ```
+/// use leg_sheet::{leaf_record, Settings, Tree};
+///
+/// let tree = Tree::column([Tree::row(["a", "b"]), "abcdef".into()]);
+/// let leaf = leaf_record(&Settings::default(), &tree, 4)?;
+/// assert_eq!((leaf.width, leaf.height), (8, 1));
+/// assert_eq!(leaf.horizontal.len(), 2);
+/// assert!(leaf.flags.last_row && !leaf.flags.first_row);
+/// # Ok::<(), leg_sheet::Refusal>(())
+/// ```
+///
+/// # Errors
+/// 2 to 6, 9.
+pub fn leaf_record(settings: &Settings, tree: &Tree, node: usize) -> Result<LeafRecord, Refusal> {
+    on_bytes(settings, tree, |input| input.leaf_record(node))
+}
+
+/// Cuts a list of pieces at a width, a line between neighbours.
+///
+/// ```
+/// let cut = leg_sheet::short_splits3(&[4, 2], 5)?;
+/// assert_eq!((cut.split, &cut.taken[..], &cut.left[..]), (false, &[4][..], &[1][..]));
+/// # Ok::<(), leg_sheet::Refusal>(())
+/// ```
+///
+/// # Errors
+/// 10.
+pub fn short_splits3(pieces: &[u16], width: u16) -> Result<CutParts, Refusal> {
+    let mut out = [0; CUT];
+    calls::short_splits3(pieces, pieces.len(), width, &mut out)?;
+    Ok(CutParts::from_numbers(&out))
+}
+
+/// The same cut, with the list shortened to what is left of it.
+///
+/// ```
+/// let mut pieces = vec![4, 2];
+/// let cut = leg_sheet::short_splits3_in_place(&mut pieces, 5)?;
+/// assert_eq!((&cut.taken[..], pieces), (&[4][..], vec![1]));
+/// # Ok::<(), leg_sheet::Refusal>(())
+/// ```
+///
+/// # Errors
+/// 10, and the list stays.
+pub fn short_splits3_in_place(pieces: &mut Vec<u16>, width: u16) -> Result<CutAnswer, Refusal> {
+    let mut out = [0; LENT_CUT];
+    let count = pieces.len();
+    calls::short_splits3_lent(pieces, count, width, &mut out)?;
+    let answer = CutAnswer::from_numbers(&out);
+    pieces.truncate(answer.left);
+    Ok(answer)
+}
+
+/// Cuts a list of pieces at a width, and lists the position after each.
+///
+/// ```
+/// let cut = leg_sheet::short_splits(&[3, 3, 5], 8)?;
+/// assert_eq!((&cut.positions[..], &cut.left[..]), (&[3, 6][..], &[3][..]));
+/// # Ok::<(), leg_sheet::Refusal>(())
+/// ```
+///
+/// # Errors
+/// 10.
+pub fn short_splits(pieces: &[u16], width: u16) -> Result<ShortParts, Refusal> {
+    let (mut positions, mut left) = ([0; LIST], [0; LIST]);
+    calls::short_splits(pieces, pieces.len(), width, &mut positions, &mut left)?;
+    Ok(ShortParts {
+        positions: List::from_numbers(&positions),
+        left: List::from_numbers(&left),
+    })
+}
+
+/// The part of the spare space that child `index` of `n` gets.
+///
+/// ```
+/// use leg_sheet::{share, Priority};
+///
+/// assert_eq!(share(7, 3, Priority::List, 0)?, 3);
+/// # Ok::<(), leg_sheet::Refusal>(())
+/// ```
+///
+/// # Errors
+/// 11.
+pub fn share(spare: usize, n: usize, priority: Priority, index: usize) -> Result<usize, Refusal> {
+    let mut part = 0;
+    calls::share(spare, n, priority as u8, index, &mut part)?;
+    Ok(part as usize)
+}

@@ -1,0 +1,198 @@
+//! Settings and trees as values, and what the calls on them answer.
+
+use leg_sheet::{
+    leaf_record, print_leaf, print_sheet, share, short_splits, short_splits3,
+    short_splits3_in_place, sizes, Alignment, Input, Priority, Refusal, Settings, Sides,
+    SizeRecord, Tree,
+};
+
+/// The record of document 01's defaults.
+const DEFAULTS: &[u8; 31] = b"\x10\x00\x1C--||-|+++++++++\x01\x01\x00\x00    \x00\x00\x00\x02\x02";
+
+fn figure_2() -> Tree {
+    Tree::column(["abcdef".into(), Tree::row(["a", "b"])])
+}
+
+/// Figures F2 and F3's marks, and a choice other than the default everywhere.
+fn other_settings() -> Settings {
+    Settings::default()
+        .with_marks(*b"-_()hv123456789")
+        .and_then(|settings| settings.with_padding(Sides::all(16)))
+        .and_then(|settings| settings.with_fills(Sides::all(b'~')))
+        .expect("within the ranges")
+        .with_horizontal(Alignment::Center)
+        .with_vertical(Alignment::End)
+        .with_line_mode(true)
+        .with_width_priority(Priority::First)
+        .with_height_priority(Priority::Last)
+}
+
+#[test]
+fn settings_and_their_record_are_one() {
+    assert_eq!(Settings::default().to_bytes(), DEFAULTS);
+    assert_eq!(
+        other_settings().to_bytes(),
+        b"\x10\x00\x1C-_()hv123456789\x10\x10\x10\x10~~~~\x01\x02\x01\x00\x01"
+    );
+    for settings in [Settings::default(), other_settings()] {
+        assert_eq!(Settings::from_bytes(&settings.to_bytes()), Ok(settings));
+    }
+}
+
+#[test]
+fn getters_answer_what_was_set() {
+    let settings = other_settings();
+    assert_eq!(settings.marks(), *b"-_()hv123456789");
+    assert_eq!(settings.padding(), Sides::all(16));
+    assert_eq!(settings.fills(), Sides::all(b'~'));
+    assert_eq!(settings.horizontal(), Alignment::Center);
+    assert_eq!(settings.vertical(), Alignment::End);
+    assert!(settings.line_mode());
+    assert_eq!(settings.width_priority(), Priority::First);
+    assert_eq!(settings.height_priority(), Priority::Last);
+}
+
+#[test]
+fn setters_stay_in_the_ranges() {
+    let settings = Settings::default();
+    for mark in [0x1F, 0x7F, 0] {
+        let mut marks = settings.marks();
+        marks[14] = mark;
+        assert_eq!(settings.with_marks(marks), Err(Refusal::BadSettings));
+        let fills = Sides {
+            bottom: mark,
+            ..settings.fills()
+        };
+        assert_eq!(settings.with_fills(fills), Err(Refusal::BadSettings));
+    }
+    let padding = Sides {
+        top: 17,
+        ..settings.padding()
+    };
+    assert_eq!(settings.with_padding(padding), Err(Refusal::BadSettings));
+}
+
+#[test]
+fn records_of_another_form_are_refused() {
+    for length in 0..31 {
+        let read = Settings::from_bytes(&DEFAULTS[..length]);
+        assert_eq!(read, Err(Refusal::BadSettings));
+    }
+}
+
+#[test]
+fn trees_and_their_bytes_are_one() {
+    let trees = [
+        Tree::from(""),
+        Tree::from("two\nlines".to_string()),
+        Tree::Row(vec![]),
+        Tree::column([Tree::Column(vec![]), figure_2(), "x".into()]),
+        figure_2(),
+    ];
+    for tree in trees {
+        let bytes = tree.to_bytes().expect("a tree");
+        assert_eq!(Tree::from_bytes(&bytes), Ok(tree));
+    }
+}
+
+fn nested(depth: usize) -> Tree {
+    (1..depth).fold(Tree::from("a"), |inner, _| Tree::row([inner]))
+}
+
+#[test]
+fn trees_are_refused_as_the_reader_says() {
+    let refused = |tree: Tree| tree.to_bytes().map(|_| ()).map_err(Refusal::number);
+    let cell = |length: usize| Tree::from("x".repeat(length));
+    assert_eq!(refused(cell(32_765)), Ok(()));
+    assert_eq!(refused(cell(32_766)), Err(2));
+    assert_eq!(refused(cell(70_000)), Err(2));
+    assert_eq!(refused(Tree::row(vec![cell(30_000); 3])), Err(2));
+    assert_eq!(refused("\u{e9}".into()), Err(3));
+    assert_eq!(refused(Tree::row(vec!["a"; 511])), Ok(()));
+    assert_eq!(refused(Tree::row(vec!["a"; 512])), Err(4));
+    assert_eq!(refused(nested(16)), Ok(()));
+    assert_eq!(refused(nested(17)), Err(5));
+    assert_eq!(refused(nested(2_000)), Err(5));
+}
+
+#[test]
+fn bytes_that_are_no_tree_are_refused() {
+    assert_eq!(Tree::from_bytes(b""), Err(Refusal::BadTree));
+    assert_eq!(Tree::from_bytes(b"\x04\x00\x00"), Err(Refusal::BadTree));
+    assert_eq!(Tree::from_bytes(b"\x01\x00\x01\xFF"), Err(Refusal::BadText));
+}
+
+#[test]
+fn figure_2_by_every_call() {
+    let settings = Settings::default().with_width_priority(Priority::List);
+    let tree = figure_2();
+    let sheet = "+--------+\n| abcdef |\n+----+---+\n| a  | b |\n+----+---+";
+    assert_eq!(print_sheet(&settings, &tree), Ok(sheet.into()));
+    assert_eq!(
+        print_leaf(&settings, &tree, 4),
+        Ok("+---+\n| b |\n+---+".into())
+    );
+    let sizes = sizes(&settings, &tree).expect("sizes");
+    assert_eq!(sizes.len(), 5);
+    assert_eq!(sizes[3], SizeRecord::from_numbers([3, 1, 4, 1]));
+    let leaf = leaf_record(&settings, &tree, 3).expect("a leaf");
+    assert_eq!((leaf.node, leaf.width, leaf.height), (3, 4, 1));
+    let set = leaf.flags.named().into_iter().filter(|flag| flag.1);
+    let set: Vec<&str> = set.map(|flag| flag.0).collect();
+    assert_eq!(set, ["last_row", "first_col", "no_right", "top_left"]);
+}
+
+/// Figure F3: the last leaf is handed the list 3 3.
+#[test]
+fn a_leaf_has_its_lists() {
+    let tree = Tree::column([Tree::row(["a", "b"]), "c".into()]);
+    let leaf = leaf_record(&Settings::default(), &tree, 4).expect("a leaf");
+    assert_eq!(leaf.horizontal[..], [3, 3]);
+    assert_eq!(leaf.horizontal.entries()[2..], [0; 510]);
+}
+
+#[test]
+fn every_call_is_refused() {
+    let settings = Settings::default();
+    let (bad, group) = (Tree::from("\t"), Tree::row(["a"]));
+    assert_eq!(print_sheet(&settings, &bad), Err(Refusal::BadText));
+    assert_eq!(sizes(&settings, &bad), Err(Refusal::BadText));
+    assert_eq!(print_leaf(&settings, &group, 0), Err(Refusal::NoLeaf));
+    assert_eq!(leaf_record(&settings, &group, 2), Err(Refusal::NoLeaf));
+    assert_eq!(share(7, 0, Priority::List, 0), Err(Refusal::NoChild));
+    assert_eq!(short_splits3(&[1; 513], 0), Err(Refusal::TooManyPieces));
+    assert_eq!(short_splits(&[1; 513], 0), Err(Refusal::TooManyPieces));
+    let mut pieces = vec![1; 513];
+    let cut = short_splits3_in_place(&mut pieces, 0);
+    assert_eq!((cut, pieces.len()), (Err(Refusal::TooManyPieces), 513));
+}
+
+/// Figures F6 to F9.
+#[test]
+fn cuts() {
+    let cut = |pieces: &[u16], width: u16| {
+        let cut = short_splits3(pieces, width).expect("a cut");
+        let mut left = pieces.to_vec();
+        let answer = short_splits3_in_place(&mut left, width).expect("a cut");
+        assert_eq!((answer.split, answer.taken), (cut.split, cut.taken));
+        assert_eq!(left, cut.left[..]);
+        (cut.split, cut.taken.to_vec(), left)
+    };
+    assert_eq!(cut(&[4, 2], 5), (false, vec![4], vec![1]));
+    assert_eq!(cut(&[3, 3], 3), (true, vec![], vec![3]));
+    assert_eq!(cut(&[5], 0), (false, vec![], vec![4]));
+    assert_eq!(cut(&[0, 5], 0), (true, vec![], vec![5]));
+    assert_eq!(cut(&[], 3), (false, vec![], vec![]));
+    assert_eq!(cut(&[0; 512], 512), (false, vec![0; 512], vec![]));
+}
+
+#[test]
+fn an_input_is_split_after_31_bytes() {
+    let bytes = [&DEFAULTS[..], b"\x01\x00\x02ab"].concat();
+    let input = Input::split(&bytes);
+    assert_eq!(input.settings, DEFAULTS);
+    assert_eq!(input.print_sheet(), Ok("+----+\n| ab |\n+----+".into()));
+    let short = Input::split(&bytes[..30]);
+    assert_eq!((short.settings.len(), short.tree.len()), (30, 0));
+    assert_eq!(short.print_sheet(), Err(Refusal::BadSettings));
+}
