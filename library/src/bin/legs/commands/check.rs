@@ -1,0 +1,40 @@
+use std::ffi::OsString;
+
+use leg_sheet::{calls, Refusal, Settings};
+
+use super::{Answer, Command};
+use crate::fault::Fault;
+use crate::file::File;
+
+pub const COMMAND: Command = Command {
+    name: "check",
+    operands: &["FILE"],
+    about: "what of the settings, the tree and the sheet is refused, and why",
+    run,
+};
+
+fn run(words: &[OsString]) -> Result<Answer, Fault> {
+    let file = File::read(&words[0])?;
+    let input = file.input();
+    let settings = Settings::from_bytes(input.settings).map(|_| String::new());
+    let tree = calls::read_tree(input.tree).map(|nodes| format!(", nodes: {nodes}"));
+    let sheet = input.print_sheet().map(|sheet| dimensions(&sheet));
+    let parts = [("settings", settings), ("tree", tree), ("sheet", sheet)];
+    let text = parts.iter().map(line).collect();
+    if parts.iter().any(|(_, verdict)| verdict.is_err()) {
+        return Ok(Answer::refused(text));
+    }
+    Ok(Answer::accepted(text))
+}
+
+fn dimensions(sheet: &str) -> String {
+    let width = sheet.lines().next().map_or(0, str::len);
+    format!(", {width} columns by {} lines", sheet.lines().count())
+}
+
+fn line((part, verdict): &(&str, Result<String, Refusal>)) -> String {
+    match verdict {
+        Ok(more) => format!("{part}: accepted{more}\n"),
+        Err(refusal) => format!("{part}: {refusal}\n"),
+    }
+}

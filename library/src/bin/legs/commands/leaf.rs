@@ -1,0 +1,39 @@
+use std::ffi::OsString;
+
+use leg_sheet::{Flags, LeafRecord};
+
+use super::{listed, Answer, Command};
+use crate::fault::Fault;
+use crate::file::{number, File};
+
+pub const COMMAND: Command = Command {
+    name: "leaf",
+    operands: &["FILE", "NODE"],
+    about: "a leaf's size, flags, split lists and block",
+    run,
+};
+
+fn run(words: &[OsString]) -> Result<Answer, Fault> {
+    let node = number(&words[1])?;
+    let file = File::read(&words[0])?;
+    let record = file.call(|input| input.leaf_record(node))?;
+    let block = file.call(|input| input.print_leaf(node))?;
+    Ok(Answer::accepted(format!("{}\n{block}\n", lines(&record))))
+}
+
+fn lines(leaf: &LeafRecord) -> String {
+    format!(
+        "node {}: {} wide, {} high\nflags: {}\nhorizontal pieces: {}\nvertical pieces: {}\n",
+        leaf.node,
+        leaf.width,
+        leaf.height,
+        flags(leaf.flags),
+        listed(&leaf.horizontal),
+        listed(&leaf.vertical),
+    )
+}
+
+fn flags(flags: Flags) -> String {
+    let set = flags.named().into_iter().filter(|(_, is_set)| *is_set);
+    listed(&set.map(|(name, _)| name).collect::<Vec<_>>())
+}

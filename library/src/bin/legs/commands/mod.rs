@@ -1,0 +1,74 @@
+//! The commands. One more is a file here with its `COMMAND`, and its name in the table.
+
+mod check;
+mod leaf;
+mod print;
+mod sizes;
+
+use std::ffi::OsString;
+use std::fmt::Display;
+
+use crate::fault::{Fault, REFUSED};
+
+/// In the order of `--help`.
+pub const COMMANDS: &[Command] = &[
+    print::COMMAND,
+    sizes::COMMAND,
+    leaf::COMMAND,
+    check::COMMAND,
+];
+
+pub struct Command {
+    pub name: &'static str,
+    pub operands: &'static [&'static str],
+    /// What it does, for `--help`.
+    about: &'static str,
+    /// Is handed as many words as it has operands.
+    pub run: fn(&[OsString]) -> Result<Answer, Fault>,
+}
+
+impl Command {
+    pub fn usage(&self) -> String {
+        format!("legs {} {}", self.name, self.operands.join(" "))
+    }
+}
+
+/// What goes to standard output, and the exit status.
+pub struct Answer {
+    pub text: String,
+    pub status: u8,
+}
+
+impl Answer {
+    pub fn accepted(text: String) -> Answer {
+        Answer { text, status: 0 }
+    }
+
+    fn refused(text: String) -> Answer {
+        Answer {
+            text,
+            status: REFUSED,
+        }
+    }
+}
+
+/// What `--help` prints.
+pub fn help() -> String {
+    let line = |command: &Command| format!("  {:<22}{}\n", command.usage(), command.about);
+    let commands: String = COMMANDS.iter().map(line).collect();
+    format!(
+        "Prints leg sheets: bordered tables of nested rows and columns.\n\n{commands}\n\
+         FILE is a settings record, then a tree, as examples/encode.py writes them; - is standard input.\n\
+         Nodes are numbered from 0, a parent before its children, these from left to right.\n\n\
+         Exit status: 0, or 1 refused, 2 usage, 3 input or output failed.\n"
+    )
+}
+
+/// Items in a line.
+fn listed<T: Display>(items: &[T]) -> String {
+    if items.is_empty() {
+        return "none".into();
+    }
+    let words: Vec<String> = items.iter().map(T::to_string).collect();
+    words.join(" ")
+}

@@ -1,0 +1,37 @@
+use std::ffi::OsString;
+use std::fmt::Display;
+
+use leg_sheet::SizeRecord;
+
+use super::{Answer, Command};
+use crate::fault::Fault;
+use crate::file::File;
+
+pub const COMMAND: Command = Command {
+    name: "sizes",
+    operands: &["FILE"],
+    about: "what each node needs and what it is allotted, by its number",
+    run,
+};
+
+fn run(words: &[OsString]) -> Result<Answer, Fault> {
+    let sizes = File::read(&words[0])?.call(|input| input.sizes())?;
+    let mut text = line([
+        "node",
+        "natural width",
+        "natural height",
+        "allotted width",
+        "allotted height",
+    ]);
+    text.extend(sizes.iter().enumerate().map(record));
+    Ok(Answer::accepted(text))
+}
+
+fn record((node, size): (usize, &SizeRecord)) -> String {
+    let [natural_width, natural_height, width, height] = size.to_numbers().map(usize::from);
+    line([node, natural_width, natural_height, width, height])
+}
+
+fn line<T: Display>([node, natural_width, natural_height, width, height]: [T; 5]) -> String {
+    format!("{node:>4}{natural_width:>15}{natural_height:>16}{width:>16}{height:>17}\n")
+}

@@ -1,0 +1,49 @@
+//! The operands of a command: files and numbers.
+
+use std::ffi::OsStr;
+use std::fs;
+use std::io::{self, Read};
+
+use leg_sheet::{Input, Refusal};
+
+use crate::fault::Fault;
+
+/// An input that was read, with its name for messages.
+pub struct File {
+    name: String,
+    bytes: Vec<u8>,
+}
+
+impl File {
+    /// Reads a file, or standard input where it is called `-`; no more of it than can make a difference.
+    pub fn read(path: &OsStr) -> Result<File, Fault> {
+        if path == "-" {
+            return File::read_from("standard input".into(), || Ok(io::stdin().lock()));
+        }
+        File::read_from(path.to_string_lossy().into(), || fs::File::open(path))
+    }
+
+    fn read_from<R: Read>(name: String, open: impl Fn() -> io::Result<R>) -> Result<File, Fault> {
+        let mut bytes = Vec::new();
+        match open().and_then(|source| source.take(Input::BYTES as u64).read_to_end(&mut bytes)) {
+            Ok(_) => Ok(File { name, bytes }),
+            Err(error) => Err(Fault::Failed(name, error)),
+        }
+    }
+
+    /// Its settings and tree.
+    pub fn input(&self) -> Input<'_> {
+        Input::split(&self.bytes)
+    }
+
+    /// What a call answers on its settings and tree.
+    pub fn call<T>(&self, call: impl Fn(Input) -> Result<T, Refusal>) -> Result<T, Fault> {
+        call(self.input()).map_err(|refusal| Fault::Refused(self.name.clone(), refusal))
+    }
+}
+
+/// A number from 0 on.
+pub fn number(word: &OsStr) -> Result<usize, Fault> {
+    let digits = word.to_str().and_then(|word| word.parse().ok());
+    digits.ok_or_else(|| Fault::Usage(format!("{word:?} is no number from 0 on")))
+}

@@ -1,0 +1,174 @@
+//! The command `legs`, as it was built: its answers, messages and exit status.
+
+use std::io::Write;
+use std::process::{Command, Output, Stdio};
+
+/// Figure F2 of document 01.
+const FIGURE_2: &str = "1--------2\n( abcdef )\n7----3---8\n( a  ( b )\n4____6___5\n";
+
+/// Runs the command with these words, in the folder of the examples, and this on standard input.
+fn legs(words: &[&str], input: &[u8]) -> Output {
+    let mut child = Command::new(env!("CARGO_BIN_EXE_legs"))
+        .args(words)
+        .current_dir(concat!(env!("CARGO_MANIFEST_DIR"), "/../examples"))
+        .stdin(Stdio::piped())
+        .stdout(Stdio::piped())
+        .stderr(Stdio::piped())
+        .spawn()
+        .expect("legs starts");
+    // A command that does not read its standard input may have closed it.
+    let _ = child.stdin.take().expect("a pipe").write_all(input);
+    child.wait_with_output().expect("legs ends")
+}
+
+/// What it wrote to standard output and standard error, and its status.
+fn said(words: &[&str], input: &[u8]) -> (String, String, Option<i32>) {
+    let output = legs(words, input);
+    let text = |bytes| String::from_utf8(bytes).expect("text");
+    (
+        text(output.stdout),
+        text(output.stderr),
+        output.status.code(),
+    )
+}
+
+fn answers(words: &[&str], answer: &str) {
+    assert_eq!(said(words, b""), (answer.into(), String::new(), Some(0)));
+}
+
+fn fails(words: &[&str], message: &str, status: i32) {
+    let message = format!("legs: {message}\n");
+    assert_eq!(said(words, b""), (String::new(), message, Some(status)));
+}
+
+#[test]
+fn prints() {
+    answers(&["print", "figure2.legs"], FIGURE_2);
+}
+
+#[test]
+fn reads_standard_input() {
+    let path = concat!(env!("CARGO_MANIFEST_DIR"), "/../examples/figure2.legs");
+    let bytes = std::fs::read(path).expect("an example");
+    let printed = said(&["print", "-"], &bytes);
+    assert_eq!(printed, (FIGURE_2.into(), String::new(), Some(0)));
+}
+
+#[test]
+fn sizes() {
+    answers(
+        &["sizes", "figure2.legs"],
+        "node  natural width  natural height  allotted width  allotted height\n   \
+            0              8               3               8                3\n   \
+            1              8               1               8                1\n   \
+            2              7               1               8                1\n   \
+            3              3               1               4                1\n   \
+            4              3               1               3                1\n",
+    );
+}
+
+#[test]
+fn leaf() {
+    answers(
+        &["leaf", "figure2.legs", "4"],
+        "node 4: 3 wide, 1 high\n\
+         flags: last_row last_col lean_top\n\
+         horizontal pieces: none\n\
+         vertical pieces: 1\n\
+         \n\
+         3---8\n( b )\n6___5\n",
+    );
+}
+
+#[test]
+fn check() {
+    answers(
+        &["check", "flight.legs"],
+        "settings: accepted\ntree: accepted, nodes: 66\nsheet: accepted, 74 columns by 23 lines\n",
+    );
+    let refused = "settings: accepted\n\
+                   tree: accepted, nodes: 3\n\
+                   sheet: refused 7: a leaf of the sheet has width 0\n";
+    let said = said(&["check", "refused.legs"], b"");
+    assert_eq!(said, (refused.into(), String::new(), Some(1)));
+}
+
+#[test]
+fn check_looks_at_a_tree_behind_bad_settings() {
+    let (answer, _, status) = said(&["check", "-"], &[b'x'; 40]);
+    let words = |line: &str| line.split(": ").take(2).collect::<Vec<_>>().join(" ");
+    let verdicts: Vec<String> = answer.lines().map(words).collect();
+    assert_eq!(
+        verdicts,
+        ["settings refused 1", "tree refused 2", "sheet refused 1"]
+    );
+    assert_eq!(status, Some(1));
+}
+
+#[test]
+fn refusals_are_messages() {
+    let narrow = "refused.legs: refused 7: a leaf of the sheet has width 0";
+    fails(&["print", "refused.legs"], narrow, 1);
+    let group = "figure2.legs: refused 9: the number names no leaf";
+    fails(&["leaf", "figure2.legs", "0"], group, 1);
+    let empty = "standard input: refused 1: the settings are not of their form or ranges";
+    fails(&["print", "-"], empty, 1);
+    fails(&["sizes", "-"], empty, 1);
+}
+
+#[test]
+fn help() {
+    let (answer, message, status) = said(&["--help"], b"");
+    assert_eq!((message.as_str(), status), ("", Some(0)));
+    for command in ["print FILE", "sizes FILE", "leaf FILE NODE", "check FILE"] {
+        assert!(answer.contains(&format!("  legs {command} ")), "{command}");
+    }
+    assert_eq!(said(&["leaf", "--help"], b""), (answer, message, status));
+}
+
+#[test]
+fn usage() {
+    let fails = |words: &[&str], message: &str| {
+        fails(
+            words,
+            &format!("usage: {message}; 'legs --help' says more"),
+            2,
+        );
+    };
+    fails(&[], "no command");
+    fails(&["paint"], "no command \"paint\"");
+    fails(&["print"], "legs print FILE");
+    fails(&["print", "a", "b"], "legs print FILE");
+    fails(
+        &["leaf", "figure2.legs", "-1"],
+        "\"-1\" is no number from 0 on",
+    );
+}
+
+#[test]
+fn input_that_fails() {
+    let missing = "none.legs: No such file or directory (os error 2)";
+    fails(&["print", "none.legs"], missing, 3);
+    fails(&["check", "."], ".: Is a directory (os error 21)", 3);
+}
+
+#[test]
+fn output_that_fails() {
+    let full = std::fs::File::create("/dev/full").expect("a device that is full");
+    let output = Command::new(env!("CARGO_BIN_EXE_legs"))
+        .args(["--help"])
+        .stdout(full)
+        .output()
+        .expect("legs runs");
+    assert_eq!(output.status.code(), Some(3));
+    let message = String::from_utf8(output.stderr).expect("text");
+    assert!(message.starts_with("legs: standard output: "), "{message}");
+}
+
+/// No more is read of an input without end than can be accepted.
+#[test]
+fn an_endless_input_ends() {
+    let (_, message, status) = said(&["print", "/dev/zero"], b"");
+    assert!(message.contains("refused 1"), "{message}");
+    assert_eq!(status, Some(1));
+}
