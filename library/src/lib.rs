@@ -45,3 +45,8 @@ pub use values::{
     leaf_record, print_leaf, print_sheet, share, short_splits, short_splits3,
     short_splits3_in_place, sizes,
 };
+
+/// The examples of the README are run, too.
+#[cfg(doctest)]
+#[doc = include_str!("../README.md")]
+struct Readme;
