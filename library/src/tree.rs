@@ -58,7 +58,7 @@ impl Tree {
     /// 2 to 5, as the proved reader says.
     pub fn to_bytes(&self) -> Result<Vec<u8>, Refusal> {
         let mut bytes = Vec::new();
-        self.put(&mut bytes)?;
+        self.put(&mut bytes);
         calls::read_tree(&bytes)?;
         Ok(bytes)
     }
@@ -80,24 +80,22 @@ impl Tree {
         }
     }
 
-    /// Puts the element behind the bytes. Where they are too many for a tree it stops: the reader's answer is 2, whatever would follow.
-    fn put(&self, bytes: &mut Vec<u8>) -> Result<(), Refusal> {
+    /// Puts the element behind the bytes, as far as they are not too many for a tree yet. Too many are refused for that alone, so that it does not matter then
+    /// which length stands where.
+    fn put(&self, bytes: &mut Vec<u8>) {
+        if bytes.len() > BYTES {
+            return;
+        }
         let start = bytes.len() + 3;
         bytes.extend([self.tag(), 0, 0]);
         match self {
             Tree::Cell(text) => bytes.extend(text.bytes()),
             Tree::Row(children) | Tree::Column(children) => {
-                for child in children {
-                    if bytes.len() > BYTES {
-                        return Err(Refusal::BadTree);
-                    }
-                    child.put(bytes)?;
-                }
+                children.iter().for_each(|child| child.put(bytes));
             }
         }
-        let length = u16::try_from(bytes.len() - start).map_err(|_| Refusal::BadTree)?;
+        let length = (bytes.len() - start) as u16;
         bytes[start - 2..start].copy_from_slice(&length.to_be_bytes());
-        Ok(())
     }
 }
 
@@ -108,7 +106,7 @@ fn take<'a>(bytes: &mut &'a [u8], count: usize) -> Result<&'a [u8], Refusal> {
     Ok(front)
 }
 
-/// Takes an element off the front.
+/// Takes an element off the front. The reader has accepted the bytes, so that nothing is refused here.
 fn element(bytes: &mut &[u8]) -> Result<Tree, Refusal> {
     let header = take(bytes, 3)?;
     let length = u16::from_be_bytes([header[1], header[2]]);

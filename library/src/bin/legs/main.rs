@@ -5,7 +5,7 @@
 
 mod commands;
 mod fault;
-mod file;
+mod operands;
 
 use std::ffi::OsString;
 use std::io::{self, Write};

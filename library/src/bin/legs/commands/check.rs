@@ -4,7 +4,7 @@ use leg_sheet::{calls, Refusal, Settings};
 
 use super::{Answer, Command};
 use crate::fault::Fault;
-use crate::file::File;
+use crate::operands::File;
 
 pub const COMMAND: Command = Command {
     name: "check",

@@ -4,7 +4,7 @@ use leg_sheet::{Flags, LeafRecord};
 
 use super::{listed, Answer, Command};
 use crate::fault::Fault;
-use crate::file::{number, File};
+use crate::operands::{number, File};
 
 pub const COMMAND: Command = Command {
     name: "leaf",

@@ -2,7 +2,7 @@ use std::ffi::OsString;
 
 use super::{Answer, Command};
 use crate::fault::Fault;
-use crate::file::File;
+use crate::operands::File;
 
 pub const COMMAND: Command = Command {
     name: "print",

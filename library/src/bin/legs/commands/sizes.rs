@@ -5,7 +5,7 @@ use leg_sheet::SizeRecord;
 
 use super::{Answer, Command};
 use crate::fault::Fault;
-use crate::file::File;
+use crate::operands::File;
 
 pub const COMMAND: Command = Command {
     name: "sizes",
