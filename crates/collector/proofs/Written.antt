@@ -19,7 +19,7 @@ use Rattle.collector.specs.Records.{recordOf, Outcome, collectOf}
 use Rattle.sizes.proofs.Within.{tree-sizes-length}
 use Rattle.sizes.proofs.Nodes.{subtrees, childNodes, sizesAt}
 use Rattle.sizes.proofs.Listed.{GroupFilled, groups-filled}
-use Rattle.sizes.proofs.Given.{refusal-low}
+use Rattle.sizes.proofs.Given.{input-refusal}
 
 -- ---- what is read from the list
 
@@ -61,7 +61,7 @@ module _ (bs ts : List ℕ) (l : List SizeRecord) where
 
   input-case : (x : Input) → inputOf bs ts ≡ x → (o : Outcome) → o ≡ collectOf x l → o .answer .number ≡ 0 → Written bs ts l o
   unfolding collectOf
-  input-case (refused k) i o e n = let d : o .answer .number ≡ k = ap (λ (y : Outcome). y .answer .number) e in absurd (omega (arith, refusal-low bs ts k i))
+  input-case (refused k) i o e n = let d : o .answer .number ≡ k = ap (λ (y : Outcome). y .answer .number) e in absurd (omega (arith, input-refusal bs ts k i))
   input-case (given s t) i o e n = given-case s t (ltb (length l) (nodes t)) i refl o e n
 
   -- where the collector answers 0

@@ -22,7 +22,7 @@ use Rattle.block.proofs.Every.{every-map}
 use Rattle.leaf.specs.declared.LeafRecord.{LeafRecord}
 use Rattle.layout.specs.Walk.{Placed, leaves}
 use Rattle.leaf.specs.Answers.{numbered, tooLarge, noRecord, recordFound, leafRecordOf}
-use Rattle.sizes.proofs.Given.{Takes, takes, refusal-low}
+use Rattle.sizes.proofs.Given.{Takes, takes, input-refusal}
 use Rattle.layout.proofs.Entries.{Listed, numbered-listed}
 use Rattle.layout.proofs.Named.{leaves-numbered}
 use Rattle.leaf.proofs.Prints.{numbered-every}
@@ -75,7 +75,7 @@ module _ (r : LeafRecord) (z : r .number ≡ 0) (h : length (r .horizontal .piec
 
   plain-case : (bs ts : List ℕ) (n : ℕ) (i : Input) → inputOf bs ts ≡ i → r ≡ leafRecordOf i n → Plain r
   unfolding leafRecordOf
-  plain-case bs ts n (Input.refused k) ie e = refused-record k (refusal-low bs ts k ie) e
+  plain-case bs ts n (Input.refused k) ie e = refused-record k (input-refusal bs ts k ie .0) e
   plain-case bs ts n (Input.given s t) ie e =
       picked-plain (tooLarge s t) (numbered n (leaves s t)) (λ l x. numbered-every SmallLeaf n l (leaves s t) (leaves-small ts s t (takes bs ts s t ie)) x) e
 

@@ -19,7 +19,7 @@ use Rattle.block.specs.Block.{tall, wide}
 use Rattle.block.proofs.Every.{Dims}
 use Rattle.layout.specs.Walk.{Placed, leaves, W, H}
 use Rattle.leaf.specs.Answers.{tooLarge, Prints, noPrint, printTo, leafPrintOf}
-use Rattle.sizes.proofs.Given.{takes, refusal-low}
+use Rattle.sizes.proofs.Given.{takes, input-refusal}
 use Rattle.layout.proofs.Named.{LeafAt}
 use Rattle.leaf.proofs.Seek.{leaf-found}
 use Rattle.sheet.specs.Sheet.{sheet}
@@ -55,7 +55,7 @@ written-case false bytes o h = take-append-seam bytes (drop (length bytes) o)
 
 sheet-case : (bs ts o : List ℕ) (i : Input) → inputOf bs ts ≡ i → sheetOf i o .answer .number ≡ 0 → SheetOf bs ts o
 unfolding sheetOf
-sheet-case bs ts o (refused k) e h = absurd (omega (arith, refusal-low bs ts k e))
+sheet-case bs ts o (refused k) e h = absurd (omega (arith, input-refusal bs ts k e))
 sheet-case bs ts o (given s t) e h =
     let k = accept-case (tooLarge s t) (narrow (leaves s t)) o (printTo (sheet s t) o) h in
     record {

@@ -56,7 +56,7 @@ large-case : (x : Bool) (a b : ℕ) → ltb 400 a ≡ x → pick x true (ltb 160
 large-case true a b e h = let z : _≡_ {A = ℕ} 0 1 = cc in absurd (omega arith)
 large-case false a b e h = (ltb-false _ _ e, ltb-false _ _ h)
 
-large-no : (a b : ℕ) → pick (ltb 400 a) true (ltb 160 b) ≡ false → (a ≤ 400) × (b ≤ 160)
+pub large-no : (a b : ℕ) → pick (ltb 400 a) true (ltb 160 b) ≡ false → (a ≤ 400) × (b ≤ 160)
 large-no a b h = large-case (ltb 400 a) a b refl h
 
 sheet-room : (w h len : ℕ) → w ≤ 400 → h ≤ 160 → (w + 1) * h - 1 ≤ len → Room (0 * (w + 1) + 0) (w + 1) h w len

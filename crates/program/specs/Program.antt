@@ -1,0 +1,25 @@
+-- What the sheet program prints, for every input (document 01, figure F1).
+use Prim.Native.Nat.{ℕ, _+_}
+use mathlib.Core.List.{List, [], _∷_, _++_}
+use lib.ListN.{take, drop}
+use Rattle.common.specs.Choice.{pick}
+use Rattle.sizes.specs.Input.{Input, refused, given, inputOf}
+use Rattle.layout.specs.Walk.{leaves}
+use Rattle.leaf.specs.Answers.{tooLarge}
+use Rattle.sheet.specs.Sheet.{sheet}
+use Rattle.sheet.specs.Answers.{narrow}
+
+-- `refused `, the number and 0A. Every number that the program tells is under 10 (`refused-digit`): one decimal digit
+abbrev pub refusedText : ℕ → List ℕ
+refusedText k = 114 ∷ 101 ∷ 102 ∷ 117 ∷ 115 ∷ 101 ∷ 100 ∷ 32 ∷ (48 + k) ∷ 10 ∷ []
+
+-- the sheet and 0A, or the refusal; 8 is none of them: the program has room for every sheet
+unfoldable pub printedOf : Input → List ℕ
+unfolding tooLarge narrow leaves sheet
+printedOf (refused k) = refusedText k
+printedOf (given s t) = pick (tooLarge s t) (refusedText 6) (pick (narrow (leaves s t)) (refusedText 7) (sheet s t ++ 10 ∷ []))
+
+-- the settings are the first 31 bytes, or all if there are fewer; the rest is the tree
+unfoldable pub programOf : List ℕ → List ℕ
+unfolding printedOf inputOf
+programOf input = printedOf (inputOf (take 31 input) (drop 31 input))
