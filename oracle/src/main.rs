@@ -11,7 +11,8 @@ use oracle::{judge, original, replay};
 const USAGE: &str = "oracle sheet             the sheet, as document 01's sheet program prints it
 oracle leaves            every node's sizes, every leaf's record and block
 oracle agree [SEED [N]]  the crate against document 01, on the exhaustive inputs and N rounds of the random ones
-oracle replay SEED       answers of the crate as the input of the program crates/replay";
+oracle replay SEED       answers of the crate as the input of the program crates/replay
+oracle faults SEED       the same of crates/replay_faults";
 
 fn main() -> ExitCode {
     let arguments: Vec<String> = std::env::args().skip(1).collect();
@@ -19,13 +20,8 @@ fn main() -> ExitCode {
     match arguments[..] {
         ["sheet"] => sheet(),
         ["leaves"] => leaves(),
-        ["replay", seed] => match seed.parse() {
-            Ok(seed) => {
-                print(replay::lines(seed).as_bytes());
-                ExitCode::SUCCESS
-            }
-            Err(_) => usage(),
-        },
+        ["replay", seed] => replayed(seed, 0),
+        ["faults", seed] => replayed(seed, 1),
         ["agree", ref rest @ ..] if rest.len() <= 2 => {
             let mut numbers = rest.iter().map(|word| word.parse::<u64>());
             let seed = numbers.next().unwrap_or(Ok(1));
@@ -37,6 +33,14 @@ fn main() -> ExitCode {
         }
         _ => usage(),
     }
+}
+
+fn replayed(seed: &str, part: usize) -> ExitCode {
+    let Ok(seed) = seed.parse() else {
+        return usage();
+    };
+    print(replay::lines(seed)[part].as_bytes());
+    ExitCode::SUCCESS
 }
 
 fn usage() -> ExitCode {

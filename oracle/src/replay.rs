@@ -1,4 +1,4 @@
-//! The crate's answers as lines for the program `replay`, whose crate `script` says what each line means.
+//! The crate's answers as lines for the programs `replay` and `replay_faults`; crate `script` says what each line means.
 
 use crate::calls::{Calls, LeafRecord, SizeRecord, SplitList};
 use crate::form::{encode_settings, encode_tree, Settings, Tree};
@@ -267,15 +267,18 @@ fn limits(lines: &mut Lines) {
     lines.both(0);
 }
 
-/// All of it, under the 65,536 bytes that the program reads.
-pub fn lines(seed: u64) -> String {
-    let mut lines = Lines::default();
+/// The lines of the programs `replay` (shapes and tables) and `replay_faults` (damaged bytes and limits), each within what a test program reads.
+pub fn lines(seed: u64) -> [String; 2] {
     let mut rng = Rng::new(seed);
-    shapes(&mut lines);
-    tables(&mut lines, &mut rng, 200, 60);
-    tables(&mut lines, &mut rng, 900, 4);
-    damaged(&mut lines, &mut rng, 60);
-    limits(&mut lines);
-    assert!(lines.text.len() < 65_536, "{} bytes", lines.text.len());
-    lines.text
+    let mut good = Lines::default();
+    shapes(&mut good);
+    tables(&mut good, &mut rng, 200, 60);
+    tables(&mut good, &mut rng, 900, 4);
+    let mut faulty = Lines::default();
+    damaged(&mut faulty, &mut rng, 60);
+    limits(&mut faulty);
+    [good, faulty].map(|lines| {
+        assert!(lines.text.len() < 65_536, "{} bytes", lines.text.len());
+        lines.text
+    })
 }
