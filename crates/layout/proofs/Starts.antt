@@ -19,7 +19,7 @@ use Rattle.sizes.proofs.Fill.{along-sized}
 use Rattle.sizes.proofs.Nodes.{subtrees, subtrees*, subtrees-length, childNodes, sizesAt, Part, part-whole, part-tail, part-own, child-part, rest-part}
 use Rattle.block.specs.Every.{Every}
 use Rattle.block.proofs.Every.{every-append, every-elem}
-use Rattle.layout.specs.Walk.{Context, Placed, Walked, child, leafWalked, joinWalked, noneWalked, alongList, besideList, walk, children, root, leaves}
+use Rattle.layout.specs.Walk.{Context, Placed, child, leafWalked, alongList, besideList, walk, children, root, leaves}
 use Rattle.layout.specs.Starts.{Place, placeOf, further, starts, starts*, origin, startAt}
 use Rattle.layout.proofs.Laid.{child-size}
 use Rattle.layout.proofs.Numbered.{child-node, none-leaves}

@@ -8,7 +8,7 @@ use Rattle.settings.specs.declared.Settings.{Settings}
 use Rattle.tree.specs.Tree.{across, down, Tree, group, Trees}
 use Rattle.sizes.specs.Text.{total}
 use Rattle.sizes.specs.Sizes.{sep}
-use Rattle.sizes.specs.Input.{Input, given}
+use Rattle.sizes.specs.Input.{given}
 use Rattle.sizes.proofs.Nodes.{subtrees, childNodes, sizesAt}
 use Rattle.collector.specs.declared.SizeRecord.{SizeRecord}
 use Rattle.collector.specs.Records.{Outcome}
