@@ -7,7 +7,7 @@ use numbers::pack;
 use splits::lent::list_at;
 ghost use mathlib.Core.Path.{_≡_};
 ghost use Rattle.numbers.specs.Words.{packed, partAfter};
-ghost use Rattle.numbers.specs.Numbers.{settingsGiven, sizesGiven, recordGiven};
+ghost use Rattle.numbers.specs.Numbers.{settingsGiven, marginGiven, sizesGiven, recordGiven};
 ghost use Rattle.numbers.specs.Cuts.{splits3Given, lentGiven, splitsGiven};
 ghost use Rattle.settings.specs.Reading.{priorityOf, readSettings};
 ghost use Rattle.sizes.specs.Sharing.{shareOf};
@@ -31,6 +31,23 @@ pub extern "C" fn leg_read_settings(bytes: &[u8], out: &mut [u16]) -> u64
     let s = read.settings;
     fields::put_settings(s, out);
     pack(0, 28)
+}
+
+#[no_mangle]
+pub extern "C" fn leg_read_margin(bytes: &[u8], out: &mut [u16]) -> u64
+    ensures { λ r. ⌜ r ≡ marginGiven (readSettings (now (bytes .entry))) (now (out .entry)) .word ⌝ }
+    ensures shown { λ _. ⌜ now (out .exit) ≡ marginGiven (readSettings (now (bytes .entry))) (now (out .entry)) .out ⌝ }
+{
+    let taken = settings::read_settings(bytes);
+    if taken.number != 0 {
+        return pack(taken.number, 0);
+    }
+    if out.len() < 8 {
+        return pack(8, 0);
+    }
+    let s = taken.settings;
+    fields::put_margin(s, out);
+    pack(0, 8)
 }
 
 #[no_mangle]

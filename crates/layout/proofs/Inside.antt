@@ -11,7 +11,7 @@ use Rattle.tree.specs.Tree.{Tree}
 use Rattle.block.specs.Paint.{Room}
 use Rattle.block.specs.Every.{Every}
 use Rattle.block.proofs.Every.{every-append, every-map, every-elem}
-use Rattle.layout.specs.Walk.{Placed, leaves, W, H}
+use Rattle.layout.specs.Walk.{Placed, leaves, insideW, insideH}
 use Rattle.layout.proofs.Laid.{tallAt, wideAt, Laid, one, side, under, root-laid}
 
 -- the leaf's block stands in the rectangle of h lines and w columns at line l, column k
@@ -35,7 +35,7 @@ laid-inside {s} {l} {k} {w = w} (under {h = h} {g = g} {fs = fs} {gs = gs} p q) 
     (every-map (Inside s (l + h) k g w) All (λ f i. omega arith) gs (laid-inside q))
 
 -- no leaf's block has a place outside the sheet's rectangle
-pub leaf-inside : (s : Settings) (t : Tree) (j : ℕ) (g : Placed) → getElem? (leaves s t) j ≡ some g → Inside s 0 0 (H s t) (W s t) g
+pub leaf-inside : (s : Settings) (t : Tree) (j : ℕ) (g : Placed) → getElem? (leaves s t) j ≡ some g → Inside s 0 0 (insideH s t) (insideW s t) g
 leaf-inside s t j g e = every-elem _ (leaves s t) j g (laid-inside (root-laid s t)) e
 
 -- where a rectangle has room, each block inside it has

@@ -16,7 +16,7 @@ use Rattle.sizes.proofs.Fill.{extents, child-fits, group-beside, group-fills, f
 use Rattle.block.specs.Content.{paired}
 use Rattle.block.specs.Block.{block, tall, wide}
 use Rattle.block.proofs.Every.{paired-nil}
-use Rattle.layout.specs.Walk.{Context, Placed, leafOf, Walked, childFlags, rootFlags, child, lay, leafWalked, joinWalked, noneWalked, alongList, besideList, walk, children, root, leaves, W, H}
+use Rattle.layout.specs.Walk.{Context, Placed, leafOf, Walked, childFlags, rootFlags, child, lay, leafWalked, joinWalked, noneWalked, alongList, besideList, walk, children, root, leaves, insideW, insideH}
 
 -- the lines and columns of a context's rectangle
 abbrev pub tallAt : Settings → Context → ℕ
@@ -148,15 +148,15 @@ pub root-fits : (s : Settings) (t : Tree) → Fits (natural s t) (root s t .size
 unfolding root
 root-fits s t = fits-refl _
 
-pub root-tall : (s : Settings) (t : Tree) → tallAt s (root s t) ≡ H s t
-unfolding root rootFlags tall H
+pub root-tall : (s : Settings) (t : Tree) → tallAt s (root s t) ≡ insideH s t
+unfolding root rootFlags tall insideH
 root-tall s t = omega arith
 
-pub root-wide : (s : Settings) (t : Tree) → wideAt s (root s t) ≡ W s t
-unfolding root rootFlags wide W
+pub root-wide : (s : Settings) (t : Tree) → wideAt s (root s t) ≡ insideW s t
+unfolding root rootFlags wide insideW
 root-wide s t = omega arith
 
 -- the whole sheet
-pub root-laid : (s : Settings) (t : Tree) → Laid s 0 0 (H s t) (W s t) (leaves s t) (walk s t (root s t) .content)
+pub root-laid : (s : Settings) (t : Tree) → Laid s 0 0 (insideH s t) (insideW s t) (leaves s t) (walk s t (root s t) .content)
 unfolding leaves root
 root-laid s t = rw (← root-tall s t, ← root-wide s t) (laid s t (root s t) (root-fits s t))

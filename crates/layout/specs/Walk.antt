@@ -169,11 +169,11 @@ unfoldable pub leaves : Settings → Tree → List Placed
 unfolding walk root
 leaves s t = walk s t (root s t) .leaves
 
--- the sheet's columns and lines
-unfoldable pub W : Settings → Tree → ℕ
+-- the rectangle of the leaves' blocks, inside the margin: its columns and lines
+unfoldable pub insideW : Settings → Tree → ℕ
 unfolding natural
-W s t = natural s t .width + 2 * sep s
+insideW s t = natural s t .width + 2 * sep s
 
-unfoldable pub H : Settings → Tree → ℕ
+unfoldable pub insideH : Settings → Tree → ℕ
 unfolding natural
-H s t = natural s t .height + 2 * sep s
+insideH s t = natural s t .height + 2 * sep s

@@ -21,24 +21,14 @@ use Rattle.visit.specs.declared.Found.{Found}
 use Rattle.layout.specs.Walk.{Placed, leaves}
 use Rattle.visit.specs.Visiting.{Kept, keptOf, keepAll, Asks, noKept}
 use Rattle.walk.specs.Walking.{coreLists, ReadyTree, WalksTree}
-use Rattle.leaf.specs.Answers.{tooLarge, numbered, noRecord, recordFound, foundRecord, leafRecordOf, largeOf}
+use Rattle.frame.specs.Frame.{frameOf, largeOf, tooLarge}
+use Rattle.frame.proofs.Sheets.{large-is}
+use Rattle.leaf.specs.Answers.{numbered, noRecord, recordFound, foundRecord, leafRecordOf}
 use Rattle.layout.proofs.Fit.{LeafFits, leaves-fit}
 use Rattle.layout.proofs.Named.{leaves-rise}
 use Rattle.sizes.proofs.Given.{Takes, takes, Accepts, accepts, refuses}
 use Rattle.walk.proofs.Held.{lists-held}
 use Rattle.leaf.proofs.Seek.{soughtOf, keep-numbered}
-
--- ---- the sheet's size, by the root's numbers
-
-pub root-first : (f : Sizes → ℕ) (s : Settings) (t : Tree) (r : List ℕ) → getD (map f (treeSizes s t) ++ r) 0 0 ≡ f (record { natural = natural s t; allotted = natural s t })
-unfolding treeSizes sizes
-root-first f s (cell t) r = refl
-root-first f s (group a ts) r = refl
-
-pub large-is : (s : Settings) (t : Tree) (c : Core) → c ≡ coreOf s t → largeOf c ≡ tooLarge s t
-unfolding coreOf tooLarge sep
-large-is s t c e =
-    rw (e, root-first (λ z. z .natural .width) s t (replicate (512 - length (map (λ z. z .natural .width) (treeSizes s t))) 0), root-first (λ z. z .natural .height) s t (replicate (512 - length (map (λ z. z .natural .height) (treeSizes s t))) 0))
 
 -- ---- the walk of an accepted input can start
 
@@ -104,7 +94,7 @@ module _ (bs ts : List ℕ) (m : Measured) (me : m ≡ measuredOf (inputOf bs ts
   pub call-takes : Takes ts (m .settings) (call .tree)
   call-takes = takes bs ts (m .settings) (call .tree) (call .input)
 
-  pub call-large : (b c : Bool) → b ≡ largeOf (m .core) → b ≡ c → tooLarge (m .settings) (call .tree) ≡ c
+  pub call-large : (b c : Bool) → b ≡ largeOf (frameOf (m .settings) (m .core)) → b ≡ c → tooLarge (m .settings) (call .tree) ≡ c
   call-large b c e f = sym (large-is (m .settings) (call .tree) (m .core) (call .core)) ∙ sym e ∙ f
 
   pub call-ready : (p : Purpose) (n len : ℕ) → NoSheet p → ReadyTree (jobOf m p n) ts (coreLists (m .core)) len
@@ -117,7 +107,7 @@ module _ (bs ts : List ℕ) (m : Measured) (me : m ≡ measuredOf (inputOf bs ts
 
   -- the leaf record
   pub record-answers : (n len : ℕ) (f : Found) (kept o₀ o : List ℕ)
-      → WalksTree (jobOf m Purpose.Record n) (leaves (m .settings) (call-ready Purpose.Record n len tt .tree)) f kept o₀ o → (b : Bool) → b ≡ largeOf (m .core) → b ≡ false
+      → WalksTree (jobOf m Purpose.Record n) (leaves (m .settings) (call-ready Purpose.Record n len tt .tree)) f kept o₀ o → (b : Bool) → b ≡ largeOf (frameOf (m .settings) (m .core)) → b ≡ false
       → foundRecord (keptOf f kept) ≡ leafRecordOf (inputOf bs ts) n
   record-answers n len f kept o₀ o w b e g =
       record-found (jobOf m Purpose.Record n) (call .tree) (keptOf f kept) (call-walks Purpose.Record n len tt f kept o₀ o w .found-is)

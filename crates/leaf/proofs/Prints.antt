@@ -20,13 +20,16 @@ use Rattle.block.specs.Content.{feeds}
 use Rattle.block.specs.Block.{block}
 use Rattle.block.specs.Every.{Every}
 use Rattle.block.proofs.Every.{every-map}
-use Rattle.leaf.specs.declared.Written.{Written}
+use Rattle.frame.specs.declared.Written.{Written}
+use Rattle.frame.specs.Frame.{frameOf, largeOf}
+use Rattle.frame.specs.Printer.{Prints, noPrint}
+use Rattle.frame.proofs.Printers.{Answers}
 use Rattle.visit.specs.declared.Purpose.{Purpose}
 use Rattle.visit.specs.declared.Found.{Found}
 use Rattle.layout.specs.Walk.{Placed, leafOf, leaves}
 use Rattle.visit.specs.Visiting.{keptOf, printed, noKept}
 use Rattle.walk.specs.Walking.{WalksTree}
-use Rattle.leaf.specs.Answers.{numbered, Prints, noPrint, printFound, foundWritten, leafPrintOf, largeOf}
+use Rattle.leaf.specs.Answers.{numbered, printFound, foundWritten, leafPrintOf}
 use Rattle.layout.proofs.Fit.{LeafFits, leaves-fit}
 use Rattle.layout.proofs.Entries.{Listed, numbered-listed}
 use Rattle.layout.proofs.Named.{leaves-numbered, leaves-rise}
@@ -61,9 +64,6 @@ kept-small : (s : Settings) (n : ℕ) (ls : List Placed) (x : Option Placed) →
 kept-small s n ls none e k = (omega arith, omega arith)
 kept-small s n ls (some l) e k = numbered-every SmallLeaf n l ls k e
 
-abbrev Answers : Written → List ℕ → Prints → Type 0
-Answers r o p = (r ≡ p .answer) × (o ≡ p .out)
-
 to-case : (b : Bool) (bytes o : List ℕ) → Answers (pick b (record { number = 8; count = 0 }) (record { number = 0; count = length bytes })) (pick b o (bytes ++ drop (length bytes) o))
     (pick b (noPrint 8 o) (record { answer = record { number = 0; count = length bytes }; out = bytes ++ drop (length bytes) o }))
 to-case true bytes o = (refl, refl)
@@ -78,16 +78,12 @@ found-prints s n o ls (some l) e k =
 
 -- ---- as the printer has it
 
--- a refusal writes nothing
-pub refusal : {k : ℕ} {o : List ℕ} {p : Prints} → p ≡ noPrint k o → Answers (record { number = k; count = 0 }) o p
-refusal e = (ap (λ (p : Prints). p .answer) (sym e), ap (λ (p : Prints). p .out) (sym e))
-
 module _ (bs ts : List ℕ) (n : ℕ) (o : List ℕ) (m : Measured) (me : m ≡ measuredOf (inputOf bs ts)) where
   pub print-refused : (m .number ≡ 0 → ⊥) → leafPrintOf (inputOf bs ts) n o ≡ noPrint (m .number) o
   unfolding leafPrintOf
   print-refused h = rw (refuses bs ts m me h)
 
-  module _ (h : m .number ≡ 0) (b : Bool) (be : b ≡ largeOf (m .core)) where
+  module _ (h : m .number ≡ 0) (b : Bool) (be : b ≡ largeOf (frameOf (m .settings) (m .core))) where
     pub print-large : b ≡ true → leafPrintOf (inputOf bs ts) n o ≡ noPrint 6 o
     unfolding leafPrintOf
     print-large g = rw (call bs ts m me h .input, call-large bs ts m me h b true be g)

@@ -1,28 +1,22 @@
 -- The leaf record and the leaf printer (document 01, "Leaf record", "Block and sheet" and the table of numbers): the whole answer for every input.
-use Prim.Native.Nat.{ℕ, _+_}
-use mathlib.Core.Bool.{Bool, true}
-use mathlib.Core.List.{List, [], _∷_, _++_}
+use Prim.Native.Nat.{ℕ}
+use mathlib.Core.List.{List, [], _∷_}
 use mathlib.Core.Option.{Option, some, none}
-use lib.ListN.{length, drop, getD}
 use lib.Dec.{ltb, eqb}
 use Rattle.common.specs.Choice.{pick}
 use Rattle.settings.specs.declared.Settings.{Settings}
 use Rattle.tree.specs.Tree.{Tree}
 use Rattle.splits.specs.Lists.{splitList}
-use Rattle.sizes.specs.declared.Core.{Core}
 use Rattle.sizes.specs.Input.{Input, refused, given}
 use Rattle.block.specs.Content.{feeds}
 use Rattle.block.specs.Block.{block}
 use Rattle.leaf.specs.declared.LeafRecord.{LeafRecord}
-use Rattle.leaf.specs.declared.Written.{Written}
-use Rattle.layout.specs.Walk.{Placed, leafOf, leaves, W, H}
+use Rattle.layout.specs.Walk.{Placed, leafOf, leaves}
 use Rattle.layout.specs.Contexts.{noFlags}
+use Rattle.frame.specs.declared.Written.{Written}
+use Rattle.frame.specs.Frame.{tooLarge}
+use Rattle.frame.specs.Printer.{Prints, noPrint, printTo}
 use Rattle.visit.specs.Visiting.{Kept, blockBytes}
-
--- W over 400 or H over 160
-unfoldable pub tooLarge : Settings → Tree → Bool
-unfolding W H
-tooLarge s t = pick (ltb 400 (W s t)) true (ltb 160 (H s t))
 
 -- the leaf with that node number
 unfoldable pub numbered : ℕ → List Placed → Option Placed
@@ -48,20 +42,7 @@ unfolding tooLarge numbered leaves
 leafRecordOf (refused k) n = noRecord k
 leafRecordOf (given s t) n = pick (tooLarge s t) (noRecord 6) (recordFound (numbered n (leaves s t)))
 
--- ---- printers
-
--- a printer's answer, and what the lent output then holds
-pub record Prints : Type 0 where
-  pub answer : Written
-  pub out : List ℕ
-
--- a refusal writes nothing
-abbrev pub noPrint : ℕ → List ℕ → Prints
-noPrint k o = record { answer = record { number = k; count = 0 }; out = o }
-
--- 8 where the output is shorter than the bytes; the bytes past them stay
-abbrev pub printTo : List ℕ → List ℕ → Prints
-printTo bytes o = pick (ltb (length o) (length bytes)) (noPrint 8 o) (record { answer = record { number = 0; count = length bytes }; out = bytes ++ drop (length bytes) o })
+-- ---- the leaf printer
 
 abbrev pub printFound : Settings → List ℕ → Option Placed → Prints
 printFound s o none = noPrint 9 o
@@ -72,11 +53,7 @@ unfolding tooLarge numbered leaves feeds block
 leafPrintOf (refused k) n o = noPrint k o
 leafPrintOf (given s t) n o = pick (tooLarge s t) (noPrint 6 o) (printFound s o (numbered n (leaves s t)))
 
--- ---- what the code asks of the sizes that were measured
-
--- W over 400 or H over 160, by the root's numbers
-abbrev pub largeOf : Core → Bool
-largeOf c = pick (ltb 400 (getD (c .«natural_widths») 0 0 + 2)) true (ltb 160 (getD (c .«natural_heights») 0 0 + 2))
+-- ---- what the code asks of the walk
 
 -- the record that a walk kept, as the answer
 abbrev pub foundRecord : Kept → LeafRecord

@@ -1,7 +1,7 @@
 // The leaf record and the leaf printer.
 use block::Flags;
+use frame::Written;
 use settings::Settings;
-use sizes::Core;
 use sizes::Size;
 use splits::SplitList;
 use splits::lent::list_at;
@@ -14,7 +14,7 @@ ghost use mathlib.Core.List.{[]};
 ghost use lib.ListN.{length};
 ghost use Rattle.sizes.specs.Input.{inputOf};
 ghost use Rattle.visit.specs.Visiting.{keptOf, Few};
-ghost use Rattle.leaf.specs.Answers.{noRecord, foundRecord, leafRecordOf, foundWritten, leafPrintOf, largeOf};
+ghost use Rattle.leaf.specs.Answers.{noRecord, foundRecord, leafRecordOf, foundWritten, leafPrintOf};
 
 // A leaf's record: node, allotted size, both split lists as handed to the leaf, eight flags; or a refusal with 0 or no elsewhere.
 pub struct LeafRecord {
@@ -24,24 +24,6 @@ pub struct LeafRecord {
     pub horizontal: SplitList,
     pub vertical: SplitList,
     pub flags: Flags,
-}
-
-// A printer's answer: the bytes written, or a refusal.
-pub struct Written {
-    pub number: u8,
-    pub count: usize,
-}
-
-// Whether the sheet has over 400 columns or over 160 lines.
-pub fn is_large(core: Core) -> bool
-    ensures { λ r. ⌜ r ≡ largeOf core ⌝ }
-{
-    let widths = core.natural_widths;
-    let heights = core.natural_heights;
-    if 400 < common::wide16(widths[0]) + 2 {
-        return true;
-    }
-    160 < common::wide16(heights[0]) + 2
 }
 
 fn no_record(number: u8) -> LeafRecord
@@ -96,20 +78,14 @@ fn written_of(s: Settings, found: Found, len: usize) -> Written
         let flags = found.flags;
         let n = visit::block_bytes(s, size, flags);
         if len < n {
-            return Written {
-                number: 8,
-                count: 0,
-            };
+            return frame::refused(8);
         }
         return Written {
             number: 0,
             count: n,
         };
     }
-    Written {
-        number: 9,
-        count: 0,
-    }
+    frame::refused(9)
 }
 
 // The record of the leaf with that number.
@@ -121,7 +97,7 @@ pub fn leaf_record(settings: &[u8], tree: &[u8], node: usize) -> LeafRecord
         return no_record(m.number);
     }
     let core = m.core;
-    if is_large(core) {
+    if frame::is_large(frame::frame_of(m.settings, core)) {
         return no_record(6);
     }
     let s = m.settings;
@@ -144,17 +120,11 @@ pub fn print_leaf(settings: &[u8], tree: &[u8], node: usize, out: &mut [u8]) -> 
 {
     let m = sizes::measure_tree(settings, tree);
     if m.number != 0 {
-        return Written {
-            number: m.number,
-            count: 0,
-        };
+        return frame::refused(m.number);
     }
     let core = m.core;
-    if is_large(core) {
-        return Written {
-            number: 6,
-            count: 0,
-        };
+    if frame::is_large(frame::frame_of(m.settings, core)) {
+        return frame::refused(6);
     }
     let s = m.settings;
     let job = Job {

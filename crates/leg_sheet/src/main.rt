@@ -1,4 +1,4 @@
-// Standard input: the settings record (the first 31 bytes, or all if there are fewer), then the tree.
+// Standard input: the settings (the first 31 bytes, with a hex 11 behind them 42, or all if there are fewer), then the tree.
 // Standard output: what `program::answer` says, the sheet and 0A, or `refused `, the number and 0A.
 // Where reading or writing fails, a line on standard error says so: a Rattle program has no exit status.
 use libc::STDIN_FILENO;

@@ -21,7 +21,8 @@ use Rattle.block.specs.Every.{Every}
 use Rattle.block.proofs.Every.{every-map}
 use Rattle.leaf.specs.declared.LeafRecord.{LeafRecord}
 use Rattle.layout.specs.Walk.{Placed, leaves}
-use Rattle.leaf.specs.Answers.{numbered, tooLarge, noRecord, recordFound, leafRecordOf}
+use Rattle.frame.specs.Frame.{tooLarge}
+use Rattle.leaf.specs.Answers.{numbered, noRecord, recordFound, leafRecordOf}
 use Rattle.sizes.proofs.Given.{Takes, takes, input-refusal}
 use Rattle.layout.proofs.Entries.{Listed, numbered-listed}
 use Rattle.layout.proofs.Named.{leaves-numbered}

@@ -7,7 +7,7 @@ use lib.Dec.{ltb, eqb}
 use Rattle.common.specs.Choice.{pick}
 use Rattle.settings.specs.declared.Settings.{Settings}
 use Rattle.settings.specs.Reading.{Parsed}
-use Rattle.settings.specs.Defaults.{recordOf, alignmentNumber, priorityNumber}
+use Rattle.settings.specs.Defaults.{recordOf, marginBytes, alignmentNumber, priorityNumber}
 use Rattle.tree.specs.Tree.{nodes}
 use Rattle.sizes.specs.declared.Core.{Core}
 use Rattle.sizes.specs.Sizes.{Sizes, treeSizes}
@@ -50,10 +50,21 @@ settingsNumbers s = drop 3 (recordOf s)
 abbrev pub choiceNumbers : Settings → List ℕ
 choiceNumbers s = alignmentNumber (s .horizontal) ∷ alignmentNumber (s .vertical) ∷ pick (s .«line_mode») 1 0 ∷ priorityNumber (s .«width_priority») ∷ priorityNumber (s .«height_priority») ∷ []
 
-unfoldable pub settingsGiven : Parsed → List ℕ → Gives
+-- the margin's field past its tag and length: four sizes, four fills
+abbrev pub marginNumbers : Settings → List ℕ
+marginNumbers s = drop 3 (marginBytes (s .margin))
+
+-- 1, or so many numbers of what was read
+unfoldable pub readGiven : ℕ → (Settings → List ℕ) → Parsed → List ℕ → Gives
 unfolding refusal offered
-settingsGiven Parsed.refused o = refusal 1 o
-settingsGiven (Parsed.read s) o = offered 28 (settingsNumbers s) o
+readGiven count numbers Parsed.refused o = refusal 1 o
+readGiven count numbers (Parsed.read s) o = offered count (numbers s) o
+
+abbrev pub settingsGiven : Parsed → List ℕ → Gives
+settingsGiven p o = readGiven 28 settingsNumbers p o
+
+abbrev pub marginGiven : Parsed → List ℕ → Gives
+marginGiven p o = readGiven 8 marginNumbers p o
 
 -- ---- sizes
 

@@ -1,4 +1,4 @@
-// Settings, sizes and leaf records as lent numbers.
+// Settings, margins, sizes and leaf records as lent numbers.
 use crate::lists;
 use block::Flags;
 use leaf::LeafRecord;
@@ -14,7 +14,7 @@ ghost use lib.ListN.{length};
 ghost use lib.Seq.{sets};
 ghost use Rattle.settings.specs.Reading.{Ranges};
 ghost use Rattle.settings.specs.Defaults.{alignmentNumber, priorityNumber};
-ghost use Rattle.numbers.specs.Numbers.{settingsNumbers, choiceNumbers, coreNumbers, frontNumbers, recordNumbers, Plain};
+ghost use Rattle.numbers.specs.Numbers.{settingsNumbers, marginNumbers, choiceNumbers, coreNumbers, frontNumbers, recordNumbers, Plain};
 
 fn number_of_priority(p: Priority) -> u16
     ensures { λ r. ⌜ r ≡ priorityNumber p ⌝ }
@@ -74,6 +74,18 @@ pub fn put_settings(s: Settings, out: &mut [u16])
     lists::copy_bytes(&fills, out, 19);
     let chosen = choices(s);
     lists::copy(&chosen, out, 23);
+}
+
+// Four sizes, four fills.
+pub fn put_margin(s: Settings, out: &mut [u16])
+    requires { ⌜ 8 ≤ length (now out) ⌝ }
+    ensures { λ _. ⌜ now (out .exit) ≡ sets (now (out .entry)) 0 (marginNumbers s) ⌝ }
+{
+    let m = s.margin;
+    let sizes = [m.left, m.right, m.top, m.bottom];
+    lists::copy_bytes(&sizes, out, 0);
+    let fills = m.fills;
+    lists::copy_bytes(&fills, out, 4);
 }
 
 // Four numbers a node.

@@ -12,18 +12,20 @@ use lib.Dec.{ltb}
 use borrow.Author.Tests.{le-ltb, ltb-true, ltb-false}
 use Rattle.common.specs.Choice.{pick}
 use Rattle.settings.specs.declared.Settings.{Settings}
+use Rattle.settings.specs.Reading.{settingsEnd}
 use Rattle.tree.specs.Tree.{Tree}
 use Rattle.sizes.specs.Input.{Input, refused, given, inputOf}
 use Rattle.sizes.proofs.Given.{input-refusal}
-use Rattle.layout.specs.Walk.{leaves, W, H}
+use Rattle.layout.specs.Walk.{leaves}
 use Rattle.block.specs.Paint.{Wrote}
-use Rattle.leaf.specs.declared.Written.{Written}
-use Rattle.leaf.specs.Answers.{tooLarge, Prints, noPrint, printTo}
+use Rattle.frame.specs.declared.Written.{Written}
+use Rattle.frame.specs.Frame.{W, H, tooLarge}
+use Rattle.frame.specs.Printer.{Prints, noPrint, printTo}
+use Rattle.frame.proofs.Sheets.{large-no}
 use Rattle.sheet.specs.Sheet.{sheet}
 use Rattle.sheet.specs.Answers.{narrow, sheetOf}
 use Rattle.sheet.proofs.Bytes.{sheet-length}
 use Rattle.sheet.proofs.Planned.{narrow-wide}
-use Rattle.sheet.proofs.Printed.{large-no}
 use Rattle.program.specs.Program.{refusedText, printedOf, programOf}
 
 -- a refusal: its number is told, and the output is as it was
@@ -83,10 +85,11 @@ unfolding sheetOf printedOf
 told-case bs ts o long (refused k) e = refusal (refused k) k o (input-refusal bs ts k e .0) (omega (arith, input-refusal bs ts k e)) refl
 told-case bs ts o long (given s t) e = large-told s t o long (tooLarge s t) refl
 
-pub told : (input o settings tree : List ℕ) (w : Written) (o₁ : List ℕ) → 64160 ≤ length o → settings ≡ take 31 input → tree ≡ drop 31 input
+pub told : (input o settings tree : List ℕ) (w : Written) (o₁ : List ℕ) → 64160 ≤ length o → settings ≡ take (settingsEnd input) input → tree ≡ drop (settingsEnd input) input
     → w ≡ sheetOf (inputOf settings tree) o .answer → o₁ ≡ sheetOf (inputOf settings tree) o .out → Told (programOf input) o w o₁
 unfolding programOf
-told input o settings tree w o₁ long es et ew eo = rw (ew, eo, es, et) (told-case (take 31 input) (drop 31 input) o long (inputOf (take 31 input) (drop 31 input)) refl)
+told input o settings tree w o₁ long es et ew eo =
+    rw (ew, eo, es, et) (told-case (take (settingsEnd input) input) (drop (settingsEnd input) input) o long (inputOf (take (settingsEnd input) input) (drop (settingsEnd input) input)) refl)
 
 -- ---- a front of n elements, or all if there are fewer, and the rest
 

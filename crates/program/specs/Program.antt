@@ -3,9 +3,10 @@ use Prim.Native.Nat.{ℕ, _+_}
 use mathlib.Core.List.{List, [], _∷_, _++_}
 use lib.ListN.{take, drop}
 use Rattle.common.specs.Choice.{pick}
+use Rattle.settings.specs.Reading.{settingsEnd}
 use Rattle.sizes.specs.Input.{Input, refused, given, inputOf}
 use Rattle.layout.specs.Walk.{leaves}
-use Rattle.leaf.specs.Answers.{tooLarge}
+use Rattle.frame.specs.Frame.{tooLarge}
 use Rattle.sheet.specs.Sheet.{sheet}
 use Rattle.sheet.specs.Answers.{narrow}
 
@@ -19,7 +20,7 @@ unfolding tooLarge narrow leaves sheet
 printedOf (refused k) = refusedText k
 printedOf (given s t) = pick (tooLarge s t) (refusedText 6) (pick (narrow (leaves s t)) (refusedText 7) (sheet s t ++ 10 ∷ []))
 
--- the settings are the first 31 bytes, or all if there are fewer; the rest is the tree
+-- the settings are the first 31 bytes, and the 11 from a hex 11 behind them on, or all if there are fewer; the rest is the tree
 unfoldable pub programOf : List ℕ → List ℕ
-unfolding printedOf inputOf
-programOf input = printedOf (inputOf (take 31 input) (drop 31 input))
+unfolding printedOf inputOf settingsEnd
+programOf input = printedOf (inputOf (take (settingsEnd input) input) (drop (settingsEnd input) input))

@@ -1,7 +1,7 @@
 // The sheet program without its reading and writing: what it prints of what it was given (document 01, figure F1).
 use block::bytes::copy;
 ghost use mathlib.Core.Path.{_≡_};
-ghost use Prim.Native.Nat.{ℕ, _≤_, _<_, min};
+ghost use Prim.Native.Nat.{ℕ, _≤_, _<_};
 ghost use mathlib.Core.List.{List};
 ghost use lib.ListN.{length, take, drop};
 ghost use lib.Seq.{sets};
@@ -11,21 +11,14 @@ ghost use Rattle.program.specs.Program.{refusedText, programOf};
 // The largest sheet, 160 lines of 400 columns, each with its 0A.
 pub const ANSWER_BYTES: usize = 64160;
 
-// One byte more than the settings and the longest tree.
-pub const INPUT_BYTES: usize = 32800;
+// One byte more than the settings with a margin, 42 bytes, and the longest tree, 32,768.
+pub const INPUT_BYTES: usize = 32811;
 
 // A buffer for the input: bytes that find no room in it change nothing.
 pub fn input_buffer() -> [u8; INPUT_BYTES]
     ensures { λ r. ⌜ ((b : List ℕ) → programOf (take (length r) b) ≡ programOf b) ⌝ }
 {
     [0u8; INPUT_BYTES]
-}
-
-// The first 31 bytes, or all if there are fewer.
-fn settings_end(input: &[u8]) -> usize
-    ensures { λ r. ⌜ r ≡ min 31 (length (now (input .entry))) ⌝ }
-{
-    if input.len() < 31 { input.len() } else { 31 }
 }
 
 // `refused `, the number and 0A; the answer is their length.
@@ -44,7 +37,7 @@ pub fn answer(input: &[u8], out: &mut [u8; ANSWER_BYTES]) -> usize
     ensures within { λ r. ⌜ (r ≤ 64160) × (length (now (out .exit)) ≡ 64160) ⌝ }
     ensures kept { λ r. ⌜ drop r (now (out .exit)) ≡ drop r (now (out .entry)) ⌝ }
 {
-    let end = settings_end(input);
+    let end = settings::settings_end(input);
     let w = sheet::print_sheet(&input[..end], &input[end..], out);
     if w.number != 0 {
         return refuse(w.number, out);

@@ -1,5 +1,5 @@
 // Both printers: wanted bytes one byte short, exactly full and with more room than they need; refusals with room and with none.
-use leaf::Written;
+use frame::Written;
 use lines::compare;
 use lines::contents;
 use lines::tell;

@@ -1,19 +1,20 @@
 -- Every settings within 01's ranges are read from their record: nothing else is refused. Assumes nothing.
 use mathlib.Core.Path.{_≡_, refl, sym, ap, _∙_}
 use mathlib.Core.Bool.{Bool, true, false}
-use mathlib.Core.List.{List, [], _∷_, _++_}
+use mathlib.Core.List.{List, [], _∷_, _++_, append-nil}
 use Prim.Native.Nat.{ℕ, suc, _+_, _≤_, _<_}
 use native.Mathlib.Omega.{arith}
-use lib.ListN.{length, getD, take, drop, replicate}
-use lib.Seq.{getD-drop, take-append-seam, drop-append-seam, drop-append-add}
+use lib.ListN.{length, getD, take, drop, replicate, length-append, drop-of-length-le}
+use lib.Seq.{getD-drop, take-all, take-append-seam, drop-append-seam, drop-append-add}
 use lib.Dec.{eqb}
 use borrow.Author.Tests.{le-ltb}
 use Rattle.common.specs.Choice.{pick}
 use Rattle.settings.specs.declared.Settings.{Settings}
+use Rattle.settings.specs.declared.Margin.{Margin}
 use Rattle.settings.specs.declared.Alignment.{Alignment}
 use Rattle.settings.specs.declared.Priority.{Priority}
-use Rattle.settings.specs.Reading.{low, high, within, alignmentOf, priorityOf, settingsOf, read, readSettings, Printable, Ranges}
-use Rattle.settings.specs.Defaults.{alignmentNumber, priorityNumber, recordOf}
+use Rattle.settings.specs.Reading.{low, high, marginLow, marginHigh, within, alignmentOf, priorityOf, marginOf, noMargin, settingsOf, read, readBehind, readSettings, Printable, Ranges}
+use Rattle.settings.specs.Defaults.{alignmentNumber, priorityNumber, recordOf, marginBytes}
 
 -- ---- each byte of the record is within its bounds
 
@@ -83,6 +84,19 @@ mode-read : (b : Bool) → eqb (pick b 1 0) 1 ≡ b
 mode-read true = refl
 mode-read false = refl
 
+-- the first field, then what stands behind it
+read-front : (l f k : List ℕ) → take 31 l ≡ f → drop 31 l ≡ k → within low high f ≡ true → readSettings l ≡ readBehind f k
+unfolding readSettings
+read-front l f k e d h = rw (e, d, h)
+
+read-margin : (l : List ℕ) (b : ℕ) (k : List ℕ) → within marginLow marginHigh (b ∷ k) ≡ true → readBehind l (b ∷ k) ≡ read (settingsOf (marginOf (b ∷ k)) l)
+unfolding readBehind
+read-margin l b k h = rw h
+
+read-none : (l : List ℕ) → readBehind l [] ≡ read (settingsOf noMargin l)
+unfolding readBehind
+read-none l = refl
+
 -- what stands behind n bytes
 behind : (n : ℕ) (xs ys : List ℕ) → length xs ≡ n → (i : ℕ) → drop (n + i) (xs ++ ys) ≡ drop i ys
 behind n xs ys e i = rw (← e) (drop-append-add xs ys i)
@@ -115,7 +129,7 @@ module _ (s : Settings) (r : Ranges s) where
       ∙ number 4 (s .left ∷ s .right ∷ s .top ∷ s .bottom ∷ []) (s .fills ++ choices) refl (4 + i)
       ∙ number 4 (s .fills) choices (r .fills .many) i
 
-  fields-read : settingsOf (recordOf s) ≡ s
+  fields-read : settingsOf (s .margin) (recordOf s) ≡ s
   unfolding paddings choices
   fields-read =
       rw (
@@ -138,6 +152,40 @@ module _ (s : Settings) (r : Ranges s) where
         priority-read (s .«height_priority»),
       )
 
-  pub settings-read : readSettings (recordOf s) ≡ read s
-  unfolding readSettings
-  settings-read = rw (record-within s r, fields-read)
+  record-long : length (recordOf s) ≡ 31
+  record-long = rw (length-append (s .marks), length-append (s .fills), r .marks .many, r .fills .many)
+
+  margin-within : within marginLow marginHigh (marginBytes (s .margin)) ≡ true
+  margin-within =
+      byte-within 17 17 17 _ _ _ (omega arith) (omega arith)
+      ∙ byte-within 0 0 0 _ _ _ (omega arith) (omega arith)
+      ∙ byte-within 8 8 8 _ _ _ (omega arith) (omega arith)
+      ∙ byte-within 0 16 (s .margin .left) _ _ _ (omega arith) (r .margin-left)
+      ∙ byte-within 0 16 (s .margin .right) _ _ _ (omega arith) (r .margin-right)
+      ∙ byte-within 0 16 (s .margin .top) _ _ _ (omega arith) (r .margin-top)
+      ∙ byte-within 0 16 (s .margin .bottom) _ _ _ (omega arith) (r .margin-bottom)
+      ∙ rw (← append-nil (s .margin .fills)) (printable-within 4 (s .margin .fills) [] [] [] (r .margin-fills))
+      ∙ none-within
+
+  margin-is : marginOf (marginBytes (s .margin)) ≡ s .margin
+  margin-is = rw (take-all 4 (s .margin .fills) (omega (arith, r .margin-fills .many)))
+
+  front-is : (k : List ℕ) → take 31 (recordOf s ++ k) ≡ recordOf s
+  front-is k = ap (λ (n : ℕ). take n (recordOf s ++ k)) (sym record-long) ∙ take-append-seam (recordOf s) k
+
+  behind-is : (k : List ℕ) → drop 31 (recordOf s ++ k) ≡ k
+  behind-is k = ap (λ (n : ℕ). drop n (recordOf s ++ k)) (sym record-long) ∙ drop-append-seam (recordOf s) k
+
+  -- with the margin's field
+  pub settings-read : readSettings (recordOf s ++ marginBytes (s .margin)) ≡ read s
+  settings-read =
+      read-front _ (recordOf s) (marginBytes (s .margin)) (front-is (marginBytes (s .margin))) (behind-is (marginBytes (s .margin))) (record-within s r)
+      ∙ read-margin (recordOf s) 17 _ margin-within
+      ∙ ap read (ap (λ (m : Margin). settingsOf m (recordOf s)) margin-is ∙ fields-read)
+
+  -- without it
+  pub plain-read : s .margin ≡ noMargin → readSettings (recordOf s) ≡ read s
+  plain-read e =
+      read-front _ (recordOf s) [] (take-all 31 (recordOf s) (omega (arith, record-long))) (drop-of-length-le (recordOf s) {i = 31} (omega (arith, record-long))) (record-within s r)
+      ∙ read-none (recordOf s)
+      ∙ ap read (ap (λ (m : Margin). settingsOf m (recordOf s)) (sym e) ∙ fields-read)

@@ -1,14 +1,15 @@
 -- Settings that were read are within 01's ranges. Assumes nothing.
 use mathlib.Core.Path.{_≡_, refl, sym, _∙_, ap}
 use mathlib.Core.Bool.{Bool, true, false}
-use mathlib.Core.List.{List, _++_}
+use mathlib.Core.List.{List, [], _∷_, _++_}
 use Prim.Native.Nat.{ℕ, _+_, _≤_, _<_}
 use native.Mathlib.Omega.{arith}
-use lib.ListN.{getD, take, drop, replicate, length-drop, length-replicate, List·getD-append, getD-replicate}
+use lib.ListN.{length, getD, take, drop, replicate, length-drop, length-replicate, List·getD-append, getD-replicate}
 use lib.Seq.{getD-take, getD-drop, length-take-le}
 use Rattle.common.specs.Choice.{pick}
 use Rattle.settings.specs.declared.Settings.{Settings}
-use Rattle.settings.specs.Reading.{low, high, within, settingsOf, refused, read, readSettings, Printable, Ranges}
+use Rattle.settings.specs.declared.Margin.{Margin}
+use Rattle.settings.specs.Reading.{low, high, marginLow, marginHigh, within, marginOf, noMargin, settingsOf, refused, read, readBehind, readSettings, Printable, Ranges}
 use Rattle.settings.proofs.Within.{within-length, within-at}
 
 -- the number at k + i where n equal ones stand from k on
@@ -17,37 +18,72 @@ bound-at l k n x rest e i h =
     sym (getD-drop k l i 0) ∙ ap (λ (y : List ℕ). getD y i 0) e
     ∙ List·getD-append (replicate n x) rest 0 i (rw length-replicate h) ∙ getD-replicate n i x 0 h
 
-module _ (l : List ℕ) (e : within low high l ≡ true) where
+module _ (ls hs l : List ℕ) (e : within ls hs l ≡ true) where
   -- the n bytes from k on, whose bounds are hex 20 and 7E
-  printable : (k n : ℕ) (ls hs : List ℕ) → drop k low ≡ replicate n 32 ++ ls → drop k high ≡ replicate n 126 ++ hs → k + n ≤ 31 → Printable n (take n (drop k l))
-  printable k n ls hs p q h = record {
-    many = length-take-le n (drop k l) (rw length-drop (omega (arith, within-length low high l e)));
+  printable : (k n : ℕ) (lr hr : List ℕ) → drop k ls ≡ replicate n 32 ++ lr → drop k hs ≡ replicate n 126 ++ hr → k + n ≤ length ls → Printable n (take n (drop k l))
+  printable k n lr hr p q h = record {
+    many = length-take-le n (drop k l) (rw length-drop (omega (arith, within-length ls hs l e)));
     each = λ i j.
-        let at = within-at low high l e (k + i) (omega arith) in
-        let a = bound-at low k n 32 ls p i j in
-        let z = bound-at high k n 126 hs q i j in
+        let at = within-at ls hs l e (k + i) (omega arith) in
+        let a = bound-at ls k n 32 lr p i j in
+        let z = bound-at hs k n 126 hr q i j in
         rw (getD-take n (drop k l) i 0 j, getD-drop k l i 0) (omega (arith, at .0), omega (arith, at .1));
   }
 
-  at-most : (i : ℕ) → i < 31 → getD l i 0 ≤ getD high i 0
-  at-most i h = within-at low high l e i (omega arith) .1
+  at-most : (i : ℕ) → i < length ls → getD l i 0 ≤ getD hs i 0
+  at-most i h = within-at ls hs l e i h .1
 
-  ranges : Ranges (settingsOf l)
-  ranges = record {
-    marks = printable 3 15 (drop 18 low) (drop 18 high) refl refl (omega arith);
-    left = at-most 18 (omega arith);
-    right = at-most 19 (omega arith);
-    top = at-most 20 (omega arith);
-    bottom = at-most 21 (omega arith);
-    fills = printable 22 4 (drop 26 low) (drop 26 high) refl refl (omega arith);
-  }
+-- a margin's sizes and fills
+record Edges (m : Margin) : Type 0 where
+  left : m .left ≤ 16
+  right : m .right ≤ 16
+  top : m .top ≤ 16
+  bottom : m .bottom ≤ 16
+  fills : Printable 4 (m .fills)
 
-taken : (b : Bool) (s t : Settings) → pick b (read t) refused ≡ read s → (b ≡ true) × (t ≡ s)
-taken true s t e = (refl, cc)
-taken false s t e = let z : _≡_ {A = ℕ} 0 1 = cc in absurd (omega arith)
+edges : (l : List ℕ) → within marginLow marginHigh l ≡ true → Edges (marginOf l)
+edges l e = record {
+  left = at-most marginLow marginHigh l e 3 (omega arith);
+  right = at-most marginLow marginHigh l e 4 (omega arith);
+  top = at-most marginLow marginHigh l e 5 (omega arith);
+  bottom = at-most marginLow marginHigh l e 6 (omega arith);
+  fills = printable marginLow marginHigh l e 7 4 [] [] refl refl (omega arith);
+}
+
+space : (i : ℕ) → i < 4 → (32 ≤ getD (replicate 4 32) i 0) × (getD (replicate 4 32) i 0 ≤ 126)
+space i h = let z : _≡_ {A = ℕ} (getD (replicate 4 32) i 0) 32 = getD-replicate 4 i 32 0 h in (omega arith, omega arith)
+
+no-edges : Edges noMargin
+no-edges = record { left = omega arith; right = omega arith; top = omega arith; bottom = omega arith; fills = record { many = refl; each = space } }
+
+ranges : (l : List ℕ) → within low high l ≡ true → (m : Margin) → Edges m → Ranges (settingsOf m l)
+ranges l e m g = record {
+  marks = printable low high l e 3 15 (drop 18 low) (drop 18 high) refl refl (omega arith);
+  left = at-most low high l e 18 (omega arith);
+  right = at-most low high l e 19 (omega arith);
+  top = at-most low high l e 20 (omega arith);
+  bottom = at-most low high l e 21 (omega arith);
+  margin-left = g .left;
+  margin-right = g .right;
+  margin-top = g .top;
+  margin-bottom = g .bottom;
+  margin-fills = g .fills;
+  fills = printable low high l e 22 4 (drop 26 low) (drop 26 high) refl refl (omega arith);
+}
+
+second : (b : Bool) (l k : List ℕ) (s : Settings) → within low high l ≡ true → (b ≡ true → Edges (marginOf k)) → pick b (read (settingsOf (marginOf k) l)) refused ≡ read s → Ranges s
+second true l k s e g p = let z : settingsOf (marginOf k) l ≡ s = cc in rw z at (ranges l e (marginOf k) (g refl))
+second false l k s e g p = let z : _≡_ {A = ℕ} 0 1 = cc in absurd (omega arith)
+
+behind : (l k : List ℕ) (s : Settings) → within low high l ≡ true → readBehind l k ≡ read s → Ranges s
+unfolding readBehind
+behind l [] s e p = let z : settingsOf noMargin l ≡ s = cc in rw z at (ranges l e noMargin no-edges)
+behind l (b ∷ k) s e p = second (within marginLow marginHigh (b ∷ k)) l (b ∷ k) s e (edges (b ∷ k)) p
+
+taken : (b : Bool) (l k : List ℕ) (s : Settings) → within low high l ≡ b → pick b (readBehind l k) refused ≡ read s → Ranges s
+taken true l k s e p = behind l k s e p
+taken false l k s e p = let z : _≡_ {A = ℕ} 0 1 = cc in absurd (omega arith)
 
 pub settings-small : (l : List ℕ) (s : Settings) → readSettings l ≡ read s → Ranges s
 unfolding readSettings
-settings-small l s e =
-    let k = taken (within low high l) s (settingsOf l) e in
-    rw (← k .1) (ranges l (k .0))
+settings-small l s e = taken (within low high (take 31 l)) (take 31 l) (drop 31 l) s refl e

@@ -6,12 +6,14 @@ use mathlib.Core.List.{List, [], _∷_, _++_}
 use lib.ListN.{replicate}
 use Rattle.common.specs.Choice.{pick}
 use Rattle.settings.specs.declared.Settings.{Settings}
+use Rattle.settings.specs.declared.Margin.{Margin}
 use Rattle.settings.specs.declared.Alignment.{Alignment}
 use Rattle.settings.specs.declared.Priority.{Priority}
-use Rattle.settings.specs.Reading.{read, readSettings}
+use Rattle.settings.specs.Reading.{noMargin, refused, read, readSettings}
 
 abbrev pub defaults : Settings
 defaults = record {
+  margin = noMargin;
   marks = 45 ∷ 45 ∷ 124 ∷ 124 ∷ 45 ∷ 124 ∷ replicate 9 43;
   left = 1;
   right = 1;
@@ -36,7 +38,7 @@ priorityNumber Priority.First = 0
 priorityNumber Priority.Last = 1
 priorityNumber Priority.List = 2
 
--- the 31 bytes of settings
+-- the 31 bytes of settings, without the margin
 abbrev pub recordOf : Settings → List ℕ
 recordOf s =
     16 ∷ 0 ∷ 28 ∷ (s .marks
@@ -44,6 +46,23 @@ recordOf s =
     ++ (alignmentNumber (s .horizontal) ∷ alignmentNumber (s .vertical) ∷ pick (s .«line_mode») 1 0
     ∷ priorityNumber (s .«width_priority») ∷ priorityNumber (s .«height_priority») ∷ []))))
 
+-- the 11 bytes of a margin
+abbrev pub marginBytes : Margin → List ℕ
+marginBytes m = 17 ∷ 0 ∷ 8 ∷ m .left ∷ m .right ∷ m .top ∷ m .bottom ∷ m .fills
+
 pub defaults-read : readSettings (recordOf defaults) ≡ read defaults
 unfolding readSettings
 defaults-read = refl
+
+-- a margin of 2 columns on the left, 1 line on top, of dots and stars
+pub margin-read : readSettings (recordOf defaults ++ (17 ∷ 0 ∷ 8 ∷ 2 ∷ 0 ∷ 1 ∷ 0 ∷ 46 ∷ 32 ∷ 42 ∷ 32 ∷ []))
+    ≡ read (record { margin = record { left = 2; right = 0; top = 1; bottom = 0; fills = 46 ∷ 32 ∷ 42 ∷ 32 ∷ [] }; marks = defaults .marks; left = 1; right = 1; top = 0; bottom = 0; fills = replicate 4 32; horizontal = Alignment.Start; vertical = Alignment.Start; «line_mode» = false; «width_priority» = Priority.List; «height_priority» = Priority.List })
+unfolding readSettings
+margin-read = refl
+
+-- a size of 17, a field cut short, a byte too many
+pub margin-refused : (readSettings (recordOf defaults ++ (17 ∷ 0 ∷ 8 ∷ 17 ∷ 0 ∷ 1 ∷ 0 ∷ 46 ∷ 32 ∷ 42 ∷ 32 ∷ [])) ≡ refused)
+    × (readSettings (recordOf defaults ++ (17 ∷ 0 ∷ 8 ∷ [])) ≡ refused)
+    × (readSettings (recordOf defaults ++ (17 ∷ 0 ∷ 8 ∷ 2 ∷ 0 ∷ 1 ∷ 0 ∷ 46 ∷ 32 ∷ 42 ∷ 32 ∷ 1 ∷ [])) ≡ refused)
+unfolding readSettings
+margin-refused = (refl, refl, refl)

@@ -1,4 +1,4 @@
--- Reading the settings record (document 01, "Settings record"): tag hex 10, two-byte length 28, 28 bytes, each in its own range.
+-- Reading the settings (document 01, "Settings record"; document 02, 1): tag hex 10, two-byte length 28, 28 bytes, each in its own range; then nothing, or the margin.
 use Prim.Native.Nat.{ℕ, _≤_, _<_}
 use mathlib.Core.Path.{_≡_}
 use mathlib.Core.Bool.{Bool, true, false}
@@ -8,6 +8,7 @@ use lib.Dec.{ltb, eqb}
 use Rattle.common.specs.Choice.{pick}
 use Rattle.settings.specs.declared.Settings.{Settings}
 use Rattle.settings.specs.declared.Alignment.{Alignment}
+use Rattle.settings.specs.declared.Margin.{Margin}
 use Rattle.settings.specs.declared.Priority.{Priority}
 use Rattle.settings.specs.declared.ReadSettings.{ReadSettings}
 
@@ -17,6 +18,13 @@ low = 16 ∷ 0 ∷ 28 ∷ (replicate 15 32 ++ (replicate 4 0 ++ (replicate 4 32 
 
 abbrev pub high : List ℕ
 high = 16 ∷ 0 ∷ 28 ∷ (replicate 15 126 ++ (replicate 4 16 ++ (replicate 4 126 ++ (2 ∷ 2 ∷ 1 ∷ 2 ∷ 2 ∷ []))))
+
+-- of the margin: tag hex 11, two-byte length 8, 4 sizes, 4 fills, in the padding's order and ranges
+abbrev pub marginLow : List ℕ
+marginLow = 17 ∷ 0 ∷ 8 ∷ (replicate 4 0 ++ replicate 4 32)
+
+abbrev pub marginHigh : List ℕ
+marginHigh = 17 ∷ 0 ∷ 8 ∷ (replicate 4 16 ++ replicate 4 126)
 
 -- as many bytes as bounds, each byte from its least to its greatest value
 unfoldable pub within : List ℕ → List ℕ → List ℕ → Bool
@@ -33,9 +41,17 @@ alignmentOf b = pick (eqb b 0) Alignment.Start (pick (eqb b 1) Alignment.Center 
 abbrev pub priorityOf : ℕ → Priority
 priorityOf b = pick (eqb b 0) Priority.First (pick (eqb b 1) Priority.Last Priority.List)
 
--- the fields, from the bytes of the record
-abbrev pub settingsOf : List ℕ → Settings
-settingsOf l = record {
+abbrev pub marginOf : List ℕ → Margin
+marginOf l = record { left = getD l 3 0; right = getD l 4 0; top = getD l 5 0; bottom = getD l 6 0; fills = take 4 (drop 7 l) }
+
+-- without the field
+abbrev pub noMargin : Margin
+noMargin = record { left = 0; right = 0; top = 0; bottom = 0; fills = replicate 4 32 }
+
+-- the fields, from the bytes of the record, with that margin
+abbrev pub settingsOf : Margin → List ℕ → Settings
+settingsOf m l = record {
+  margin = m;
   marks = take 15 (drop 3 l);
   left = getD l 18 0;
   right = getD l 19 0;
@@ -53,13 +69,24 @@ pub data Parsed : Type 0 where
   refused : Parsed
   read : Settings → Parsed
 
-unfoldable pub readSettings : List ℕ → Parsed
+-- what stands behind the first field: nothing, or the margin
+unfoldable pub readBehind : List ℕ → List ℕ → Parsed
 unfolding within
-readSettings l = pick (within low high l) (read (settingsOf l)) refused
+readBehind l [] = read (settingsOf noMargin l)
+readBehind l (b ∷ k) = pick (within marginLow marginHigh (b ∷ k)) (read (settingsOf (marginOf (b ∷ k)) l)) refused
+
+unfoldable pub readSettings : List ℕ → Parsed
+unfolding within readBehind
+readSettings l = pick (within low high (take 31 l)) (readBehind (take 31 l) (drop 31 l)) refused
+
+-- how many bytes of the program's input are settings, or all if there are fewer: 11 more where a hex 11 follows the first field
+unfoldable pub settingsEnd : List ℕ → ℕ
+settingsEnd l = pick (eqb (getD l 31 0) 17) 42 31
 
 -- what a refusal holds: 0 or no everywhere, and the variants numbered 0
 abbrev pub blank : Settings
 blank = record {
+  margin = record { left = 0; right = 0; top = 0; bottom = 0; fills = replicate 4 0 };
   marks = replicate 15 0;
   left = 0;
   right = 0;
@@ -93,4 +120,9 @@ pub record Ranges (s : Settings) : Type 0 where
   pub right : s .right ≤ 16
   pub top : s .top ≤ 16
   pub bottom : s .bottom ≤ 16
+  pub margin-left : s .margin .left ≤ 16
+  pub margin-right : s .margin .right ≤ 16
+  pub margin-top : s .margin .top ≤ 16
+  pub margin-bottom : s .margin .bottom ≤ 16
+  pub margin-fills : Printable 4 (s .margin .fills)
   pub fills : Printable 4 (s .fills)

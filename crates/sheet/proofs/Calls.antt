@@ -17,8 +17,10 @@ use Rattle.sizes.specs.Input.{Input, refused, given, inputOf}
 use Rattle.sizes.proofs.Nodes.{sizesAt}
 use Rattle.block.specs.Block.{tall, wide}
 use Rattle.block.proofs.Every.{Dims}
-use Rattle.layout.specs.Walk.{Placed, leaves, W, H}
-use Rattle.leaf.specs.Answers.{tooLarge, Prints, noPrint, printTo, leafPrintOf}
+use Rattle.layout.specs.Walk.{Placed, leaves, insideW, insideH}
+use Rattle.frame.specs.Frame.{W, H, tooLarge}
+use Rattle.frame.specs.Printer.{Prints, noPrint, printTo}
+use Rattle.leaf.specs.Answers.{leafPrintOf}
 use Rattle.sizes.proofs.Given.{takes, input-refusal}
 use Rattle.layout.proofs.Named.{LeafAt}
 use Rattle.leaf.proofs.Seek.{leaf-found}
@@ -115,14 +117,14 @@ module _ (bs ts o : List ℕ) (h : sheetOf (inputOf bs ts) o .answer .number ≡
   block-lines p o₁ e = rw (leaf-prints p o₁ e .bytes-are) (block-rectangle s t demands p)
 
   -- "Each place of an accepted sheet's rectangle lies in exactly one leaf's block"
-  pub each-place : (l k : ℕ) → l < H s t → k < W s t → OneLeaf s t l k
+  pub each-place : (l k : ℕ) → l < insideH s t → k < insideW s t → OneLeaf s t l k
   each-place l k p q = covered-once s t l k p q
 
   -- "no block has a place outside it"
-  pub no-place : {n : ℕ} {f : Placed} → LeafAt s t n f → (l k : ℕ) → Covers s f l k → (l < H s t) × (k < W s t)
+  pub no-place : {n : ℕ} {f : Placed} → LeafAt s t n f → (l k : ℕ) → Covers s f l k → (l < insideH s t) × (k < insideW s t)
   no-place p l k c = none-outside s t p l k c
 
   -- "the sheet's byte at each place equals the byte that the leaf printer, with the same settings and tree, writes there in that block"
   pub each-byte : {n : ℕ} {f : Placed} → LeafAt s t n f → (l k : ℕ) → Covers s f l k → (o₁ : List ℕ) → length (blockOf s f) ≤ length o₁
-      → placeAt (written (sheetOf (inputOf bs ts) o)) l k ≡ placeAt (written (leafPrintOf (inputOf bs ts) n o₁)) (l - f .at .line) (k - f .at .column)
+      → placeAt (written (sheetOf (inputOf bs ts) o)) (s .margin .top + l) (s .margin .left + k) ≡ placeAt (written (leafPrintOf (inputOf bs ts) n o₁)) (l - f .at .line) (k - f .at .column)
   each-byte p l k c o₁ e = rw (accepted .bytes, leaf-prints p o₁ e .bytes-are) (place-owned s t demands p l k c)

@@ -12,7 +12,7 @@ use Rattle.block.specs.Block.{block}
 use Rattle.block.specs.Every.{Every}
 use Rattle.block.proofs.Every.{every-append, every-front, every-back, every-map, every-and, every-elem, Dims, dims-append, dims-paired, byteAt, byte-left, byte-right, byte-above, byte-below}
 use Rattle.block.proofs.Dims.{block-dims}
-use Rattle.layout.specs.Walk.{Placed, leafOf, walk, root, leaves, W, H}
+use Rattle.layout.specs.Walk.{Placed, leafOf, walk, root, leaves, insideW, insideH}
 use Rattle.layout.proofs.Laid.{tallAt, wideAt, Laid, one, side, under, root-laid}
 use Rattle.layout.proofs.Narrow.{HasWidth}
 use Rattle.layout.proofs.Inside.{Inside, laid-inside}
@@ -80,7 +80,7 @@ laid-shows {s} {l} {k} {w = w} (under {h = h} {g = g} {fs = fs} {gs = gs} {x = x
 
 -- ---- the sheet
 
-pub sheet-dims : (s : Settings) (t : Tree) → Every HasWidth (leaves s t) → Dims (walk s t (root s t) .content) (H s t) (W s t)
+pub sheet-dims : (s : Settings) (t : Tree) → Every HasWidth (leaves s t) → Dims (walk s t (root s t) .content) (insideH s t) (insideW s t)
 sheet-dims s t n = laid-dims (root-laid s t) n
 
 -- the content's byte at a leaf's start plus (i, j) is its block's at (i, j)

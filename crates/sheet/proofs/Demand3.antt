@@ -16,15 +16,15 @@ use Rattle.block.specs.Content.{feeds}
 use Rattle.block.specs.Block.{block, tall, wide}
 use Rattle.block.specs.Every.{Every}
 use Rattle.block.proofs.Every.{every-elem, Dims, byteAt}
-use Rattle.layout.specs.Walk.{Placed, leafOf, leaves, W, H}
+use Rattle.layout.specs.Walk.{Placed, leafOf, leaves, insideW, insideH}
+use Rattle.frame.specs.Frame.{W, H}
 use Rattle.layout.proofs.Laid.{tallAt, wideAt}
 use Rattle.layout.proofs.Fit.{LeafFits, leaves-fit}
 use Rattle.layout.proofs.Named.{LeafAt, leaf-size}
 use Rattle.layout.proofs.Narrow.{HasWidth}
 use Rattle.sheet.specs.Sheet.{sheet}
 use Rattle.sheet.proofs.Tiling.{Covers, ExactlyOne, tiling, no-place-outside}
-use Rattle.sheet.proofs.Content.{sheet-dims, sheet-shows}
-use Rattle.sheet.proofs.Bytes.{leaf-dims}
+use Rattle.sheet.proofs.Bytes.{lines-dims, lines-show, leaf-dims}
 use Rattle.sheet.proofs.Parted.{sheet-parted, block-parted}
 
 -- ---- the words
@@ -61,12 +61,12 @@ one-leaf s t l k o = record {
   only = λ m g p c. sym (p .number) ∙ ap (λ (f : Placed). f .at .node) (elem-same (leaves s t) (p .stands) (o .stands) (o .only (p .index) g (p .stands) c));
 }
 
--- "Each place of an accepted sheet lies in exactly one leaf's block"
-pub covered-once : (s : Settings) (t : Tree) (l k : ℕ) → l < H s t → k < W s t → OneLeaf s t l k
+-- "Each place of an accepted sheet lies in exactly one leaf's block": of the rectangle inside the margin
+pub covered-once : (s : Settings) (t : Tree) (l k : ℕ) → l < insideH s t → k < insideW s t → OneLeaf s t l k
 covered-once s t l k p q = one-leaf s t l k (tiling s t l k p q)
 
 -- and no leaf's block has a place outside
-pub none-outside : (s : Settings) (t : Tree) {n : ℕ} {f : Placed} → LeafAt s t n f → (l k : ℕ) → Covers s f l k → (l < H s t) × (k < W s t)
+pub none-outside : (s : Settings) (t : Tree) {n : ℕ} {f : Placed} → LeafAt s t n f → (l k : ℕ) → Covers s f l k → (l < insideH s t) × (k < insideW s t)
 none-outside s t {f = f} p l k c = no-place-outside s t (p .index) f (p .stands) l k c
 
 -- ---- the rectangles, and whose bytes they show
@@ -74,7 +74,7 @@ none-outside s t {f = f} p l k c = no-place-outside s t (p .index) f (p .stands)
 module _ (s : Settings) (t : Tree) (a : Accepted s t) where
   -- "its rectangle is its H lines of W columns"
   pub sheet-rectangle : Dims (lines (sheet s t)) (H s t) (W s t)
-  sheet-rectangle = rw (sheet-parted s t (a .ranges) (a .widths)) (sheet-dims s t (a .widths))
+  sheet-rectangle = rw (sheet-parted s t (a .ranges) (a .widths)) (lines-dims s t (a .widths))
 
   module _ {n : ℕ} {f : Placed} (p : LeafAt s t n f) where
     block-lines : lines (blockOf s f) ≡ block s (leafOf f)
@@ -89,13 +89,13 @@ module _ (s : Settings) (t : Tree) (a : Accepted s t) where
     block-rectangle = rw (sizes-at (treeSizes s t) n _ (leaf-size s t p), block-lines) (leaf-dims s t (a .widths) (p .index) f (p .stands))
 
     -- the sheet's byte at the leaf's start plus (i, j) is the byte at (i, j) of its block
-    pub sheet-owned : (i j : ℕ) → i < tallAt s (f .at) → j < wideAt s (f .at) → placeAt (sheet s t) (f .at .line + i) (f .at .column + j) ≡ placeAt (blockOf s f) i j
-    sheet-owned i j h k = rw (sheet-parted s t (a .ranges) (a .widths), block-lines) (sheet-shows s t (a .widths) (p .index) f (p .stands) i j h k)
+    pub sheet-owned : (i j : ℕ) → i < tallAt s (f .at) → j < wideAt s (f .at) → placeAt (sheet s t) (s .margin .top + (f .at .line + i)) (s .margin .left + (f .at .column + j)) ≡ placeAt (blockOf s f) i j
+    sheet-owned i j h k = rw (sheet-parted s t (a .ranges) (a .widths), block-lines) (lines-show s t (a .widths) (p .index) f (p .stands) i j h k)
 
     -- the same, from a place that the block covers
-    pub place-owned : (l k : ℕ) → Covers s f l k → placeAt (sheet s t) l k ≡ placeAt (blockOf s f) (l - f .at .line) (k - f .at .column)
+    pub place-owned : (l k : ℕ) → Covers s f l k → placeAt (sheet s t) (s .margin .top + l) (s .margin .left + k) ≡ placeAt (blockOf s f) (l - f .at .line) (k - f .at .column)
     place-owned l k c =
         let i : f .at .line + (l - f .at .line) ≡ l = omega (arith, c .from-line) in
         let j : f .at .column + (k - f .at .column) ≡ k = omega (arith, c .from-column) in
-        subst₂ (λ (x y : ℕ). placeAt (sheet s t) x y ≡ placeAt (blockOf s f) (l - f .at .line) (k - f .at .column)) i j
+        subst₂ (λ (x y : ℕ). placeAt (sheet s t) (s .margin .top + x) (s .margin .left + y) ≡ placeAt (blockOf s f) (l - f .at .line) (k - f .at .column)) i j
         (sheet-owned (l - f .at .line) (k - f .at .column) (omega (arith, c .from-line, c .to-line)) (omega (arith, c .from-column, c .to-column)))

@@ -1,9 +1,9 @@
 -- The sheet is what the painting of its leaves' blocks, one after the other, gives. Assumes nothing.
-use mathlib.Core.Path.{_≡_, refl, sym, _∙_}
+use mathlib.Core.Path.{_≡_, refl, sym, ap, _∙_}
 use Prim.Native.Nat.{ℕ, _+_, _-_, _*_, _≤_}
 use native.Mathlib.Omega.{arith}
 use mathlib.Core.List.{List, [], _∷_, _++_}
-use lib.ListN.{length, replicate}
+use lib.ListN.{length, take, drop, replicate}
 use Rattle.settings.specs.declared.Settings.{Settings}
 use Rattle.tree.specs.Tree.{Tree}
 use Rattle.block.specs.Content.{feeds}
@@ -13,12 +13,15 @@ use Rattle.block.specs.Every.{Every}
 use Rattle.block.proofs.Every.{every-front, every-back}
 use Rattle.block.proofs.Pasted.{pasted-append, pasted-paired}
 use Rattle.block.proofs.Feeds.{pasted-feeds}
-use Rattle.layout.specs.Walk.{Placed, leafOf, walk, root, leaves, W, H}
+use Rattle.layout.specs.Walk.{Placed, leafOf, walk, root, leaves, insideW, insideH}
+use Rattle.frame.specs.Frame.{W, H}
 use Rattle.layout.proofs.Laid.{Laid, one, side, under, root-laid}
 use Rattle.layout.proofs.Narrow.{HasWidth}
-use Rattle.sheet.specs.Sheet.{sheet}
+use Rattle.sheet.specs.Sheet.{sheetLines, sheet}
+use Rattle.sheet.specs.Planning.{leftSide, rightSide, topSide, bottomSide, insideAt}
 use Rattle.sheet.proofs.Content.{laid-dims, sheet-dims}
-use Rattle.sheet.proofs.Bytes.{sheet-length}
+use Rattle.sheet.proofs.Bytes.{lines-dims, sheet-length}
+use Rattle.sheet.proofs.Margins.{margined-laid, pasted-behind}
 
 -- ---- the leaves' blocks, painted one after the other
 
@@ -54,12 +57,25 @@ laid-painted {s} {l} {k} stride o (under {h = h} {fs = fs} {gs = gs} {x = x} {y 
     painted-append s stride fs gs o
     ∙ rw (laid-painted stride o p np b, laid-painted stride (pasted o (l * stride + k) stride x) q nq b, e, pasted-append x y o (l * stride + k) stride, c .lines)
 
--- the sheet: its leaves painted over (W + 1) × H − 1 bytes of 0A, with stride W + 1; the bytes after them are as they were
-pub sheet-painted : (s : Settings) (t : Tree) (r : List ℕ) → Every HasWidth (leaves s t) → painted s (W s t + 1) (leaves s t) (replicate ((W s t + 1) * H s t - 1) 10 ++ r) ≡ sheet s t ++ r
-unfolding sheet
-sheet-painted s t r n =
+-- the rectangle inside: its leaves painted in the bytes from `base` on
+inside-painted : (s : Settings) (t : Tree) (stride base : ℕ) (o : List ℕ) → Every HasWidth (leaves s t) → insideW s t ≤ stride → base ≤ length o
+    → take base o ++ painted s stride (leaves s t) (drop base o) ≡ pasted o base stride (walk s t (root s t) .content)
+inside-painted s t stride base o n a h =
+    let e : base + (0 * stride + 0) ≡ base = omega arith in
+    ap (λ (q : List ℕ). take base o ++ q) (laid-painted stride (drop base o) (root-laid s t) n a)
+    ∙ pasted-behind (walk s t (root s t) .content) o base (0 * stride + 0) stride h ∙ rw e
+
+-- the sheet: over (W + 1) × H − 1 bytes of 0A, with stride W + 1, the left and the top margin, the leaves, the bottom and the right margin; the bytes after them are as they were
+pub sheet-painted : (s : Settings) (t : Tree) (r : List ℕ) → Every HasWidth (leaves s t) → (o₁ o₂ : List ℕ)
+    → let m = s .margin in let stride = W s t + 1 in let base = insideAt m stride in
+    o₁ ≡ pasted (pasted (replicate ((W s t + 1) * H s t - 1) 10 ++ r) 0 stride (leftSide m (H s t))) (m .left) stride (topSide m (insideW s t))
+    → base ≤ length o₁ → o₂ ≡ take base o₁ ++ painted s stride (leaves s t) (drop base o₁)
+    → pasted (pasted o₂ (base + insideH s t * stride) stride (bottomSide m (insideW s t))) (m .left + insideW s t) stride (rightSide m (H s t)) ≡ sheet s t ++ r
+unfolding sheet sheetLines W H
+sheet-painted s t r n o₁ o₂ e₁ h e₂ =
     let d = sheet-dims s t n in
-    let e : 0 * (W s t + 1) + 0 ≡ 0 = omega arith in
-    rw (← (sheet-length s t n))
-    (laid-painted (W s t + 1) (replicate (length (feeds (walk s t (root s t) .content))) 10 ++ r) (root-laid s t) n (omega arith)
-    ∙ rw e (pasted-feeds (walk s t (root s t) .content) r (W s t) (d .columns)))
+    let l = lines-dims s t n in
+    let x = walk s t (root s t) .content in
+    rw (e₂ ∙ inside-painted s t (W s t + 1) (insideAt (s .margin) (W s t + 1)) o₁ n (omega arith) h, e₁)
+    (margined-laid (s .margin) d (replicate ((W s t + 1) * H s t - 1) 10 ++ r) (W s t + 1) (omega arith)
+    ∙ rw (← (sheet-length s t n)) (pasted-feeds (sheetLines s t) r (W s t) (l .columns)))

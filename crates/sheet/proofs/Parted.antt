@@ -1,25 +1,27 @@
 -- Sheet and block read in lines parted at each 0A: they are the lines that were joined, since no line holds a 0A. Assumes nothing.
 use mathlib.Core.Path.{_≡_}
 use mathlib.Core.Logic.{_≢_}
-use Prim.Native.Nat.{ℕ, _<_}
+use Prim.Native.Nat.{ℕ, zero, suc, _<_}
 use native.Mathlib.Omega.{arith}
-use mathlib.Core.List.{List, [], _∷_}
-use lib.ListN.{length, getD, List·getD-eq-default}
+use mathlib.Core.List.{List, [], _∷_, _++_, map}
+use lib.ListN.{length, getD, replicate, List·getD-eq-default}
 use Rattle.settings.specs.declared.Settings.{Settings}
+use Rattle.settings.specs.declared.Margin.{Margin}
 use Rattle.settings.specs.Reading.{Printable, Ranges}
 use Rattle.tree.specs.Tree.{Tree}
 use Rattle.sizes.specs.Text.{lines}
 use Rattle.sizes.proofs.Either.{either}
+use Rattle.sizes.proofs.Heights.{natural-height}
 use Rattle.block.specs.Content.{feeds}
 use Rattle.block.specs.Block.{block}
 use Rattle.block.specs.Every.{Every}
-use Rattle.block.proofs.NoFeed.{Plain, NoFeed, no-feed-append, no-feed-paired, block-no-feed, lines-feeds}
-use Rattle.layout.specs.Walk.{Placed, leafOf, walk, root, leaves}
+use Rattle.block.proofs.NoFeed.{Plain, Free, NoFeed, no-feed-append, no-feed-paired, block-no-feed, lines-feeds}
+use Rattle.layout.specs.Walk.{Placed, leafOf, walk, root, leaves, insideW, insideH}
 use Rattle.layout.proofs.Laid.{Laid, one, side, under, root-laid}
 use Rattle.layout.proofs.Narrow.{HasWidth}
-use Rattle.sheet.specs.Sheet.{sheet}
+use Rattle.sheet.specs.Sheet.{between, margined, insideSheet, sheetLines, sheet}
 use Rattle.sheet.proofs.Content.{sheet-dims}
-use Rattle.sheet.proofs.Bytes.{some-lines}
+use Rattle.sheet.proofs.Bytes.{lines-dims, some-lines}
 
 -- ---- marks and fills are no 0A
 
@@ -43,9 +45,48 @@ parted : (x : List (List ℕ)) → NoFeed x → 0 < length x → lines (feeds x)
 parted [] n h = absurd (omega arith)
 parted (l ∷ x) n h = lines-feeds n
 
-pub sheet-parted : (s : Settings) (t : Tree) → Ranges s → Every HasWidth (leaves s t) → lines (sheet s t) ≡ walk s t (root s t) .content
-unfolding sheet
-sheet-parted s t r n = parted _ (laid-no-feed (plain s r) (root-laid s t)) (omega (arith, sheet-dims s t n .lines, some-lines s t))
+-- the lines between the margins
+free-mapped : (f : List ℕ → List ℕ) → ((l : List ℕ) → Free l → Free (f l)) → {x : List (List ℕ)} → NoFeed x → NoFeed (map f x)
+free-mapped f g NoFeed.none = NoFeed.none
+free-mapped f g (NoFeed.more {l = l} p h) = NoFeed.more (g l p) (free-mapped f g h)
+
+free-lines : (n k b : ℕ) → b ≢ 10 → NoFeed (replicate n (replicate k b))
+free-lines n k b h = go n
+  where
+    bytes : (k : ℕ) → Free (replicate k b)
+    bytes zero = Free.none
+    bytes (suc k) = Free.more h (bytes k)
+
+    go : (n : ℕ) → NoFeed (replicate n (replicate k b))
+    go zero = NoFeed.none
+    go (suc n) = NoFeed.more (bytes k) (go n)
+
+free-bytes : (k b : ℕ) → b ≢ 10 → Free (replicate k b)
+free-bytes zero b h = Free.none
+free-bytes (suc k) b h = Free.more h (free-bytes k b h)
+
+free-join : {l k : List ℕ} → Free l → Free k → Free (l ++ k)
+free-join Free.none q = q
+free-join (Free.more p h) q = Free.more p (free-join h q)
+
+margined-no-feed : (m : Margin) → ((i : ℕ) → getD (m .fills) i 0 ≢ 10) → (w : ℕ) {x : List (List ℕ)} → NoFeed x → NoFeed (margined m w x)
+unfolding margined
+margined-no-feed m f w h =
+    free-mapped (between m) (λ l p. between-free l p)
+    (no-feed-append (free-lines (m .top) w _ (f 2)) (no-feed-append h (free-lines (m .bottom) w _ (f 3))))
+  where
+    between-free : (l : List ℕ) → Free l → Free (between m l)
+    between-free l p = free-join (free-bytes (m .left) _ (f 0)) (free-join p (free-bytes (m .right) _ (f 1)))
+
+pub sheet-parted : (s : Settings) (t : Tree) → Ranges s → Every HasWidth (leaves s t) → lines (sheet s t) ≡ sheetLines s t
+unfolding sheet sheetLines
+sheet-parted s t r n =
+    parted _ (margined-no-feed (s .margin) (printable (s .margin .fills) (r .margin-fills)) (insideW s t) (laid-no-feed (plain s r) (root-laid s t)))
+    (omega (arith, lines-dims s t n .lines, some-lines s t))
+
+pub inside-parted : (s : Settings) (t : Tree) → Ranges s → Every HasWidth (leaves s t) → lines (insideSheet s t) ≡ walk s t (root s t) .content
+unfolding insideSheet insideH
+inside-parted s t r n = parted _ (laid-no-feed (plain s r) (root-laid s t)) (omega (arith, sheet-dims s t n .lines, natural-height s t))
 
 pub block-parted : (s : Settings) (f : Placed) → Ranges s → 0 < length (block s (leafOf f)) → lines (feeds (block s (leafOf f))) ≡ block s (leafOf f)
 block-parted s f r h = parted _ (block-no-feed s (plain s r) (leafOf f)) h

@@ -1,6 +1,6 @@
 -- What the sheet printer answers, from the plan and the walk. Assumes nothing.
 use mathlib.Core.Path.{_≡_, refl, sym, ap, _∙_}
-use Prim.Native.Nat.{ℕ, _+_, _-_, _*_, _≤_}
+use Prim.Native.Nat.{ℕ, suc, _+_, _-_, _*_, _≤_}
 use native.Mathlib.Omega.{arith}
 use native.Mathlib.Nat.{mul-le-mul}
 use mathlib.Core.Bool.{Bool, true, false}
@@ -15,30 +15,33 @@ use Rattle.tree.specs.Tree.{Tree}
 use Rattle.sizes.specs.declared.Measured.{Measured}
 use Rattle.sizes.specs.Input.{Input, refused, given, inputOf}
 use Rattle.sizes.specs.Core.{coreOf, measuredOf}
-use Rattle.block.specs.Paint.{Room}
+use Rattle.block.specs.Paint.{Room, pasted}
 use Rattle.block.specs.Every.{Every}
 use Rattle.block.proofs.Every.{every-map, every-and}
-use Rattle.leaf.specs.declared.Written.{Written}
+use Rattle.frame.specs.declared.Frame.{Frame}
 use Rattle.visit.specs.declared.Purpose.{Purpose}
 use Rattle.visit.specs.declared.Job.{Job}
 use Rattle.visit.specs.declared.Found.{Found}
-use Rattle.layout.specs.Walk.{Placed, leaves, W, H}
+use Rattle.layout.specs.Walk.{Placed, leaves, insideW, insideH}
+use Rattle.frame.specs.Frame.{W, H, frameOf, largeOf, tooLarge}
+use Rattle.frame.specs.Printer.{Prints, noPrint, printTo}
+use Rattle.frame.proofs.Printers.{Answers}
+use Rattle.frame.proofs.Sheets.{sheetFrame, frame-is, large-is, large-no}
 use Rattle.visit.specs.Visiting.{showAll, Asks}
 use Rattle.walk.specs.Walking.{coreLists, ReadyTree, WalksTree}
-use Rattle.leaf.specs.Answers.{tooLarge, Prints, noPrint, printTo, largeOf}
 use Rattle.layout.proofs.Laid.{root-laid}
 use Rattle.layout.proofs.Fit.{LeafFits, leaves-fit}
 use Rattle.layout.proofs.Inside.{Inside, laid-inside, room-inside}
 use Rattle.layout.proofs.Narrow.{HasWidth}
+use Rattle.sizes.proofs.Heights.{natural-height}
 use Rattle.sizes.proofs.Given.{refuses}
-use Rattle.leaf.proofs.Calls.{large-is, tree-ready, call, call-takes}
-use Rattle.sheet.specs.declared.Plan.{Plan}
+use Rattle.leaf.proofs.Calls.{tree-ready, call, call-takes}
 use Rattle.sheet.specs.Sheet.{sheet}
 use Rattle.sheet.specs.Answers.{narrow, sheetOf}
-use Rattle.sheet.specs.Planning.{zeroIn, noPlan, strideOf, bytesOf, planOf}
+use Rattle.sheet.specs.Planning.{zeroIn, refusalOf, leftSide, topSide, insideAt, Framed, beforeOf, afterOf}
 use Rattle.sheet.proofs.Bytes.{sheet-length}
 use Rattle.sheet.proofs.Painted.{painted, sheet-painted}
-use Rattle.sheet.proofs.Planned.{narrow-wide, narrow-is, stride-is, bytes-is, Good, planned-no, planned-yes}
+use Rattle.sheet.proofs.Planned.{narrow-wide, narrow-is, Good, planned-no, planned-yes}
 
 -- ---- the walk's fold for the sheet pastes every block
 
@@ -52,25 +55,44 @@ show-painted s stride o (l ∷ ls) = show-painted s stride _ ls
 
 -- ---- each block lies in the sheet's bytes
 
-large-case : (x : Bool) (a b : ℕ) → ltb 400 a ≡ x → pick x true (ltb 160 b) ≡ false → (a ≤ 400) × (b ≤ 160)
-large-case true a b e h = let z : _≡_ {A = ℕ} 0 1 = cc in absurd (omega arith)
-large-case false a b e h = (ltb-false _ _ e, ltb-false _ _ h)
+wide-within : (s : Settings) (t : Tree) → s .margin .left + insideW s t + s .margin .right ≤ W s t + 1
+unfolding W
+wide-within s t = omega arith
 
-pub large-no : (a b : ℕ) → pick (ltb 400 a) true (ltb 160 b) ≡ false → (a ≤ 400) × (b ≤ 160)
-large-no a b h = large-case (ltb 400 a) a b refl h
-
-sheet-room : (w h len : ℕ) → w ≤ 400 → h ≤ 160 → (w + 1) * h - 1 ≤ len → Room (0 * (w + 1) + 0) (w + 1) h w len
+sheet-room : (w h len : ℕ) → w ≤ 400 → h ≤ 160 → (w + 1) * h - 1 ≤ len → Room 0 (w + 1) h w len
 sheet-room w h len p q r = let m : (w + 1) * h ≤ 401 * 160 = mul-le-mul {n₂ = 401} {m₂ = 160} (omega arith) q in record { fits = omega arith; small = omega arith }
 
-leaves-ask : (u : Purpose) (s : Settings) (t : Tree) (len : ℕ) → tooLarge s t ≡ false → Every HasWidth (leaves s t) → (W s t + 1) * H s t - 1 ≤ len → Every (Asks (jobFor u s (W s t + 1)) len) (leaves s t)
-unfolding tooLarge
-leaves-ask u s t len g k r =
-    let n = large-no (W s t) (H s t) g in
-    let room = sheet-room (W s t) (H s t) len (n .0) (n .1) r in
-    every-map (λ l. (LeafFits s l × HasWidth l) × Inside s 0 0 (H s t) (W s t) l) (Asks (jobFor u s (W s t + 1)) len)
-    (λ l x. record { fits = x .0 .0; in-sheet = λ e. record { some = x .0 .1; apart = omega (arith, x .1 .right); room = room-inside (W s t + 1) len (x .1) room } })
-    (leaves s t)
-    (every-and (λ l. LeafFits s l × HasWidth l) (Inside s 0 0 (H s t) (W s t)) (leaves s t) (every-and (LeafFits s) HasWidth (leaves s t) (leaves-fit s t) k) (laid-inside (root-laid s t)))
+-- the rectangle inside starts within the bytes, and has room in those from its start on
+inside-in : (l t k b r w stride len : ℕ) → Room 0 stride (t + suc k + b) (l + w + r) len → l + t * stride ≤ len
+inside-in l t k b r w stride len x = omega (arith, x .fits)
+
+inside-room : (l t k b r w stride len : ℕ) → l + w + r ≤ stride → Room 0 stride (t + suc k + b) (l + w + r) len → Room (0 * stride + 0) stride (suc k) w (len - (l + t * stride))
+inside-room l t k b r w stride len a x =
+    let h = inside-in l t k b r w stride len x in
+    record { fits = omega (arith, x .fits); small = omega (arith, x .small) }
+
+module _ (s : Settings) (t : Tree) (len : ℕ) (large : tooLarge s t ≡ false) (enough : (W s t + 1) * H s t - 1 ≤ len) where
+  whole-room : Room 0 (W s t + 1) (s .margin .top + insideH s t + s .margin .bottom) (s .margin .left + insideW s t + s .margin .right) len
+  unfolding tooLarge W H
+  whole-room = let n = large-no (W s t) (H s t) large in sheet-room (W s t) (H s t) len (n .0) (n .1) enough
+
+  some-inside : insideH s t ≡ suc (insideH s t - 1)
+  unfolding insideH
+  some-inside = omega (arith, natural-height s t)
+
+  pub start-in : insideAt (s .margin) (W s t + 1) ≤ len
+  start-in = inside-in (s .margin .left) (s .margin .top) (insideH s t - 1) (s .margin .bottom) (s .margin .right) (insideW s t) (W s t + 1) len (rw (← some-inside) whole-room)
+
+  part-room : Room (0 * (W s t + 1) + 0) (W s t + 1) (insideH s t) (insideW s t) (len - insideAt (s .margin) (W s t + 1))
+  part-room =
+      rw some-inside (inside-room (s .margin .left) (s .margin .top) (insideH s t - 1) (s .margin .bottom) (s .margin .right) (insideW s t) (W s t + 1) len (wide-within s t) (rw (← some-inside) whole-room))
+
+  leaves-ask : (u : Purpose) → Every HasWidth (leaves s t) → Every (Asks (jobFor u s (W s t + 1)) (len - insideAt (s .margin) (W s t + 1))) (leaves s t)
+  leaves-ask u k =
+      every-map (λ l. (LeafFits s l × HasWidth l) × Inside s 0 0 (insideH s t) (insideW s t) l) (Asks (jobFor u s (W s t + 1)) (len - insideAt (s .margin) (W s t + 1)))
+      (λ l x. record { fits = x .0 .0; in-sheet = λ e. record { some = x .0 .1; apart = omega (arith, x .1 .right, wide-within s t); room = room-inside (W s t + 1) (len - insideAt (s .margin) (W s t + 1)) (x .1) part-room } })
+      (leaves s t)
+      (every-and (λ l. LeafFits s l × HasWidth l) (Inside s 0 0 (insideH s t) (insideW s t)) (leaves s t) (every-and (LeafFits s) HasWidth (leaves s t) (leaves-fit s t) k) (laid-inside (root-laid s t)))
 
 -- ---- what was filled and painted
 
@@ -79,99 +101,148 @@ filled o n h =
     let z : 0 + n ≡ n = omega arith in
     sets-eq (replicate n 10) o 0 (rw (length-replicate {A = ℕ} n 10) (omega arith)) ∙ rw (length-replicate {A = ℕ} n 10, z) refl
 
--- ---- as the printer has it
+-- ---- as the printer has it: m is what was measured, f the frame
 
-module _ (bs ts : List ℕ) (o : List ℕ) (m : Measured) (me : m ≡ measuredOf (inputOf bs ts)) where
-  pub sheet-refused : (m .number ≡ 0 → ⊥) → sheetOf (inputOf bs ts) o ≡ noPrint (m .number) o
-  unfolding sheetOf
-  sheet-refused h = rw (refuses bs ts m me h)
+-- the input was taken
+pub record Taken (bs ts : List ℕ) (m : Measured) : Type 0 where
+  pub measured : m ≡ measuredOf (inputOf bs ts)
+  pub zero : m .number ≡ 0
 
-  module _ (h : m .number ≡ 0) where
-    abbrev s : Settings
-    s = m .settings
+pub sheet-refused : (bs ts o : List ℕ) (m : Measured) → m ≡ measuredOf (inputOf bs ts) → (m .number ≡ 0 → ⊥) → sheetOf (inputOf bs ts) o ≡ noPrint (m .number) o
+unfolding sheetOf
+sheet-refused bs ts o m e h = rw (refuses bs ts m e h)
 
-    abbrev t : Tree
-    t = call bs ts m me h .tree
+module _ {bs ts : List ℕ} {m : Measured} (k : Taken bs ts m) where
+  abbrev s : Settings
+  s = m .settings
 
-    core-is : m .core ≡ coreOf s t
-    core-is = call bs ts m me h .core
+  abbrev t : Tree
+  t = call bs ts m (k .measured) (k .zero) .tree
 
-    pub core-few : m .core .count ≤ 512
-    unfolding coreOf
-    core-few = rw core-is (call-takes bs ts m me h .got .few)
+  core-is : m .core ≡ coreOf s t
+  core-is = call bs ts m (k .measured) (k .zero) .core
 
-    abbrev n : ℕ
-    n = bytesOf (m .core)
+  pub core-few : m .core .count ≤ 512
+  unfolding coreOf
+  core-few = rw core-is (call-takes bs ts m (k .measured) (k .zero) .got .few)
 
-    -- the answer for a sheet that fits
-    abbrev whole : Prints
-    whole = record { answer = record { number = 0; count = n }; out = sheet s t ++ drop n o }
+  module _ {f : Frame} (fe : f ≡ frameOf s (m .core)) where
+    -- the frame is the sheet's
+    frame-of : f ≡ sheetFrame s t
+    frame-of = fe ∙ frame-is s t (m .core) core-is
 
-    abbrev good : Plan
-    good = record { number = 0; stride = strideOf (m .core); count = n }
+    stride-is : f .stride ≡ W s t + 1
+    unfolding W
+    stride-is = rw frame-of
 
-    known : narrow (leaves s t) ≡ false → length (sheet s t) ≡ n
-    known e = sheet-length s t (narrow-wide (leaves s t) e) ∙ sym (bytes-is s t (m .core) core-is)
+    lines-is : f .lines ≡ H s t
+    unfolding H
+    lines-is = rw frame-of
 
-    narrow-case : (b : Bool) → narrow (leaves s t) ≡ b → pick b (noPrint 7 o) (printTo (sheet s t) o) ≡ pick b (noPrint 7 o) (pick (ltb (length o) n) (noPrint 8 o) whole)
-    narrow-case true e = refl
-    narrow-case false e = rw (known e)
+    wide-is : f .wide ≡ insideW s t
+    wide-is = rw frame-of
 
-    -- the definition's tests are the plan's
-    sheet-is : sheetOf (inputOf bs ts) o ≡ pick (largeOf (m .core)) (noPrint 6 o) (pick (zeroIn (take (m .core .count) (m .core .widths))) (noPrint 7 o) (pick (ltb (length o) n) (noPrint 8 o) whole))
-    unfolding sheetOf
-    sheet-is =
-        rw (call bs ts m me h .input, large-is s t (m .core) core-is, narrow-is s t (m .core) core-is)
-        (ap (λ (x : Prints). pick (tooLarge s t) (noPrint 6 o) x) (narrow-case (narrow (leaves s t)) refl))
+    tall-is : f .tall ≡ insideH s t
+    tall-is = rw frame-of
 
-    module _ (p : Plan) (pe : p ≡ planOf (m .core) (length o)) where
-      planned : p ≡ pick (largeOf (m .core)) (noPlan 6) (pick (zeroIn (take (m .core .count) (m .core .widths))) (noPlan 7) (pick (ltb (length o) n) (noPlan 8) good))
-      unfolding planOf
-      planned = pe
+    bytes-is : f .bytes ≡ (W s t + 1) * H s t - 1
+    unfolding W H
+    bytes-is = rw frame-of
 
-      pub sheet-no : (p .number ≡ 0 → ⊥) → sheetOf (inputOf bs ts) o ≡ noPrint (p .number) o
-      sheet-no k = sheet-is ∙ planned-no (largeOf (m .core)) (zeroIn (take (m .core .count) (m .core .widths))) (ltb (length o) n) o good p whole planned refl k
+    large-of : largeOf f ≡ tooLarge s t
+    large-of = rw fe (large-is s t (m .core) core-is)
 
-      module _ (k : p .number ≡ 0) where
-        passed : Good (largeOf (m .core)) (zeroIn (take (m .core .count) (m .core .widths))) (ltb (length o) n) good p
-        passed = planned-yes (largeOf (m .core)) (zeroIn (take (m .core .count) (m .core .widths))) (ltb (length o) n) good p planned k
+    module _ (o : List ℕ) where
+      -- the answer for a sheet that fits
+      abbrev whole : Prints
+      whole = record { answer = record { number = 0; count = f .bytes }; out = sheet s t ++ drop (f .bytes) o }
 
-        count-is : p .count ≡ n
-        count-is = ap (λ (y : Plan). y .count) (passed .is)
+      known : narrow (leaves s t) ≡ false → length (sheet s t) ≡ f .bytes
+      known e = sheet-length s t (narrow-wide (leaves s t) e) ∙ sym bytes-is
 
-        pub fits : 0 + p .count ≤ length o
-        fits = rw count-is (omega (arith, ltb-false (length o) n (passed .third)))
+      narrow-case : (b : Bool) → narrow (leaves s t) ≡ b → pick b (noPrint 7 o) (printTo (sheet s t) o) ≡ pick b (noPrint 7 o) (pick (ltb (length o) (f .bytes)) (noPrint 8 o) whole)
+      narrow-case true e = refl
+      narrow-case false e = rw (known e)
 
-        stride-of : p .stride ≡ W s t + 1
-        stride-of = ap (λ (y : Plan). y .stride) (passed .is) ∙ stride-is s t (m .core) core-is
+      -- the definition's tests are the printer's
+      sheet-is : sheetOf (inputOf bs ts) o ≡ pick (largeOf f) (noPrint 6 o) (pick (zeroIn (take (m .core .count) (m .core .widths))) (noPrint 7 o) (pick (ltb (length o) (f .bytes)) (noPrint 8 o) whole))
+      unfolding sheetOf
+      sheet-is =
+          rw (call bs ts m (k .measured) (k .zero) .input, large-of, narrow-is s t (m .core) core-is)
+          (ap (λ (x : Prints). pick (tooLarge s t) (noPrint 6 o) x) (narrow-case (narrow (leaves s t)) refl))
+
+      pub sheet-no : (n : ℕ) → n ≡ refusalOf (m .core) f (length o) → (n ≡ 0 → ⊥) → sheetOf (inputOf bs ts) o ≡ noPrint n o
+      unfolding refusalOf
+      sheet-no n e h = sheet-is ∙ planned-no (largeOf f) (zeroIn (take (m .core .count) (m .core .widths))) (ltb (length o) (f .bytes)) o n whole e h
+
+      module _ (none : refusalOf (m .core) f (length o) ≡ 0) where
+        passed : Good (largeOf f) (zeroIn (take (m .core .count) (m .core .widths))) (ltb (length o) (f .bytes))
+        unfolding refusalOf
+        passed = planned-yes (largeOf f) (zeroIn (take (m .core .count) (m .core .widths))) (ltb (length o) (f .bytes)) _ refl none
+
+        within : f .bytes ≤ length o
+        within = ltb-false (length o) (f .bytes) (passed .third)
+
+        pub fits : 0 + f .bytes ≤ length o
+        fits = omega (arith, within)
 
         widths : Every HasWidth (leaves s t)
         widths = narrow-wide (leaves s t) (sym (narrow-is s t (m .core) core-is) ∙ passed .second)
 
         large : tooLarge s t ≡ false
-        large = sym (large-is s t (m .core) core-is) ∙ passed .first
+        large = sym large-of ∙ passed .first
 
-        asks : (u : Purpose) (len : ℕ) → len ≡ length o → Every (Asks (jobFor u s (p .stride)) len) (leaves s t)
-        asks u len le = rw stride-of (leaves-ask u s t len large widths (omega (arith, le, bytes-is s t (m .core) core-is, ltb-false (length o) n (passed .third))))
+        enough : (W s t + 1) * H s t - 1 ≤ length o
+        enough = omega (arith, within, bytes-is)
 
-        -- the walk can start, whatever its purpose
-        pub sheet-ready : (u : Purpose) (len : ℕ) → len ≡ length o → ReadyTree (jobFor u s (p .stride)) ts (coreLists (m .core)) len
-        sheet-ready u len le = tree-ready (jobFor u s (p .stride)) ts t (m .core) len (call-takes bs ts m me h) core-is (asks u len le)
+        pub framed : {len : ℕ} → len ≡ length o → Framed (s .margin) f len
+        framed le =
+            let l = large-no (f .columns) (f .lines) (passed .first) in
+            rw (frame-of, le) (record {
+              lines-is = refl;
+              apart = omega arith;
+              room = rw frame-of at (sheet-room (f .columns) (f .lines) (length o) (l .0) (l .1) (rw frame-of (rw frame-of at within)));
+            })
 
-        sheet-shown : (len : ℕ) (le : len ≡ length o) (f : Found) (kept o₁ o₂ : List ℕ) → o₁ ≡ sets o 0 (replicate (p .count) 10)
-            → WalksTree (jobFor Purpose.Sheet s (p .stride)) (leaves s (sheet-ready Purpose.Sheet len le .tree)) f kept o₁ o₂ → o₂ ≡ sheet s t ++ drop n o
-        unfolding sheet-ready tree-ready
-        sheet-shown len le f kept o₁ o₂ oe w =
-            w .out-is
-            ∙ show-painted s (p .stride) o₁ (leaves s t)
-            ∙ rw (oe, filled o (p .count) (omega (arith, fits)), stride-of, count-is, bytes-is s t (m .core) core-is) (sheet-painted s t (drop ((W s t + 1) * H s t - 1) o) widths)
+        module _ {base : ℕ} (be : base ≡ insideAt (s .margin) (f .stride)) where
+          base-is : base ≡ insideAt (s .margin) (W s t + 1)
+          base-is = be ∙ rw stride-is
 
-        pub sheet-answers : (len : ℕ) (le : len ≡ length o) (f : Found) (kept o₁ o₂ : List ℕ) → o₁ ≡ sets o 0 (replicate (p .count) 10)
-            → WalksTree (jobFor Purpose.Sheet s (p .stride)) (leaves s (sheet-ready Purpose.Sheet len le .tree)) f kept o₁ o₂
-            → (_≡_ {A = Written} (record { number = 0; count = p .count }) (sheetOf (inputOf bs ts) o .answer)) × (o₂ ≡ sheetOf (inputOf bs ts) o .out)
-        sheet-answers len le f kept o₁ o₂ oe w =
-            let e : sheetOf (inputOf bs ts) o ≡ whole = sheet-is ∙ rw (passed .first, passed .second, passed .third) in
-            (rw (e, count-is), sheet-shown len le f kept o₁ o₂ oe w ∙ rw e)
+          pub base-in : base ≤ length o
+          base-in = rw base-is (start-in s t (length o) large enough)
+
+          module _ {len : ℕ} (le : len ≡ length o - base) where
+            asks : (u : Purpose) → Every (Asks (jobFor u s (f .stride)) len) (leaves s t)
+            asks u = rw (stride-is, le, base-is) (leaves-ask s t (length o) large enough u widths)
+
+            -- the walk can start, whatever its purpose
+            pub sheet-ready : (u : Purpose) → ReadyTree (jobFor u s (f .stride)) ts (coreLists (m .core)) len
+            sheet-ready u = tree-ready (jobFor u s (f .stride)) ts t (m .core) len (call-takes bs ts m (k .measured) (k .zero)) core-is (asks u)
+
+            -- filled with 0A, the margin before the leaves, the leaves in the bytes from `base` on, the margin after them
+            sheet-shown : (found : Found) (kept o₁ o₂ part q o₃ o₄ : List ℕ) → o₁ ≡ sets o 0 (replicate (f .bytes) 10)
+                → o₂ ≡ beforeOf (s .margin) f o₁ → length o₂ ≡ length o → part ≡ drop base o₂
+                → WalksTree (jobFor Purpose.Sheet s (f .stride)) (leaves s (sheet-ready Purpose.Sheet .tree)) found kept part q
+                → o₃ ≡ take base o₂ ++ q → o₄ ≡ afterOf (s .margin) f o₃ → o₄ ≡ sheet s t ++ drop (f .bytes) o
+            unfolding sheet-ready tree-ready
+            sheet-shown found kept o₁ o₂ part q o₃ o₄ e₁ e₂ l₂ ep w e₃ e₄ =
+                let r = drop ((W s t + 1) * H s t - 1) o in
+                let z₁ : o₁ ≡ replicate ((W s t + 1) * H s t - 1) 10 ++ r = e₁ ∙ rw (filled o (f .bytes) within, bytes-is) in
+                let z₂ : o₂ ≡ pasted (pasted (replicate ((W s t + 1) * H s t - 1) 10 ++ r) 0 (W s t + 1) (leftSide (s .margin) (H s t))) (s .margin .left) (W s t + 1) (topSide (s .margin) (insideW s t)) =
+                e₂ ∙ rw (lines-is, wide-is, stride-is, z₁) in
+                let zq : q ≡ painted s (W s t + 1) (leaves s t) (drop (insideAt (s .margin) (W s t + 1)) o₂) = w .out-is ∙ show-painted s (f .stride) part (leaves s t) ∙ rw (ep, base-is, stride-is) in
+                let z₃ : o₃ ≡ take (insideAt (s .margin) (W s t + 1)) o₂ ++ painted s (W s t + 1) (leaves s t) (drop (insideAt (s .margin) (W s t + 1)) o₂) = e₃ ∙ rw (zq, base-is) in
+                let i : insideAt (s .margin) (W s t + 1) ≤ length o₂ = rw l₂ (start-in s t (length o) large enough) in
+                e₄ ∙ rw (lines-is, wide-is, tall-is, stride-is, bytes-is) (sheet-painted s t r widths o₂ o₃ z₂ i z₃)
+
+            pub sheet-answers : (found : Found) (kept o₁ o₂ part q o₃ o₄ : List ℕ) → o₁ ≡ sets o 0 (replicate (f .bytes) 10)
+                → o₂ ≡ beforeOf (s .margin) f o₁ → length o₂ ≡ length o → part ≡ drop base o₂
+                → WalksTree (jobFor Purpose.Sheet s (f .stride)) (leaves s (sheet-ready Purpose.Sheet .tree)) found kept part q
+                → o₃ ≡ take base o₂ ++ q → o₄ ≡ afterOf (s .margin) f o₃
+                → Answers (record { number = 0; count = f .bytes }) o₄ (sheetOf (inputOf bs ts) o)
+            sheet-answers found kept o₁ o₂ part q o₃ o₄ e₁ e₂ l₂ ep w e₃ e₄ =
+                let e : sheetOf (inputOf bs ts) o ≡ whole = sheet-is ∙ rw (passed .first, passed .second, passed .third) in
+                (rw e, sheet-shown found kept o₁ o₂ part q o₃ o₄ e₁ e₂ l₂ ep w e₃ e₄ ∙ rw e)
 
 -- ---- no more bytes are written than were lent
 

@@ -12,7 +12,7 @@ use Rattle.sizes.proofs.Either.{either}
 use Rattle.sizes.proofs.Elems.{elem-front, elem-back, elem-in, elem-none, elem-first, elem-cases}
 use Rattle.block.specs.Every.{Every}
 use Rattle.block.proofs.Every.{every-map, every-elem}
-use Rattle.layout.specs.Walk.{Placed, leaves, W, H}
+use Rattle.layout.specs.Walk.{Placed, leaves, insideW, insideH}
 use Rattle.layout.proofs.Laid.{tallAt, wideAt, Laid, one, side, under, root-laid}
 use Rattle.layout.proofs.Inside.{Inside, laid-inside, leaf-inside}
 
@@ -76,10 +76,10 @@ laid-one {s} {l₀} {k₀} {w = w} (under {h = h} {g = g} {fs = fs} {gs = gs} p 
 -- ---- the sheet
 
 -- each place of the H × W rectangle lies in exactly one leaf's block
-pub tiling : (s : Settings) (t : Tree) (l k : ℕ) → l < H s t → k < W s t → ExactlyOne s (leaves s t) l k
+pub tiling : (s : Settings) (t : Tree) (l k : ℕ) → l < insideH s t → k < insideW s t → ExactlyOne s (leaves s t) l k
 tiling s t l k p q = laid-one (root-laid s t) l k (omega arith) (omega arith) (omega arith) (omega arith)
 
 -- and no leaf's block has a place outside
 pub no-place-outside : (s : Settings) (t : Tree) (j : ℕ) (g : Placed) → getElem? (leaves s t) j ≡ some g → (l k : ℕ) → Covers s g l k
-    → (l < H s t) × (k < W s t)
+    → (l < insideH s t) × (k < insideW s t)
 no-place-outside s t j g e l k c = omega (arith, leaf-inside s t j g e)

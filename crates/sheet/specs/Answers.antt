@@ -6,7 +6,8 @@ use lib.Dec.{eqb}
 use Rattle.common.specs.Choice.{pick}
 use Rattle.sizes.specs.Input.{Input, refused, given}
 use Rattle.layout.specs.Walk.{Placed, leaves}
-use Rattle.leaf.specs.Answers.{tooLarge, Prints, noPrint, printTo}
+use Rattle.frame.specs.Frame.{tooLarge}
+use Rattle.frame.specs.Printer.{Prints, noPrint, printTo}
 use Rattle.sheet.specs.Sheet.{sheet}
 
 -- a leaf is allotted width 0

@@ -6,12 +6,12 @@ use mathlib.Core.List.{List, [], _∷_, _++_}
 use lib.ListN.{length, replicate}
 use lib.Dec.{eqb}
 use Rattle.common.specs.Choice.{both}
-use Rattle.settings.specs.Reading.{readSettings}
+use Rattle.settings.specs.Reading.{readSettings, settingsEnd}
 use Rattle.tree.specs.Reading.{readTree, readElement, headerOf, isText}
 use Rattle.splits.specs.Figures.{same, all, cuts}
 use Rattle.sizes.specs.Sizes.{sep}
 use Rattle.sizes.specs.Input.{inputOf}
-use Rattle.leaf.specs.Answers.{Prints}
+use Rattle.frame.specs.Printer.{Prints}
 use Rattle.sheet.specs.Answers.{sheetOf}
 
 -- accepted, with these bytes at the front of an output of 64 bytes, which were 0, and their count
@@ -44,3 +44,36 @@ figures =
 pub figures-hold : all figures ≡ true
 unfolding all figures sep readSettings readTree readElement headerOf isText
 figures-hold = refl
+
+-- ---- with a margin (document 02, 1): 2 columns of dots on the left, 1 of `#` on the right, 1 line of stars on top, 0 below
+
+pub edged : List ℕ
+unfolding D
+edged = D ++ (17 ∷ 0 ∷ 8 ∷ 2 ∷ 1 ∷ 1 ∷ 0 ∷ 46 ∷ 35 ∷ 42 ∷ 32 ∷ [])
+
+-- a margin of no size, and one with a fill that is none
+pub plain : List ℕ
+unfolding D
+plain = D ++ (17 ∷ 0 ∷ 8 ∷ 0 ∷ 0 ∷ 0 ∷ 0 ∷ 32 ∷ 32 ∷ 32 ∷ 32 ∷ [])
+
+pub faulty : List ℕ
+unfolding D
+faulty = D ++ (17 ∷ 0 ∷ 8 ∷ 0 ∷ 0 ∷ 0 ∷ 0 ∷ 32 ∷ 32 ∷ 32 ∷ 10 ∷ [])
+
+pub edgedFigures : List Bool
+unfolding figure edged plain faulty sheetOf inputOf
+edgedFigures =
+    -- `..******#`, `..+----+#`, `..| ab |#`, `..+----+#`
+    figure edged (1 ∷ 0 ∷ 2 ∷ 97 ∷ 98 ∷ [])
+    (46 ∷ 46 ∷ 42 ∷ 42 ∷ 42 ∷ 42 ∷ 42 ∷ 42 ∷ 35 ∷ 10 ∷ 46 ∷ 46 ∷ 43 ∷ 45 ∷ 45 ∷ 45 ∷ 45 ∷ 43 ∷ 35 ∷ 10 ∷ 46 ∷ 46 ∷ 124 ∷ 32 ∷ 97 ∷ 98 ∷ 32 ∷ 124 ∷ 35 ∷ 10 ∷ 46 ∷ 46 ∷ 43 ∷ 45 ∷ 45 ∷ 45 ∷ 45 ∷ 43 ∷ 35 ∷ [])
+    -- F1 again
+    ∷ figure plain (1 ∷ 0 ∷ 2 ∷ 97 ∷ 98 ∷ []) (43 ∷ 45 ∷ 45 ∷ 45 ∷ 45 ∷ 43 ∷ 10 ∷ 124 ∷ 32 ∷ 97 ∷ 98 ∷ 32 ∷ 124 ∷ 10 ∷ 43 ∷ 45 ∷ 45 ∷ 45 ∷ 45 ∷ 43 ∷ [])
+    ∷ eqb (sheetOf (inputOf faulty (1 ∷ 0 ∷ 2 ∷ 97 ∷ 98 ∷ [])) (replicate 64 0) .answer .number) 1
+    -- the program's input: settings with a margin, settings without
+    ∷ eqb (settingsEnd (edged ++ (1 ∷ 0 ∷ 0 ∷ []))) 42
+    ∷ eqb (settingsEnd (D ++ (1 ∷ 0 ∷ 0 ∷ []))) 31
+    ∷ []
+
+pub edged-figures-hold : all edgedFigures ≡ true
+unfolding all edgedFigures sep readSettings readTree readElement headerOf isText settingsEnd
+edged-figures-hold = refl

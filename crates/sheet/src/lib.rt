@@ -1,21 +1,18 @@
 // The sheet printer: one walk that pastes every leaf's block at its start.
-use leaf::Written;
+use block::bytes::rows;
+use frame::Frame;
+use frame::Written;
+use settings::Margin;
 use sizes::Core;
 use visit::Job;
 use visit::Purpose;
 ghost use mathlib.Core.Path.{_≡_};
 ghost use Prim.Native.Nat.{_≤_};
-ghost use lib.ListN.{take};
+ghost use lib.ListN.{length, take};
+ghost use Rattle.block.specs.Paint.{Wrote};
 ghost use Rattle.sizes.specs.Input.{inputOf};
 ghost use Rattle.sheet.specs.Answers.{sheetOf};
-ghost use Rattle.sheet.specs.Planning.{zeroIn, noPlan, planOf};
-
-// What to print: the bytes from one line to the next, and all bytes; or a refusal.
-struct Plan {
-    number: u8,
-    stride: usize,
-    count: usize,
-}
+ghost use Rattle.sheet.specs.Planning.{zeroIn, refusalOf, Framed, insideAt, beforeOf, afterOf};
 
 // Whether one of the first `n` widths is 0.
 fn has_zero(widths: [u16; 512], n: usize) -> bool
@@ -32,40 +29,55 @@ fn has_zero(widths: [u16; 512], n: usize) -> bool
     false
 }
 
-fn no_plan(number: u8) -> Plan
-    ensures { λ r. ⌜ r ≡ noPlan number ⌝ }
-{
-    Plan {
-        number: number,
-        stride: 0,
-        count: 0,
-    }
-}
-
-// 6, 7 and 8 in this order, for an output of `len` bytes.
-fn plan_sheet(core: Core, len: usize) -> Plan
+// 6, 7 and 8 in this order, for an output of `len` bytes; 0 where the sheet is printed.
+fn refusal_of(core: Core, f: Frame, len: usize) -> u8
     requires { ⌜ core .count ≤ 512 ⌝ }
-    ensures { λ r. ⌜ r ≡ planOf core len ⌝ }
+    ensures { λ r. ⌜ r ≡ refusalOf core f len ⌝ }
 {
-    if leaf::is_large(core) {
-        return no_plan(6);
+    if frame::is_large(f) {
+        return 6;
     }
     let widths = core.widths;
     if has_zero(widths, core.count) {
-        return no_plan(7);
+        return 7;
     }
-    let natural_widths = core.natural_widths;
-    let natural_heights = core.natural_heights;
-    let stride = common::wide16(natural_widths[0]) + 3;
-    let count = stride * (common::wide16(natural_heights[0]) + 2) - 1;
-    if len < count {
-        return no_plan(8);
+    if len < f.bytes {
+        return 8;
     }
-    Plan {
-        number: 0,
-        stride: stride,
-        count: count,
-    }
+    0
+}
+
+// The left and the top margin; the answer is where the rectangle inside starts.
+fn margin_before(out: &mut [u8], m: Margin, f: Frame) -> usize
+    requires { ⌜ Framed m f (length (now out)) ⌝ }
+    ensures { λ r. ⌜ Wrote r (insideAt m (f .stride)) (now (out .exit)) (beforeOf m f (now (out .entry))) ⌝ }
+{
+    let left = common::wide(m.left);
+    rows(out, 0, f.stride, f.lines, left, m.fills[0]);
+    rows(out, left, f.stride, common::wide(m.top), f.wide, m.fills[2])
+}
+
+// The bottom and the right margin; the rectangle inside starts at `base`.
+fn margin_after(out: &mut [u8], m: Margin, f: Frame, base: usize)
+    requires { ⌜ Framed m f (length (now out)) × (base ≡ insideAt m (f .stride)) ⌝ }
+    ensures { λ _. ⌜ now (out .exit) ≡ afterOf m f (now (out .entry)) ⌝ }
+{
+    rows(
+        out,
+        base + f.tall * f.stride,
+        f.stride,
+        common::wide(m.bottom),
+        f.wide,
+        m.fills[3],
+    );
+    rows(
+        out,
+        common::wide(m.left) + f.wide,
+        f.stride,
+        f.lines,
+        common::wide(m.right),
+        m.fills[1],
+    );
 }
 
 // The sheet of the settings and the tree, its lines joined by 0A, at the start of the output.
@@ -75,32 +87,30 @@ pub fn print_sheet(settings: &[u8], tree: &[u8], out: &mut [u8]) -> Written
 {
     let m = sizes::measure_tree(settings, tree);
     if m.number != 0 {
-        return Written {
-            number: m.number,
-            count: 0,
-        };
+        return frame::refused(m.number);
     }
     let core = m.core;
-    let p = plan_sheet(core, out.len());
-    if p.number != 0 {
-        return Written {
-            number: p.number,
-            count: 0,
-        };
-    }
     let s = m.settings;
+    let f = frame::frame_of(s, core);
+    let number = refusal_of(core, f, out.len());
+    if number != 0 {
+        return frame::refused(number);
+    }
     // No node is wanted: their numbers end at 511.
     let job = Job {
         purpose: Purpose::Sheet,
         settings: s,
         wanted: 512,
-        stride: p.stride,
+        stride: f.stride,
     };
-    block::bytes::fill(out, 0, p.count, 10);
+    block::bytes::fill(out, 0, f.bytes, 10);
+    let margin = s.margin;
+    let base = margin_before(out, margin, f);
     let mut kept = [0u16; 1024];
-    walk::walk_core(tree, core, job, &mut kept, out);
+    walk::walk_core(tree, core, job, &mut kept, &mut out[base..]);
+    margin_after(out, margin, f, base);
     Written {
         number: 0,
-        count: p.count,
+        count: f.bytes,
     }
 }

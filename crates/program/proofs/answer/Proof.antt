@@ -5,6 +5,7 @@ use native.Mathlib.Omega.{arith}
 use mathlib.Core.List.{List}
 use lib.ListN.{length}
 use lib.Seq.{length-take-le}
+use Rattle.settings.specs.Reading.{settingsEnd}
 use Rattle.program.specs.Program.{programOf}
 use Rattle.program.proofs.Told.{Told, Printed, parts, told, refusal-answered, sheet-answered}
 use Rattle.program.proofs.answer.Statement.{statement}
@@ -21,7 +22,7 @@ long c = search needs
 
 told-of : (c : tie.After-print-sheet) → Told (programOf (input c)) (out c) (c .print-sheet .result) (c .print-sheet .last .1 .1 .0)
 told-of c =
-    let p = parts 31 (input c) _ (c .before .before .before .before .settings-end .ensures) in
+    let p = parts (settingsEnd (input c)) (input c) _ (c .before .before .before .before .settings-end .ensures .0) in
     told (input c) (out c) _ _ _ _ (omega (arith, long c)) (p .0) (p .1) (c .print-sheet .ensures .0) (c .print-sheet .ensures .1)
 
 printed : (c : tie.Else1) → Printed (programOf (input (c .before .before))) (out (c .before .before)) (c .before .before .print-sheet .result) (c .before .before .print-sheet .last .1 .1 .0)
@@ -31,7 +32,7 @@ settings-end-requires : tie.Need-settings-end-requires
 settings-end-requires c κs = search needs
 
 slice-aggregate-print-sheet : tie.Need-slice-aggregate-print-sheet
-slice-aggregate-print-sheet c = sym (length-take-le _ _ (omega (arith, c .before .settings-end .ensures)))
+slice-aggregate-print-sheet c = sym (length-take-le _ _ (c .before .settings-end .ensures .1))
 
 sub-print-sheet : tie.Need-sub-print-sheet
 sub-print-sheet c = search needs

@@ -6,7 +6,7 @@ use Rattle.program.proofs.input_buffer.Statement.{statement}
 use Rattle.program.proofs.input_buffer.Tie as tie
 
 returns : tie.Need-returns
-returns c = buffer-front (replicate 32800 0) (sym (length-replicate {A = ℕ} 32800 0))
+returns c = buffer-front (replicate 32811 0) (sym (length-replicate {A = ℕ} 32811 0))
 
 pub input-buffer-spec : {M : Type 1} → statement M
 input-buffer-spec = tie.close (tie.spec returns)

@@ -1,0 +1,9 @@
+use borrow.Author.Needs.{needs}
+use Rattle.settings.proofs.refused.Statement.{statement}
+use Rattle.settings.proofs.refused.Tie as tie
+
+returns : tie.Need-returns
+returns c = rw (c .blank .ensures)
+
+pub refused-spec : {M : Type 1} → statement M
+refused-spec = tie.close (tie.spec (λ c κs. search needs) returns)
