@@ -1,9 +1,9 @@
-//! The public calls of document 01, as one trait that each side of a comparison implements: `sides::Original` (the crate's answers under
-//! the document's refusals), `sides::Paper` (the document's words) and, in a driver, the proved library.
+//! The public calls, as one trait that each side of a comparison implements: `sides::Original` (the crate's answers under the documents'
+//! refusals), `sides::Paper` (the documents' words) and, in a driver, the proved library.
 //!
 //! On a refusal every field beside the number is 0 or no, and no lent list or output is written.
 
-use crate::form::{Flags, Settings};
+use crate::form::{Flags, Margin, Settings};
 use crate::judge;
 
 /// A number and the settings.
@@ -11,6 +11,13 @@ use crate::judge;
 pub struct ReadSettings {
     pub number: u8,
     pub settings: Settings,
+}
+
+/// A number and the margin.
+#[derive(Debug, Clone, Copy, PartialEq, Eq)]
+pub struct ReadMargin {
+    pub number: u8,
+    pub margin: Margin,
 }
 
 /// A number and a count of nodes, entries or bytes.
@@ -120,6 +127,9 @@ pub struct Shared {
 
 pub trait Calls {
     fn read_settings(&mut self, settings: &[u8]) -> ReadSettings;
+
+    /// The margin alone, of the same bytes.
+    fn read_margin(&mut self, settings: &[u8]) -> ReadMargin;
 
     /// Answers the node count.
     fn read_tree(&mut self, tree: &[u8]) -> Counted;

@@ -4,8 +4,8 @@ use std::collections::BTreeMap;
 use std::fmt;
 
 use crate::calls::{Calls, SizeRecord, SplitList};
-use crate::form::{encode_settings, encode_tree, Settings, Tree};
-use crate::gen::{self, Case, Rng};
+use crate::form::{encode_margin, encode_settings, encode_tree, Margin, Settings, Tree};
+use crate::gen::{self, Case, Margins, Rng};
 use crate::judge;
 
 /// Where two sides part.
@@ -48,8 +48,9 @@ impl Counts {
 }
 
 /// The numbers that each call can give, by document 01's table.
-pub const NUMBERS: [(&str, &[u8]); 10] = [
+pub const NUMBERS: [(&str, &[u8]); 11] = [
     ("settings", &[0, 1]),
+    ("margin", &[0, 1]),
     ("tree", &[0, 2, 3, 4, 5]),
     ("sizes", &[0, 1, 2, 3, 4, 5, 8]),
     ("leaf record", &[0, 1, 2, 3, 4, 5, 6, 9]),
@@ -170,6 +171,17 @@ impl<'a> Comparison<'a> {
         )
     }
 
+    fn read_margin(&mut self, settings: &[u8]) -> Result<(), Difference> {
+        self.call(
+            "margin",
+            || bytes(settings),
+            |side| {
+                let answer = side.read_margin(settings);
+                (answer.number, answer)
+            },
+        )
+    }
+
     fn read_tree(&mut self, tree: &[u8]) -> Result<(), Difference> {
         self.call(
             "tree",
@@ -241,6 +253,7 @@ impl<'a> Comparison<'a> {
     pub fn case(&mut self, case: &Case) -> Result<(), Difference> {
         let (settings, tree) = (&case.settings, &case.tree);
         self.read_settings(settings)?;
+        self.read_margin(settings)?;
         self.read_tree(tree)?;
         self.sizes(settings, tree, case.list)?;
         self.leaf_record(settings, tree, case.node)?;
@@ -255,6 +268,7 @@ impl<'a> Comparison<'a> {
         let settings = encode_settings(settings);
         let tree = encode_tree(tree);
         self.read_settings(&settings)?;
+        self.read_margin(&settings)?;
         self.read_tree(&tree)?;
         self.sizes(&settings, &tree, nodes + 3)?;
         self.sizes(&settings, &tree, nodes - 1)?;
@@ -310,18 +324,65 @@ impl<'a> Comparison<'a> {
         )
     }
 
-    /// Settings records of every length up to 33, and with every byte at every place.
+    /// Settings of any form: both readers, and the sheet of a small table.
+    fn settings(&mut self, settings: &[u8]) -> Result<(), Difference> {
+        self.read_settings(settings)?;
+        self.read_margin(settings)?;
+        self.sheet(settings, b"\x01\x00\x02ab", 4096)
+    }
+
+    /// Settings of one field and of both: of every length up to 44, behind every tag; with every byte at every place; the fields alone, in the wrong
+    /// order and twice; margins of every size on every side.
     pub fn settings_records(&mut self) -> Result<(), Difference> {
-        let record = encode_settings(&Settings::M);
-        let long = [&record[..], &record[..2]].concat();
-        for length in 0..=long.len() {
-            self.read_settings(&long[..length])?;
+        let edged = Margin {
+            sizes: [1, 2, 1, 1],
+            fills: *b"lrtb",
+        };
+        let first = encode_settings(&Settings::M);
+        let second = encode_margin(&edged);
+        let both = [&first[..], &second].concat();
+        for tag in [0x10, 0x11, 0x12] {
+            for field in [0, first.len()] {
+                let mut long = [&both[..], &second[..2]].concat();
+                long[field] = tag;
+                for length in 0..=long.len() {
+                    self.settings(&long[..length])?;
+                }
+            }
         }
-        for at in 0..record.len() {
-            for byte in 0..=255 {
-                let mut bytes = record.clone();
-                bytes[at] = byte;
-                self.read_settings(&bytes)?;
+        for record in [&first, &both] {
+            for at in 0..record.len() {
+                for byte in 0..=255 {
+                    let mut bytes = record.clone();
+                    bytes[at] = byte;
+                    self.settings(&bytes)?;
+                }
+            }
+        }
+        let none = encode_margin(&Margin::NONE);
+        let fields: [&[&[u8]]; 7] = [
+            &[&second],
+            &[&second, &first],
+            &[&first, &first],
+            &[&first, &second, &second],
+            &[&first, &second, &first],
+            &[&first, &none],
+            &[&none, &none, &none, &none],
+        ];
+        for fields in fields {
+            self.settings(&fields.concat())?;
+        }
+        for side in 0..4 {
+            for size in 0..=17 {
+                let mut margin = Margin {
+                    sizes: [0; 4],
+                    ..edged
+                };
+                margin.sizes[side] = size;
+                self.settings(&[&first[..], &encode_margin(&margin)].concat())?;
+                margin.sizes = [size; 4];
+                margin.sizes[side] = 0;
+                self.settings(&[&first[..], &encode_margin(&margin)].concat())?;
             }
         }
         Ok(())
@@ -364,15 +425,18 @@ impl<'a> Comparison<'a> {
         Ok(())
     }
 
-    /// Sheets around 400 columns by 160 lines, then so many tables on each side of each limit, −2 to 2 from it.
+    /// Sheets around 400 columns by 160 lines with margins and without, then so many tables on each side of each limit, −2 to 2 from it.
     pub fn limits(&mut self, rng: &mut Rng, rounds: usize) -> Result<(), Difference> {
-        for (width, height) in [(0, 0), (-1, 0), (0, -1), (1, 0), (0, 1), (1, 1)] {
-            self.table(&Settings::D, &gen::corner(width, height))?;
+        for sizes in [[0; 4], [1, 0, 0, 1], [0, 3, 2, 0], [16; 4]] {
+            for (width, height) in [(0, 0), (-1, 0), (0, -1), (1, 0), (0, 1), (1, 1)] {
+                let (settings, tree) = gen::corner(sizes, width, height);
+                self.table(&settings, &tree)?;
+            }
         }
         for limit in gen::LIMITS {
             for offset in -2..=2 {
                 for _ in 0..rounds {
-                    let (settings, tree) = gen::near(rng, limit, offset);
+                    let (settings, tree) = gen::near(rng, Margins::Half, limit, offset);
                     let (settings, tree) = (encode_settings(&settings), encode_tree(&tree));
                     for _ in 0..4 {
                         let case = gen::case(rng, settings.clone(), tree.clone());
@@ -387,7 +451,7 @@ impl<'a> Comparison<'a> {
     /// So many whole tables of ordinary size.
     pub fn tables(&mut self, rng: &mut Rng, rounds: usize) -> Result<(), Difference> {
         for _ in 0..rounds {
-            let (settings, tree) = gen::table(rng);
+            let (settings, tree) = gen::table(rng, Margins::Half);
             self.table(&settings, &tree)?;
         }
         Ok(())
@@ -396,7 +460,7 @@ impl<'a> Comparison<'a> {
     /// So many cases of any kind, damaged bytes among them.
     pub fn cases(&mut self, rng: &mut Rng, rounds: usize) -> Result<(), Difference> {
         for _ in 0..rounds {
-            let case = gen::any_case(rng);
+            let case = gen::any_case(rng, Margins::Half);
             self.case(&case)?;
         }
         Ok(())

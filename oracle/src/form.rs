@@ -1,6 +1,29 @@
-//! Settings and trees as plain values, and document 01's byte forms of them.
+//! Settings and trees as plain values, and the byte forms of documents 01 and 02 of them.
 
-/// Document 01's settings record, its numbers as they stand in the bytes.
+/// The white edge around a sheet: document 02's second settings field, its numbers as they stand in the bytes.
+#[derive(Debug, Clone, Copy, PartialEq, Eq)]
+pub struct Margin {
+    /// Left, right, top, bottom.
+    pub sizes: [u8; 4],
+    /// In the same order.
+    pub fills: [u8; 4],
+}
+
+impl Margin {
+    /// Where there is no field.
+    pub const NONE: Margin = Margin {
+        sizes: [0; 4],
+        fills: [b' '; 4],
+    };
+
+    /// What stands beside a refusal.
+    pub const BLANK: Margin = Margin {
+        sizes: [0; 4],
+        fills: [0; 4],
+    };
+}
+
+/// The settings, their numbers as they stand in the bytes: document 01's record and document 02's margin.
 #[derive(Debug, Clone, Copy, PartialEq, Eq)]
 pub struct Settings {
     /// Top, bottom, left, right, horizontal, vertical, top_left, top_right, top_intersection, bottom_left, bottom_right,
@@ -20,6 +43,7 @@ pub struct Settings {
     pub width_priority: u8,
     /// 0 First, 1 Last, 2 List.
     pub height_priority: u8,
+    pub margin: Margin,
 }
 
 impl Settings {
@@ -33,6 +57,7 @@ impl Settings {
         line_mode: 0,
         width_priority: 2,
         height_priority: 2,
+        margin: Margin::NONE,
     };
 
     /// What stands beside a refusal.
@@ -45,6 +70,7 @@ impl Settings {
         line_mode: 0,
         width_priority: 0,
         height_priority: 0,
+        margin: Margin::BLANK,
     };
 
     /// The set M of the figures.
@@ -92,8 +118,22 @@ impl Tree {
     }
 }
 
-/// The 31 bytes.
+/// The first field's 31 bytes, and the second's 11 where there is a margin.
 pub fn encode_settings(settings: &Settings) -> Vec<u8> {
+    let mut bytes = encode_record(settings);
+    if settings.margin != Margin::NONE {
+        bytes.extend(encode_margin(&settings.margin));
+    }
+    bytes
+}
+
+/// The second field.
+pub fn encode_margin(margin: &Margin) -> Vec<u8> {
+    [&[0x11, 0, 8], &margin.sizes[..], &margin.fills[..]].concat()
+}
+
+/// The first field.
+pub fn encode_record(settings: &Settings) -> Vec<u8> {
     let mut bytes = vec![0x10, 0, 28];
     bytes.extend(settings.marks);
     bytes.extend(settings.padding);

@@ -1,6 +1,6 @@
 //! Inputs: exhaustive small ones, random ones, those on each side of each limit, damaged ones.
 
-use crate::form::{encode_settings, encode_tree, Settings, Tree};
+use crate::form::{encode_settings, encode_tree, Margin, Settings, Tree};
 use crate::judge;
 use crate::paper;
 
@@ -100,11 +100,18 @@ pub fn two_groups(texts: &[&str]) -> Vec<Tree> {
     list
 }
 
-/// Every choice of alignments, line mode and priorities, with a padding on two sides and four fills.
+/// Every choice of alignments, line mode and priorities, with a padding on two sides and four fills; every second one with a margin, each side of
+/// which is 0 to 16 in turn.
 pub fn choices() -> Vec<Settings> {
     let mut list = Vec::new();
     for n in 0..162u8 {
+        let turn = |step: u8| ((u16::from(n / 2) * u16::from(step) + u16::from(step)) % 17) as u8;
+        let edged = Margin {
+            sizes: [1, 3, 5, 7].map(turn),
+            fills: *b"LRTB",
+        };
         list.push(Settings {
+            margin: if n % 2 == 0 { Margin::NONE } else { edged },
             horizontal: n % 3,
             vertical: n / 3 % 3,
             line_mode: n / 9 % 2,
@@ -144,7 +151,21 @@ pub fn few_settings() -> Vec<Settings> {
         height_priority: 0,
         ..Settings::M
     };
-    vec![Settings::D, Settings::M, bare, wide, late]
+    let edged = Settings {
+        margin: Margin {
+            sizes: [1, 2, 1, 1],
+            fills: *b"LRTB",
+        },
+        ..bare
+    };
+    let punched = Settings {
+        margin: Margin {
+            sizes: [16, 0, 0, 3],
+            fills: *b"LRTB",
+        },
+        ..wide
+    };
+    vec![Settings::D, Settings::M, bare, wide, late, edged, punched]
 }
 
 /// All byte strings of up to so many bytes, over a few that look like elements.
@@ -203,8 +224,34 @@ pub fn long_trees() -> Vec<Vec<u8>> {
 
 // Random
 
+/// Whether random settings have a margin.
+#[derive(Debug, Clone, Copy, PartialEq, Eq)]
+pub enum Margins {
+    /// None has. Nothing is drawn for it.
+    None,
+    /// Half of them have.
+    Half,
+}
+
+/// A margin, each side 0 to 16, with a lean to small ones.
+fn margin(rng: &mut Rng) -> Margin {
+    let most = rng.pick(&[0, 1, 1, 3, 16]);
+    let mut margin = Margin::NONE;
+    for size in &mut margin.sizes {
+        *size = if rng.one_in(8) {
+            16
+        } else {
+            rng.between(0, most) as u8
+        };
+    }
+    if !rng.one_in(4) {
+        margin.fills = [0; 4].map(|_: u8| rng.between(0x20, 0x7E) as u8);
+    }
+    margin
+}
+
 /// Settings of the form, mostly with fifteen different marks.
-pub fn settings(rng: &mut Rng) -> Settings {
+pub fn settings(rng: &mut Rng, margins: Margins) -> Settings {
     let mut bytes: Vec<u8> = (0x20..=0x7E).collect();
     for at in 0..19 {
         let other = rng.between(at, bytes.len() - 1);
@@ -233,6 +280,11 @@ pub fn settings(rng: &mut Rng) -> Settings {
         line_mode: rng.below(2) as u8,
         width_priority: rng.below(3) as u8,
         height_priority: rng.below(3) as u8,
+        margin: if margins == Margins::Half && rng.one_in(2) {
+            margin(rng)
+        } else {
+            Margin::NONE
+        },
     }
 }
 
@@ -394,6 +446,7 @@ fn tree_of_bytes(rng: &mut Rng, bytes: usize) -> Tree {
 fn tree_of_extent(rng: &mut Rng, settings: &Settings, target: usize, is_width: bool) -> Tree {
     let growth = Growth { width: 6, lines: 4 };
     let padding = settings.padding.map(usize::from);
+    let margin = settings.margin.sizes.map(usize::from);
     let filled = |length: usize| {
         if is_width {
             Tree::Cell(vec![b'w'; length])
@@ -407,16 +460,22 @@ fn tree_of_extent(rng: &mut Rng, settings: &Settings, target: usize, is_width: b
     } else {
         padding[2] + padding[3] + 1
     };
+    // What a sheet has beside its root.
+    let edge = if is_width {
+        margin[0] + margin[1] + 2
+    } else {
+        margin[2] + margin[3] + 2
+    };
 
     let mut nodes = rng.between(1, 40);
     loop {
         let depth = rng.between(2, 8);
         let part = tree(rng, nodes, depth, growth);
-        let (w, h) = paper::rectangle(&paper::sizes(settings, &part));
+        let (w, h) = paper::rectangle(settings, &paper::sizes(settings, &part));
         let extent = if is_width { w } else { h };
         // Side by side the extents and a separator add up; one under the other the greater counts.
         let adds = rng.one_in(2);
-        let needed = if adds { extent + 1 + own } else { 2 + own };
+        let needed = if adds { extent + 1 + own } else { edge + own };
         if extent <= target && needed <= target {
             let mut children = vec![part];
             let at = rng.below(2);
@@ -432,10 +491,10 @@ fn tree_of_extent(rng: &mut Rng, settings: &Settings, target: usize, is_width: b
 }
 
 /// Settings and a tree that stand exactly so far from a limit.
-pub fn near(rng: &mut Rng, limit: Limit, offset: isize) -> (Settings, Tree) {
+pub fn near(rng: &mut Rng, margins: Margins, limit: Limit, offset: isize) -> (Settings, Tree) {
     let at = |limit: usize| limit.checked_add_signed(offset).expect("a small offset");
     let growth = Growth { width: 3, lines: 2 };
-    let mut settings = settings(rng);
+    let mut settings = settings(rng, margins);
     let tree = match limit {
         Limit::Nodes => {
             let nodes = at(judge::NODES);
@@ -462,17 +521,26 @@ pub fn near(rng: &mut Rng, limit: Limit, offset: isize) -> (Settings, Tree) {
     (settings, tree)
 }
 
-/// A Cell over another: W is so far from its limit under the defaults, and H from its.
-pub fn corner(width: isize, height: isize) -> Tree {
+/// The defaults with a margin of these sizes, and a Cell over another: W is so far from its limit, and H from its.
+pub fn corner(sizes: [u8; 4], width: isize, height: isize) -> (Settings, Tree) {
     let at =
         |limit: usize, offset: isize| limit.checked_add_signed(offset).expect("a small offset");
-    let letters = at(judge::SHEET_WIDTH, width) - 4;
+    let [left, right, top, bottom] = sizes.map(usize::from);
+    let letters = at(judge::SHEET_WIDTH, width) - 4 - left - right;
     // Two lines of the sheet's edge, one of the Cell above, one between, and one that no feed ends.
-    let feeds = at(judge::SHEET_HEIGHT, height) - 5;
-    Tree::Column(vec![
+    let feeds = at(judge::SHEET_HEIGHT, height) - 5 - top - bottom;
+    let settings = Settings {
+        margin: Margin {
+            sizes,
+            ..Margin::NONE
+        },
+        ..Settings::D
+    };
+    let tree = Tree::Column(vec![
         Tree::Cell(vec![b'w'; letters]),
         Tree::Cell(vec![0x0A; feeds]),
-    ])
+    ]);
+    (settings, tree)
 }
 
 /// Groups of many small leaves beside groups of a few: long split lists, cut in many places.
@@ -504,8 +572,8 @@ fn stack(rng: &mut Rng) -> Tree {
 }
 
 /// Settings and a tree of ordinary size, with a lean to small ones.
-pub fn table(rng: &mut Rng) -> (Settings, Tree) {
-    let mut settings = settings(rng);
+pub fn table(rng: &mut Rng, margins: Margins) -> (Settings, Tree) {
+    let mut settings = settings(rng, margins);
     if rng.one_in(6) {
         settings.padding = settings.padding.map(|size| size % 2);
         return (settings, stack(rng));
@@ -615,14 +683,14 @@ pub fn case(rng: &mut Rng, settings: Vec<u8>, tree: Vec<u8>) -> Case {
 }
 
 /// A case of any kind: good bytes, bytes near a limit, damaged bytes, noise.
-pub fn any_case(rng: &mut Rng) -> Case {
+pub fn any_case(rng: &mut Rng, margins: Margins) -> Case {
     let (settings, tree) = match rng.below(8) {
         0 => {
             let limit = rng.pick(&LIMITS);
             let offset = rng.between(0, 4) as isize - 2;
-            near(rng, limit, offset)
+            near(rng, margins, limit, offset)
         }
-        _ => table(rng),
+        _ => table(rng, margins),
     };
     let mut settings = encode_settings(&settings);
     let mut tree = encode_tree(&tree);

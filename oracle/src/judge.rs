@@ -1,7 +1,7 @@
-//! Document 01's refusals: from arbitrary bytes to the number that its table gives each call. It follows the document's sentences and shares
-//! no code with the crate or the port.
+//! The refusals of documents 01 and 02: from arbitrary bytes to the number that their table gives each call. It follows the documents' sentences
+//! and shares no code with the crate or the port.
 
-use crate::form::{Settings, Size, Tree};
+use crate::form::{Margin, Settings, Size, Tree};
 use crate::paper;
 
 pub const TREE_BYTES: usize = 32_768;
@@ -16,14 +16,46 @@ fn is_mark(byte: u8) -> bool {
     (0x20..=0x7E).contains(&byte)
 }
 
+/// The bytes of the first settings field and of the second.
+const FIELDS: [usize; 2] = [31, 11];
+
+/// The sheet program's input. 'Settings (the first 31 bytes, or all if there are fewer) then tree'; 'a hex 11 after the first field starts
+/// [the second], and that byte and the ten after it, or all there are if fewer, are the field'.
+pub fn split(input: &[u8]) -> (&[u8], &[u8]) {
+    let [first, second] = FIELDS;
+    let settings = match input.get(first) {
+        Some(0x11) => first + second,
+        _ => first,
+    };
+    input.split_at(settings.min(input.len()))
+}
+
+/// The margin of document 02's field: 'hex tag 11, length 8, four sizes and four fills, in the padding's order and ranges'. Without the field
+/// there is none; else 1.
+fn read_margin(field: &[u8]) -> Result<Margin, u8> {
+    let margin = match *field {
+        [] => Margin::NONE,
+        [0x11, 0, 8, left, right, top, bottom, a, b, c, d] => Margin {
+            sizes: [left, right, top, bottom],
+            fills: [a, b, c, d],
+        },
+        _ => return Err(1),
+    };
+    let is_good = margin.sizes.iter().all(|&size| size <= 16)
+        && margin.fills.iter().all(|&fill| is_mark(fill));
+    if is_good {
+        Ok(margin)
+    } else {
+        Err(1)
+    }
+}
+
 /// The settings, or 1.
 pub fn read_settings(bytes: &[u8]) -> Result<Settings, u8> {
-    let [0x10, 0, 28, record @ ..] = bytes else {
+    let (first, second) = bytes.split_at_checked(FIELDS[0]).ok_or(1)?;
+    let [0x10, 0, 28, record @ ..] = first else {
         return Err(1);
     };
-    if record.len() != 28 {
-        return Err(1);
-    }
 
     let settings = Settings {
         marks: record[..15].try_into().expect("15 marks"),
@@ -34,6 +66,7 @@ pub fn read_settings(bytes: &[u8]) -> Result<Settings, u8> {
         line_mode: record[25],
         width_priority: record[26],
         height_priority: record[27],
+        margin: read_margin(second)?,
     };
     let is_good = settings.marks.iter().all(|&mark| is_mark(mark))
         && settings.padding.iter().all(|&size| size <= 16)
@@ -185,7 +218,7 @@ fn places(tree: &Tree) -> Vec<Place> {
 impl Read {
     /// 6.
     fn fits(&self) -> Result<(), u8> {
-        let (w, h) = paper::rectangle(&self.sizes);
+        let (w, h) = paper::rectangle(&self.settings, &self.sizes);
         if w > SHEET_WIDTH || h > SHEET_HEIGHT {
             return Err(6);
         }
@@ -200,7 +233,7 @@ impl Read {
 
     /// The bytes of the sheet: '(W + 1) × H − 1'.
     pub fn sheet_bytes(&self) -> usize {
-        let (w, h) = paper::rectangle(&self.sizes);
+        let (w, h) = paper::rectangle(&self.settings, &self.sizes);
         (w + 1) * h - 1
     }
 

@@ -10,5 +10,7 @@ pub mod paper;
 pub mod replay;
 pub mod sides;
 
-pub use form::{encode_settings, encode_tree, Answer, Flags, Leaf, Settings, Size, Tree};
+pub use form::{
+    encode_margin, encode_settings, encode_tree, Answer, Flags, Leaf, Margin, Settings, Size, Tree,
+};
 pub use original::{answer, cut, cut3};

@@ -48,14 +48,14 @@ fn usage() -> ExitCode {
     ExitCode::FAILURE
 }
 
-/// 'Settings (the first 31 bytes, or all if there are fewer) then tree.'
+/// The settings and the tree on standard input.
 fn input() -> (Vec<u8>, Vec<u8>) {
-    let mut settings = Vec::new();
+    let mut input = Vec::new();
     std::io::stdin()
-        .read_to_end(&mut settings)
+        .read_to_end(&mut input)
         .expect("standard input can be read");
-    let tree = settings.split_off(settings.len().min(31));
-    (settings, tree)
+    let (settings, tree) = judge::split(&input);
+    (settings.to_vec(), tree.to_vec())
 }
 
 fn print(bytes: &[u8]) {

@@ -26,10 +26,13 @@ macro_rules! build {
                 }
             }
 
+            fn sides(sizes: [u8; 4], fills: [u8; 4]) -> Sides<Indent> {
+                let indent = |at: usize| Indent::new(sizes[at].into(), fills[at].into());
+                Sides::new(indent(0), indent(1), indent(2), indent(3))
+            }
+
             fn config(settings: &Settings) -> CompactMultilineConfig {
                 let mark = |at: usize| Some(char::from(settings.marks[at]));
-                let indent =
-                    |at: usize| Indent::new(settings.padding[at].into(), settings.fills[at].into());
 
                 let mut config = CompactMultilineConfig::new();
                 config.set_borders(Borders {
@@ -49,7 +52,8 @@ macro_rules! build {
                     right_intersection: mark(13),
                     intersection: mark(14),
                 });
-                config.set_padding(Sides::new(indent(0), indent(1), indent(2), indent(3)));
+                config.set_padding(sides(settings.padding, settings.fills));
+                config.set_margin(sides(settings.margin.sizes, settings.margin.fills));
                 config.set_alignment_horizontal(match settings.horizontal {
                     0 => AlignmentHorizontal::Left,
                     1 => AlignmentHorizontal::Center,

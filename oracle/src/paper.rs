@@ -1,5 +1,6 @@
-//! Document 01's words as plain Rust: sizes, sharing, cuts, flags, blocks and the sheet. It follows the document's sentences and shares no
-//! code with the crate or the port, so that the crate and the document can be held side by side by running. The headings are the document's.
+//! The words of documents 01 and 02 as plain Rust: sizes, sharing, cuts, flags, blocks, the sheet and its margin. It follows the documents'
+//! sentences and shares no code with the crate or the port, so that the crate and the documents can be held side by side by running. The headings
+//! are document 01's.
 
 use crate::form::{Answer, Cut, Cut3, Flags, Leaf, Settings, Size, Tree};
 
@@ -413,18 +414,21 @@ fn starts(nodes: &Nodes, sizes: &[Size]) -> Vec<(usize, usize)> {
     starts
 }
 
-/// W and H.
-pub fn rectangle(sizes: &[Size]) -> (usize, usize) {
+/// The columns and lines of the rectangle inside the margin.
+fn inside(sizes: &[Size]) -> (usize, usize) {
     (sizes[0].natural_width + 2, sizes[0].natural_height + 2)
 }
 
-/// The sheet by placing; nothing where a leaf has width 0. Panics unless each place is covered once.
-fn sheet(nodes: &Nodes, sizes: &[Size], leaves: &[Leaf]) -> Vec<u8> {
-    if leaves.iter().any(|leaf| leaf.width == 0) {
-        return Vec::new();
-    }
+/// W and H, which 'include the margin'.
+pub fn rectangle(settings: &Settings, sizes: &[Size]) -> (usize, usize) {
+    let [left, right, top, bottom] = settings.margin.sizes.map(usize::from);
+    let (w, h) = inside(sizes);
+    (left + w + right, top + h + bottom)
+}
 
-    let (w, h) = rectangle(sizes);
+/// The lines of the rectangle inside the margin by placing. Panics unless each place is covered once.
+fn placed(nodes: &Nodes, sizes: &[Size], leaves: &[Leaf]) -> Vec<Vec<u8>> {
+    let (w, h) = inside(sizes);
     let starts = starts(nodes, sizes);
     let mut places = vec![vec![None; w]; h];
     for leaf in leaves {
@@ -437,18 +441,48 @@ fn sheet(nodes: &Nodes, sizes: &[Size], leaves: &[Leaf]) -> Vec<u8> {
         }
     }
 
-    let lines: Vec<Vec<u8>> = places
+    places
         .into_iter()
         .map(|line| {
             line.into_iter()
                 .map(|place| place.expect("a place is not covered"))
                 .collect()
         })
+        .collect()
+}
+
+/// The sheet place by place; nothing where a leaf has width 0. 'Top and bottom lines have the left and right fills at their ends', so a place of
+/// the margin is looked for at the left and the right first.
+fn sheet(settings: &Settings, nodes: &Nodes, sizes: &[Size], leaves: &[Leaf]) -> Vec<u8> {
+    if leaves.iter().any(|leaf| leaf.width == 0) {
+        return Vec::new();
+    }
+
+    let [left, _, top, _] = settings.margin.sizes.map(usize::from);
+    let [fill_left, fill_right, fill_top, fill_bottom] = settings.margin.fills;
+    let (inside_w, inside_h) = inside(sizes);
+    let placed = placed(nodes, sizes, leaves);
+    let byte = |line: usize, column: usize| {
+        if column < left {
+            fill_left
+        } else if column >= left + inside_w {
+            fill_right
+        } else if line < top {
+            fill_top
+        } else if line >= top + inside_h {
+            fill_bottom
+        } else {
+            placed[line - top][column - left]
+        }
+    };
+    let (w, h) = rectangle(settings, sizes);
+    let lines: Vec<Vec<u8>> = (0..h)
+        .map(|line| (0..w).map(|column| byte(line, column)).collect())
         .collect();
     lines.join(&0x0A)
 }
 
-/// All that document 01 says about a table, its limits put aside. The sheet is empty where a leaf has width 0.
+/// All that documents 01 and 02 say about a table, the limits put aside. The sheet is empty where a leaf has width 0.
 pub fn answer(settings: &Settings, tree: &Tree) -> Answer {
     let nodes = Nodes::of(tree);
     let sizes = sizes_of(settings, &nodes);
@@ -465,7 +499,7 @@ pub fn answer(settings: &Settings, tree: &Tree) -> Answer {
         leaves,
         ..
     } = walk;
-    let sheet = sheet(&nodes, &sizes, &leaves);
+    let sheet = sheet(settings, &nodes, &sizes, &leaves);
     Answer {
         sizes,
         leaves,

@@ -1,8 +1,8 @@
 //! The crate's answers as lines for the programs `replay` and `replay_faults`; crate `script` says what each line means.
 
 use crate::calls::{Calls, LeafRecord, SizeRecord, SplitList};
-use crate::form::{encode_settings, encode_tree, Settings, Tree};
-use crate::gen::{self, Rng};
+use crate::form::{encode_margin, encode_settings, encode_tree, Margin, Settings, Tree};
+use crate::gen::{self, Margins, Rng};
 use crate::judge;
 use crate::sides::Original;
 
@@ -191,7 +191,7 @@ fn tables(lines: &mut Lines, rng: &mut Rng, most: usize, count: usize) {
     lines.title(&format!("Random tables of up to {most} bytes"));
     let mut left = count;
     while left > 0 {
-        let (settings, tree) = gen::table(rng);
+        let (settings, tree) = gen::table(rng, Margins::None);
         let (settings, bytes) = (encode_settings(&settings), encode_tree(&tree));
         let fits = judge::read(&settings, &bytes).is_ok_and(|read| read.sheet_bytes() <= most);
         if tree.nodes() < 4 || !fits {
@@ -211,7 +211,7 @@ fn damaged(lines: &mut Lines, rng: &mut Rng, count: usize) {
     lines.title("Damaged bytes");
     let mut left = count;
     while left > 0 {
-        let case = gen::any_case(rng);
+        let case = gen::any_case(rng, Margins::None);
         let refused = judge::sheet(&case.settings, &case.tree, usize::MAX) != 0;
         if case.tree.len() > 60 || !refused {
             continue;
@@ -267,6 +267,120 @@ fn limits(lines: &mut Lines) {
     lines.both(0);
 }
 
+/// M without padding, and a margin.
+fn edged(sizes: [u8; 4]) -> Settings {
+    Settings {
+        padding: [0; 4],
+        margin: Margin {
+            sizes,
+            fills: *b"lrtb",
+        },
+        ..Settings::M
+    }
+}
+
+/// Margins on one side, small and large, on two and on all; then random tables with a margin whose sheet is small and accepted.
+fn margins(lines: &mut Lines, rng: &mut Rng, most: usize, count: usize) {
+    lines.title("Margins");
+    let cell = encode_tree(&Tree::cell("ab"));
+    for side in 0..4 {
+        for size in [1, 2, 15, 16] {
+            let mut sizes = [0; 4];
+            sizes[side] = size;
+            lines.given(&encode_settings(&edged(sizes)), &cell);
+            lines.sheet();
+        }
+    }
+    for sizes in [[0; 4], [1, 2, 1, 1], [0, 0, 1, 2], [3, 1, 0, 0]] {
+        lines.given(&encode_settings(&edged(sizes)), &cell);
+        lines.both(0);
+    }
+    let mut left = count;
+    while left > 0 {
+        let (settings, tree) = gen::table(rng, Margins::Half);
+        let has_margin = settings.margin.sizes != [0; 4];
+        let (settings, bytes) = (encode_settings(&settings), encode_tree(&tree));
+        let fits = judge::sheet(&settings, &bytes, most) == 0;
+        if tree.nodes() < 4 || !fits || !has_margin {
+            continue;
+        }
+        lines.given(&settings, &bytes);
+        lines.sizes(rng.below(tree.nodes()));
+        lines.both(rng.pick(&judge::leaves(&tree)));
+        left -= 1;
+    }
+}
+
+/// Margins that are not of the form, random damage to settings with a margin, and both sides of the limits that a margin moves.
+fn bad_margins(lines: &mut Lines, rng: &mut Rng, count: usize) {
+    lines.title("Margins out of form");
+    let cell = encode_tree(&Tree::cell("ab"));
+    let good = encode_settings(&edged([1, 2, 1, 1]));
+    let (first, second) = good.split_at(31);
+    let long = [&good[..], second].concat();
+    let mut list: Vec<Vec<u8>> = [32, 34, 41, 43, 53].map(|n| long[..n].to_vec()).into();
+    list.extend([[second, first].concat(), second.to_vec()]);
+    for (at, bytes) in [
+        (31, &[0x10, 0x12][..]),
+        (32, &[1]),
+        (33, &[7, 9]),
+        (34, &[17]),
+        (35, &[17]),
+        (36, &[17]),
+        (37, &[17, 255]),
+        (38, &[0x0A, 0x1F, 0x7F]),
+        (39, &[0x1F]),
+        (40, &[0x7F]),
+        (41, &[0x1F, 0x80]),
+    ] {
+        list.extend(bytes.iter().map(|&byte| {
+            let mut settings = good.clone();
+            settings[at] = byte;
+            settings
+        }));
+    }
+    list.push([first, &encode_margin(&Margin::NONE)].concat());
+    for settings in list {
+        lines.given(&settings, &cell);
+        lines.readers();
+        lines.both(0);
+    }
+
+    let mut left = count;
+    while left > 0 {
+        let case = gen::any_case(rng, Margins::Half);
+        let refused = judge::settings(&case.settings) != 0;
+        if case.settings.len() <= 32 || case.tree.len() > 60 || !refused {
+            continue;
+        }
+        lines.given(&case.settings, &case.tree);
+        lines.readers();
+        lines.both(case.node % 8);
+        left -= 1;
+    }
+
+    lines.title("Limits with margins");
+    let margin = |sizes: [u8; 4]| {
+        let fills = *b"lrtb";
+        encode_settings(&Settings {
+            margin: Margin { sizes, fills },
+            ..Settings::D
+        })
+    };
+    let items: [([u8; 4], &[u8], usize, &[u8]); 6] = [
+        ([1, 0, 0, 0], &[1, 0x01, 0x8C], 396, b"a"),
+        ([16, 16, 0, 0], &[1, 0x01, 0x6C], 364, b"a"),
+        ([16, 16, 0, 0], &[1, 0x01, 0x6D], 365, b"a"),
+        ([0, 0, 0, 1], &[1, 0x00, 0x9D], 157, b"\n"),
+        ([0, 0, 16, 16], &[1, 0x00, 0x7D], 125, b"\n"),
+        ([0, 0, 16, 16], &[1, 0x00, 0x7E], 126, b"\n"),
+    ];
+    for (sizes, head, n, item) in items {
+        lines.repeated(&margin(sizes), head, n, item);
+        lines.both(0);
+    }
+}
+
 /// The lines of the programs `replay` (shapes and tables) and `replay_faults` (damaged bytes and limits), each within what a test program reads.
 pub fn lines(seed: u64) -> [String; 2] {
     let mut rng = Rng::new(seed);
@@ -277,6 +391,8 @@ pub fn lines(seed: u64) -> [String; 2] {
     let mut faulty = Lines::default();
     damaged(&mut faulty, &mut rng, 60);
     limits(&mut faulty);
+    margins(&mut good, &mut rng, 300, 8);
+    bad_margins(&mut faulty, &mut rng, 12);
     [good, faulty].map(|lines| {
         assert!(lines.text.len() < 65_536, "{} bytes", lines.text.len());
         lines.text

@@ -1,7 +1,8 @@
-//! Two sides of the calls: the crate and the document. Both refuse as the judge says.
+//! Two sides of the calls: the crate and the documents. Both refuse as the judge says.
 
 use crate::calls::{
-    Calls, Counted, CutParts, CutPositions, LeafRecord, ReadSettings, Shared, SizeRecord, SplitList,
+    Calls, Counted, CutParts, CutPositions, LeafRecord, ReadMargin, ReadSettings, Shared,
+    SizeRecord, SplitList,
 };
 use crate::form::{Answer, Cut, Cut3, Flags, Settings, Tree};
 use crate::judge;
@@ -19,7 +20,7 @@ pub trait Answers {
 #[derive(Debug, Default)]
 pub struct Crate;
 
-/// The document.
+/// The documents.
 #[derive(Debug, Default)]
 pub struct Document;
 
@@ -70,10 +71,10 @@ pub struct Side<A> {
     last: Option<(Vec<u8>, Vec<u8>, Answer)>,
 }
 
-/// The crate's answers under the document's refusals.
+/// The crate's answers under the documents' refusals.
 pub type Original = Side<Crate>;
 
-/// The document's words.
+/// The documents' words.
 pub type Paper = Side<Document>;
 
 impl<A: Answers> Side<A> {
@@ -119,6 +120,14 @@ impl<A: Answers> Calls for Side<A> {
                 number,
                 settings: Settings::BLANK,
             },
+        }
+    }
+
+    fn read_margin(&mut self, settings: &[u8]) -> ReadMargin {
+        let ReadSettings { number, settings } = self.read_settings(settings);
+        ReadMargin {
+            number,
+            margin: settings.margin,
         }
     }
 
