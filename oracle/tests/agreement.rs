@@ -1,12 +1,13 @@
-//! The crate against document 01, and what the oracle itself rests on. `oracle agree` does more of the first.
+//! The crate against documents 01 and 02, and what the oracle itself rests on. `oracle agree` does more of the first.
 
 use oracle::calls::{
-    Calls, Counted, CutParts, CutPositions, LeafRecord, ReadSettings, Shared, SizeRecord, SplitList,
+    Calls, Counted, CutParts, CutPositions, LeafRecord, ReadMargin, ReadSettings, Shared,
+    SizeRecord, SplitList,
 };
 use oracle::compare::{Comparison, Difference, NUMBERS};
-use oracle::gen::{self, Rng};
+use oracle::gen::{self, Margins, Rng};
 use oracle::sides::{Original, Paper};
-use oracle::{judge, original, paper, Settings, Tree};
+use oracle::{judge, original, paper, Margin, Settings, Tree};
 
 fn agree(run: impl Fn(&mut Comparison) -> Result<(), Difference>) {
     let (mut one, mut other) = (Original::default(), Paper::default());
@@ -17,6 +18,11 @@ fn agree(run: impl Fn(&mut Comparison) -> Result<(), Difference>) {
 }
 
 #[test]
+fn settings_records() {
+    agree(|comparison| comparison.settings_records());
+}
+
+#[test]
 fn small_tables() {
     agree(|comparison| comparison.small_tables(4, &gen::few_settings()));
     agree(|comparison| comparison.small_tables(5, &gen::few_settings()[2..4]));
@@ -24,7 +30,7 @@ fn small_tables() {
 
 #[test]
 fn two_groups() {
-    agree(|comparison| comparison.two_groups(&gen::few_settings()[2..4]));
+    agree(|comparison| comparison.two_groups(&gen::few_settings()[3..6]));
 }
 
 #[test]
@@ -82,6 +88,27 @@ fn every_number_is_reached() {
     }
 }
 
+/// Random settings have margins of every size on every side, and half of them none; every second choice has one, too.
+#[test]
+fn every_margin_is_reached() {
+    let mut rng = Rng::new(19);
+    let random: Vec<Margin> = (0..4000)
+        .map(|_| gen::settings(&mut rng, Margins::Half).margin)
+        .collect();
+    let choices: Vec<Margin> = gen::choices().iter().map(|choice| choice.margin).collect();
+    for margins in [random, choices] {
+        let none = margins.iter().filter(|&&margin| margin == Margin::NONE);
+        let percent = none.count() * 100 / margins.len();
+        assert!((45..=55).contains(&percent), "{percent}");
+        for side in 0..4 {
+            for size in 0..=16 {
+                let mut of_size = margins.iter().filter(|margin| margin.sizes[side] == size);
+                assert!(of_size.any(|margin| margin.fills[side] != b' '));
+            }
+        }
+    }
+}
+
 /// In a sheet that document 01 accepts, the stand-in `Table` never fills up: it joins blocks of equal height side by side and blocks of
 /// equal width one under the other. Its own assumptions about others therefore never show in an accepted sheet.
 #[test]
@@ -106,7 +133,7 @@ fn accepted_sheets_are_joined_evenly() {
     }
     let mut rng = Rng::new(16);
     for _ in 0..500 {
-        let (settings, tree) = gen::table(&mut rng);
+        let (settings, tree) = gen::table(&mut rng, Margins::Half);
         look(&settings, &tree);
     }
     assert!(even > 4000 && uneven > 100, "{even} {uneven}");
@@ -123,7 +150,7 @@ fn the_defaults() {
     }
     let mut rng = Rng::new(17);
     for _ in 0..200 {
-        let (_, tree) = gen::table(&mut rng);
+        let (_, tree) = gen::table(&mut rng, Margins::None);
         let sheet = original::sheet(&Settings::D, &tree);
         assert_eq!(original::default_sheet(&tree), sheet);
     }
@@ -146,13 +173,28 @@ struct Faulty {
     fault: u8,
 }
 
-const FAULTS: u8 = 15;
+const FAULTS: u8 = 21;
+
+/// The judge's numbers with the margin and without it: whether only the margin makes a sheet too large.
+fn is_large_by_margin(number: u8, settings: &[u8], tree: &[u8]) -> bool {
+    number == 6 && judge::sheet(&settings[..31], tree, usize::MAX) != 6
+}
 
 impl Calls for Faulty {
     fn read_settings(&mut self, settings: &[u8]) -> ReadSettings {
         let mut answer = self.paper.read_settings(settings);
         if self.fault == 0 && answer.number == 1 {
             answer.settings.horizontal = 1;
+        }
+        answer
+    }
+
+    fn read_margin(&mut self, settings: &[u8]) -> ReadMargin {
+        let mut answer = self.paper.read_margin(settings);
+        match self.fault {
+            15 if answer.margin == Margin::NONE => answer.margin = Margin::BLANK,
+            16 if answer.number == 1 => answer.margin.sizes[0] = 1,
+            _ => {}
         }
         answer
     }
@@ -177,6 +219,11 @@ impl Calls for Faulty {
     }
 
     fn leaf_record(&mut self, settings: &[u8], tree: &[u8], node: usize) -> LeafRecord {
+        // The margin left out of W and H.
+        let number = judge::leaf_record(settings, tree, node);
+        if self.fault == 17 && is_large_by_margin(number, settings, tree) {
+            return self.paper.leaf_record(&settings[..31], tree, node);
+        }
         let mut answer = self.paper.leaf_record(settings, tree, node);
         match self.fault {
             4 => answer.flags.top_intersection = false,
@@ -188,6 +235,10 @@ impl Calls for Faulty {
     }
 
     fn leaf(&mut self, settings: &[u8], tree: &[u8], node: usize, output: &mut [u8]) -> Counted {
+        let number = judge::leaf(settings, tree, node, output.len());
+        if self.fault == 18 && is_large_by_margin(number, settings, tree) {
+            return self.paper.leaf(&settings[..31], tree, node, output);
+        }
         let answer = self.paper.leaf(settings, tree, node, output);
         match self.fault {
             7 if answer.count > 0 => output[answer.count - 1] = b' ',
@@ -206,7 +257,21 @@ impl Calls for Faulty {
                 count: 0,
             };
         }
-        self.paper.sheet(settings, tree, output)
+        let answer = self.paper.sheet(settings, tree, output);
+        let margin = self.paper.read_margin(settings).margin;
+        let [left, _, top, _] = margin.sizes;
+        match self.fault {
+            19 if is_large_by_margin(answer.number, settings, tree) => Counted {
+                number: 8,
+                count: 0,
+            },
+            // The top fill at the ends of its lines, too.
+            20 if answer.number == 0 && left > 0 && top > 0 => {
+                output[0] = margin.fills[2];
+                answer
+            }
+            _ => answer,
+        }
     }
 
     fn short_splits3(&mut self, list: &SplitList, width: u16) -> CutParts {
@@ -250,7 +315,8 @@ fn faults_are_found() {
             .and_then(|()| comparison.tables(&mut Rng::new(18), 20))
             .and_then(|()| comparison.cases(&mut Rng::new(18), 300))
             .and_then(|()| comparison.lists(&mut Rng::new(18), 100))
-            .and_then(|()| comparison.shares(&mut Rng::new(18), 4));
+            .and_then(|()| comparison.shares(&mut Rng::new(18), 4))
+            .and_then(|()| comparison.limits(&mut Rng::new(18), 1));
         assert_eq!(run.is_err(), fault < FAULTS, "fault {fault}");
     }
 }

@@ -1,7 +1,7 @@
 //! Where the crate goes its own way: docs/DIFFERENCES.md, each with the smallest input. What it prints for zero-wide leaves rests
 //! on the stand-in `Table`, and document 01 refuses every such sheet.
 
-use oracle::{encode_settings, encode_tree, judge, original, paper, Settings, Tree};
+use oracle::{encode_settings, encode_tree, judge, original, paper, Margin, Settings, Tree};
 
 const BARE: Settings = Settings {
     padding: [0; 4],
@@ -17,7 +17,7 @@ fn number(tree: &Tree) -> u8 {
 }
 
 fn rectangle(tree: &Tree) -> (usize, usize) {
-    paper::rectangle(&paper::sizes(&BARE, tree))
+    paper::rectangle(&BARE, &paper::sizes(&BARE, tree))
 }
 
 #[test]
@@ -109,6 +109,34 @@ fn other_settings() {
     };
     assert_eq!(refused(&fill), 1);
     assert_eq!(printed(&fill), "1--2\n(\u{1f}a)\n4__5");
+
+    let margin = |sizes: [u8; 4], fills: [u8; 4]| Settings {
+        margin: Margin { sizes, fills },
+        ..BARE
+    };
+    let edged = margin([17, 0, 0, 0], *b"lrtb");
+    assert_eq!(refused(&edged), 1);
+    let edge = "l".repeat(17);
+    assert_eq!(printed(&edged), format!("{edge}1-2\n{edge}(a)\n{edge}4_5"));
+    let edged = margin([1, 0, 0, 0], *b"\x1frtb");
+    assert_eq!(refused(&edged), 1);
+    assert_eq!(printed(&edged), "\u{1f}1-2\n\u{1f}(a)\n\u{1f}4_5");
+}
+
+/// The crate prints no margin around an empty text, which is the sheet of a zero-wide leaf alone. Document 01 refuses that sheet.
+#[test]
+fn no_margin_around_nothing() {
+    let settings = Settings {
+        margin: Margin {
+            sizes: [1; 4],
+            fills: *b"lrtb",
+        },
+        ..BARE
+    };
+    let tree = Tree::cell("");
+    assert_eq!(original::sheet(&settings, &tree), b"");
+    let bytes = (encode_settings(&settings), encode_tree(&tree));
+    assert_eq!(judge::sheet(&bytes.0, &bytes.1, usize::MAX), 7);
 }
 
 /// A list of 513 pieces, which the port's form does not hold.

@@ -1,7 +1,7 @@
-//! Document 01's figures, whole: the crate's answers, as published and traced, and the document's.
+//! Document 01's figures, whole, and sheets with document 02's margin: the crate's answers, as published and traced, and the documents'.
 
 use oracle::form::{Cut, Cut3};
-use oracle::{encode_settings, encode_tree, judge, original, paper, Settings, Tree};
+use oracle::{encode_settings, encode_tree, judge, original, paper, Margin, Settings, Tree};
 
 fn cell(text: &str) -> Tree {
     Tree::cell(text)
@@ -29,10 +29,14 @@ fn f1() {
     assert_eq!(original::default_sheet(&tree), lines.join("\n").as_bytes());
 }
 
+fn figure_2() -> Tree {
+    let row = Tree::Row(vec![cell("a"), cell("b")]);
+    Tree::Column(vec![cell("abcdef"), row])
+}
+
 #[test]
 fn f2() {
-    let row = Tree::Row(vec![cell("a"), cell("b")]);
-    let tree = Tree::Column(vec![cell("abcdef"), row]);
+    let tree = figure_2();
     assert_eq!(
         sheet(&Settings::M, &tree),
         [
@@ -105,6 +109,90 @@ fn f5() {
             "4___6___5"
         ]
     );
+}
+
+/// M with a margin, left, right, top, bottom.
+fn edged(sizes: [u8; 4]) -> Settings {
+    let margin = Margin {
+        sizes,
+        fills: *b"lrtb",
+    };
+    Settings {
+        margin,
+        ..Settings::M
+    }
+}
+
+#[test]
+fn a_margin_on_every_side() {
+    let settings = edged([1, 2, 1, 1]);
+    let field = &encode_settings(&settings)[31..];
+    assert_eq!(field, b"\x11\x00\x08\x01\x02\x01\x01lrtb");
+    let lines = sheet(&settings, &cell("ab"));
+    assert_eq!(
+        lines,
+        [
+            "lttttttrr",
+            "l1----2rr",
+            "l( ab )rr",
+            "l4____5rr",
+            "lbbbbbbrr"
+        ]
+    );
+    assert_eq!(lines.join("\n").len(), 49);
+}
+
+#[test]
+fn a_margin_above_and_below() {
+    let lines = sheet(&edged([0, 0, 1, 2]), &cell("ab"));
+    assert_eq!(
+        lines,
+        ["tttttt", "1----2", "( ab )", "4____5", "bbbbbb", "bbbbbb"]
+    );
+    assert_eq!(lines.join("\n").len(), 41);
+}
+
+#[test]
+fn a_margin_of_no_size() {
+    let (with, without) = (edged([0; 4]), Settings::M);
+    assert_eq!(encode_settings(&with).len(), 42);
+    for tree in [cell("ab"), figure_2()] {
+        assert_eq!(
+            original::answer(&with, &tree),
+            original::answer(&without, &tree)
+        );
+        assert_eq!(paper::answer(&with, &tree), paper::answer(&without, &tree));
+    }
+}
+
+/// Sizes, records and blocks are those without the margin, and each block stands in the rectangle inside it.
+#[test]
+fn inside_the_margin() {
+    let (settings, tree) = (edged([3, 0, 2, 0]), figure_2());
+    assert_eq!(
+        sheet(&settings, &tree),
+        [
+            "llltttttttttt",
+            "llltttttttttt",
+            "lll1--------2",
+            "lll( abcdef )",
+            "lll7----3---8",
+            "lll( a  ( b )",
+            "lll4____6___5"
+        ]
+    );
+    let (with, without) = (
+        original::answer(&settings, &tree),
+        original::answer(&Settings::M, &tree),
+    );
+    assert_eq!(
+        (with.sizes.clone(), with.leaves),
+        (without.sizes, without.leaves)
+    );
+    assert_eq!(paper::rectangle(&settings, &with.sizes), (13, 7));
+    let (settings, tree) = (encode_settings(&settings), encode_tree(&tree));
+    assert_eq!(judge::sheet(&settings, &tree, 97), 0);
+    assert_eq!(judge::sheet(&settings, &tree, 96), 8);
 }
 
 fn cut3(list: &[usize], width: usize) -> Cut3 {

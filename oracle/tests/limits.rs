@@ -1,8 +1,8 @@
-//! Document 01's limits, and that the generator of inputs near them stands where it says.
+//! The limits of documents 01 and 02, and that the generator of inputs near them stands where it says.
 
-use oracle::gen::{self, Limit, Rng};
+use oracle::gen::{self, Limit, Margins, Rng};
 use oracle::judge;
-use oracle::{encode_settings, encode_tree, original, paper, Settings, Tree};
+use oracle::{encode_settings, encode_tree, original, paper, Margin, Settings, Tree};
 
 /// What the sheet printer says, lent enough.
 fn sheet(settings: &Settings, tree: &Tree) -> u8 {
@@ -39,6 +39,42 @@ fn height() {
     assert_eq!(sheet.len(), 5 * 160 - 1);
     let sheet = original::sheet(&Settings::D, &cell(158));
     assert_eq!(sheet.len(), 5 * 161 - 1);
+}
+
+/// W and H have the margin in them, for the sheet printer, the leaf printer and the leaf record; not for the size collector.
+#[test]
+fn margins() {
+    let wide = |letters: usize| Tree::Cell(vec![b'a'; letters]);
+    let high = |feeds: usize| Tree::Cell(vec![0x0A; feeds]);
+    for (margin, tree, rectangle, number) in [
+        ([1, 0, 0, 0], wide(395), (400, 3), 0),
+        ([1, 0, 0, 0], wide(396), (401, 3), 6),
+        ([16, 16, 0, 0], wide(364), (400, 3), 0),
+        ([16, 16, 0, 0], wide(365), (401, 3), 6),
+        ([0, 0, 0, 1], high(156), (4, 160), 0),
+        ([0, 0, 0, 1], high(157), (4, 161), 6),
+        ([0, 0, 16, 16], high(125), (4, 160), 0),
+        ([0, 0, 16, 16], high(126), (4, 161), 6),
+    ] {
+        let settings = Settings {
+            margin: Margin {
+                sizes: margin,
+                ..Margin::NONE
+            },
+            ..Settings::D
+        };
+        let natural = paper::sizes(&settings, &tree);
+        assert_eq!(paper::rectangle(&settings, &natural), rectangle);
+        assert_eq!(sheet(&settings, &tree), number);
+        assert_eq!(sizes(&settings, &tree), 0);
+        let (bytes, tree_bytes) = (encode_settings(&settings), encode_tree(&tree));
+        assert_eq!(judge::leaf_record(&bytes, &tree_bytes, 0), number);
+        assert_eq!(judge::leaf(&bytes, &tree_bytes, 0, usize::MAX), number);
+        // The crate goes on.
+        let (w, h) = rectangle;
+        let sheet = original::sheet(&settings, &tree);
+        assert_eq!(sheet.len(), (w + 1) * h - 1);
+    }
 }
 
 #[test]
@@ -125,13 +161,26 @@ fn zero_wide() {
 }
 
 #[test]
+fn corners() {
+    for sizes in [[0; 4], [1, 2, 3, 4], [16; 4]] {
+        for (width, height) in [(-1, 1), (0, 0), (2, -2)] {
+            let (settings, tree) = gen::corner(sizes, width, height);
+            let (w, h) = paper::rectangle(&settings, &paper::sizes(&settings, &tree));
+            let at = |extent: usize, of: usize| extent as isize - of as isize;
+            let offsets = (at(w, judge::SHEET_WIDTH), at(h, judge::SHEET_HEIGHT));
+            assert_eq!(offsets, (width, height));
+        }
+    }
+}
+
+#[test]
 fn inputs_near_the_limits() {
     let mut rng = Rng::new(3);
     for limit in gen::LIMITS {
         for offset in -2..=2 {
             for _ in 0..8 {
-                let (settings, tree) = gen::near(&mut rng, limit, offset);
-                let (w, h) = paper::rectangle(&paper::sizes(&settings, &tree));
+                let (settings, tree) = gen::near(&mut rng, Margins::Half, limit, offset);
+                let (w, h) = paper::rectangle(&settings, &paper::sizes(&settings, &tree));
                 let (at, of) = match limit {
                     Limit::Nodes => (tree.nodes(), judge::NODES),
                     Limit::Depth => (tree.depth(), judge::DEPTH),

@@ -1,8 +1,8 @@
-//! The judge against document 01's table and its order, by hand; and what it accepts against what can be encoded.
+//! The judge against document 01's table and its order and document 02's margin, by hand; and what it accepts against what can be encoded.
 
 use std::collections::HashSet;
 
-use oracle::{encode_settings, encode_tree, gen, judge, Settings, Tree};
+use oracle::{encode_margin, encode_settings, encode_tree, gen, judge, Margin, Settings, Tree};
 
 fn d() -> Vec<u8> {
     encode_settings(&Settings::D)
@@ -68,6 +68,98 @@ fn settings_out_of_form() {
             };
             assert_eq!(judge::settings(&bytes), u8::from(!is_good), "{at} {byte}");
         }
+    }
+}
+
+/// D and a margin.
+fn edged() -> Vec<u8> {
+    encode_settings(&Settings {
+        margin: Margin {
+            sizes: [1, 0, 2, 16],
+            fills: *b"lrtb",
+        },
+        ..Settings::D
+    })
+}
+
+#[test]
+fn margins_out_of_form() {
+    let long = [&edged()[..], &edged()[31..]].concat();
+    for length in 0..=long.len() {
+        let is_good = length == 31 || length == 42;
+        assert_eq!(judge::settings(&long[..length]), u8::from(!is_good));
+    }
+
+    // Every byte at every place of the second field, and of the first before it.
+    assert_eq!(judge::settings(&edged()), 0);
+    for at in 0..42 {
+        for byte in 0..=255u8 {
+            let mut bytes = edged();
+            bytes[at] = byte;
+            let is_good = match at {
+                31 => byte == 0x11,
+                32 => byte == 0,
+                33 => byte == 8,
+                34..=37 => byte <= 16,
+                38..=41 => (0x20..=0x7E).contains(&byte),
+                _ => judge::settings(&bytes[..31]) == 0,
+            };
+            assert_eq!(judge::settings(&bytes), u8::from(!is_good), "{at} {byte}");
+        }
+    }
+
+    // Without the field, and with one that says the same.
+    let none = [&d()[..], &encode_margin(&Margin::NONE)].concat();
+    assert_eq!(judge::read_settings(&none), Ok(Settings::D));
+    assert_eq!(judge::settings(&[&edged()[31..], &d()[..]].concat()), 1);
+}
+
+/// Document 02's field in the sheet program's input, behind M: what is settings and what tree, and the number.
+#[test]
+fn the_program_splits_its_input() {
+    let m = encode_settings(&Settings::M);
+    let tree = b"\x01\x00\x02ab";
+    let left = b"\x11\x00\x08\x01\x00\x00\x00lrtb";
+    let number = |rest: &[&[u8]], settings: usize| {
+        let input = [&m[..], &rest.concat()].concat();
+        let (front, back) = judge::split(&input);
+        assert_eq!(
+            (front.len(), [front, back].concat()),
+            (settings, input.clone())
+        );
+        judge::sheet(front, back, usize::MAX)
+    };
+    assert_eq!(number(&[tree], 31), 0);
+    assert_eq!(number(&[left, tree], 42), 0);
+    // Cut after its tag, and before its last byte.
+    assert_eq!(number(&[&left[..1]], 32), 1);
+    assert_eq!(number(&[&left[..10]], 41), 1);
+    // Filled up with bytes of the tree.
+    assert_eq!(number(&[&left[..9], tree], 42), 1);
+    // A whole field and no tree.
+    assert_eq!(number(&[left], 42), 2);
+    // An element of tag 11 in the tree's place, and one of tag 12.
+    assert_eq!(number(&[b"\x11\x00\x00"], 34), 1);
+    assert_eq!(number(&[b"\x12", &left[1..], tree], 31), 2);
+    // The second of two fields is tree bytes.
+    assert_eq!(number(&[left, left, tree], 42), 2);
+    // Lengths, sizes and fills out of range, the last one before a bad tree.
+    for field in [
+        b"\x11\x00\x07\x01\x00\x00\x00lrtb",
+        b"\x11\x01\x08\x01\x00\x00\x00lrtb",
+        b"\x11\x00\x08\x11\x00\x00\x00lrtb",
+        b"\x11\x00\x08\x00\x00\x00\x00   \x1f",
+        b"\x11\x00\x08\x01\x00\x00\x00\x7f   ",
+    ] {
+        assert_eq!(number(&[field, tree], 42), 1, "{field:?}");
+    }
+    let right = b"\x11\x00\x08\x00\x11\x00\x00lrtb";
+    assert_eq!(number(&[right, tree, b"x"], 42), 1);
+
+    // Fewer bytes than the first field has, whatever they are.
+    let short = [0x11; 31];
+    for length in 0..=31 {
+        assert_eq!(judge::split(&short[..length]), (&short[..length], &[][..]));
     }
 }
 
