@@ -14,17 +14,20 @@
  *   3   forbidden text byte                         9   the number names no leaf
  *   4   node 513 met                               10   split list count over 512
  *   5   depth 17 met                               11   share: n = 0 or index >= n
- *   6   over 400 columns or 160 lines
+ *   6   over 400 columns or 160 lines, the margin included
  *
  * Settings and trees are bytes (hex below). docs/FORMS.md has them with pictures, examples and the meaning of each; examples/build.c builds a tree.
  *
- * Settings, 31 bytes: 10 00 1C, then
+ * Settings, 31 bytes, or 42 with a margin. 10 00 1C, then
  *   15 marks, 20 to 7E: top, bottom, left, right, horizontal, vertical (these two are never printed), top_left, top_right, top_intersection,
  *      bottom_left, bottom_right, bottom_intersection, left_intersection, right_intersection, intersection
  *   4 padding sizes, 0 to 16 (decimal): left, right, top, bottom; 4 fills in that order, 20 to 7E
  *   horizontal alignment (0 left, 1 center, 2 right), vertical alignment (0 top, 1 center, 2 bottom), line mode (0 moves all lines of a text
  *      as its widest, 1 each by itself), width priority and height priority (0 First, 1 Last, 2 List)
- * The defaults: "\x10\x00\x1C" "--||-|+++++++++" "\x01\x01\x00\x00" "    " "\x00\x00\x00\x02\x02".
+ * The defaults: "\x10\x00\x1C" "--||-|+++++++++" "\x01\x01\x00\x00" "    " "\x00\x00\x00\x02\x02". The margin, around the whole sheet: 11 00 08, then
+ *   4 sizes, 0 to 16 (decimal): left, right, top, bottom; 4 fills in that order, 20 to 7E. The left and right fills go from the first line to the last
+ * W columns and H lines, 400 and 160 at the most, are the sheet with its margin: the root's natural width and height, 2 for the edge, and the margin's sizes. Sizes, leaf
+ * records and blocks have no margin in them.
  *
  * A tree, one element. An element is a tag, the length of its contents in two bytes, the high one first, and its contents:
  *   01 Cell: a text, bytes 20 to 7E, and 0A between its lines
@@ -46,15 +49,20 @@ extern "C" {
 
 /* Lengths of the lists that are written whole. */
 #define LEG_SETTINGS 28
+#define LEG_MARGIN 8
 #define LEG_PIECES 512
 #define LEG_LIST (1 + LEG_PIECES)
 #define LEG_RECORD (11 + 2 * LEG_LIST)
 #define LEG_CUT (1 + 2 * LEG_LIST)
 #define LEG_LENT_CUT (2 + LEG_LIST)
 
-/* Reads a settings record of 31 bytes. 1, 8. Writes the 28 numbers after its tag and length: 15 marks; padding left, right, top, bottom;
+/* Reads settings of 31 or 42 bytes. 1, 8. Writes the 28 numbers after the first tag and length: 15 marks; padding left, right, top, bottom;
  * their fills; horizontal and vertical alignment; line mode; width and height priority. Counts 28. */
 uint64_t leg_read_settings(const uint8_t *bytes, size_t bytes_len, uint16_t *out, size_t out_len);
+
+/* Reads the same settings bytes. 1, 8. Writes the margin's 8 numbers: left, right, top, bottom; their fills (0 0 0 0 and 32 each without the field).
+ * Counts 8. */
+uint64_t leg_read_margin(const uint8_t *bytes, size_t bytes_len, uint16_t *out, size_t out_len);
 
 /* Reads a tree. 2 to 5. Counts its nodes. */
 uint64_t leg_read_tree(const uint8_t *tree, size_t tree_len);
@@ -71,7 +79,7 @@ uint64_t leg_leaf_record(const uint8_t *settings, size_t settings_len, const uin
 /* Prints a leaf's block, its lines joined by 0A. 1 to 6, 9, 8. Counts the bytes written. */
 uint64_t leg_print_leaf(const uint8_t *settings, size_t settings_len, const uint8_t *tree, size_t tree_len, size_t node, uint8_t *out, size_t out_len);
 
-/* Prints the sheet, its lines joined by 0A: (W + 1) * H - 1 bytes, at most 64,159. 1 to 8. Counts the bytes written. */
+/* Prints the sheet with its margin, its lines joined by 0A: (W + 1) * H - 1 bytes, at most 64,159. 1 to 8. Counts the bytes written. */
 uint64_t leg_print_sheet(const uint8_t *settings, size_t settings_len, const uint8_t *tree, size_t tree_len, uint8_t *out, size_t out_len);
 
 /* Cuts the list of the first `count` of `pieces` at `w`; numbers past them are not looked at. 10; 8 where `pieces` has under `count` numbers or `out` under
