@@ -18,8 +18,10 @@
 use crate::raw;
 use crate::refusal::Refusal;
 
-/// The numbers of a settings record, past its tag and length.
+/// The numbers of the settings' first field, past its tag and length.
 pub const SETTINGS: usize = 28;
+/// The numbers of the margin: left, right, top, bottom, and their fills.
+pub const MARGIN: usize = 8;
 /// The numbers of a size record.
 pub const SIZES: usize = 4;
 /// A list's entries at the most.
@@ -32,7 +34,7 @@ pub const RECORD: usize = 11 + 2 * LIST;
 pub const CUT: usize = 1 + 2 * LIST;
 /// `short_splits3_lent`: yes or no, the count left, the list taken.
 pub const LENT_CUT: usize = 2 + LIST;
-/// The largest sheet or block: 160 lines of 400 columns, with a line feed between them.
+/// The largest sheet or block: 160 lines of 400 columns, the margin included, with a line feed between them.
 pub const SHEET: usize = 401 * 160 - 1;
 /// The nodes of a tree at the most.
 pub const NODES: usize = 512;
@@ -44,7 +46,7 @@ fn answer(word: u64) -> Result<usize, Refusal> {
         .map_err(|_| Refusal::of_word(word))
 }
 
-/// Reads a settings record and writes its [`SETTINGS`] numbers.
+/// Reads settings, with a margin or without, and writes the [`SETTINGS`] numbers of the first field.
 ///
 /// # Errors
 /// 1, 8.
@@ -52,6 +54,17 @@ pub fn read_settings(bytes: &[u8], out: &mut [u16]) -> Result<usize, Refusal> {
     // SAFETY: pointers and lengths of slices that are borrowed here.
     answer(unsafe {
         raw::leg_read_settings(bytes.as_ptr(), bytes.len(), out.as_mut_ptr(), out.len())
+    })
+}
+
+/// Reads the same settings and writes the [`MARGIN`] numbers of the margin: without one four 0 and four spaces.
+///
+/// # Errors
+/// 1, 8.
+pub fn read_margin(bytes: &[u8], out: &mut [u16]) -> Result<usize, Refusal> {
+    // SAFETY: pointers and lengths of slices that are borrowed here.
+    answer(unsafe {
+        raw::leg_read_margin(bytes.as_ptr(), bytes.len(), out.as_mut_ptr(), out.len())
     })
 }
 
@@ -106,7 +119,7 @@ pub fn leaf_record(
     })
 }
 
-/// Prints a leaf's block, [`SHEET`] bytes at the most.
+/// Prints a leaf's block, without the margin, [`SHEET`] bytes at the most.
 ///
 /// # Errors
 /// 1 to 6, 9, 8.
@@ -130,7 +143,7 @@ pub fn print_leaf(
     })
 }
 
-/// Prints the sheet, [`SHEET`] bytes at the most.
+/// Prints the sheet with its margin, [`SHEET`] bytes at the most.
 ///
 /// # Errors
 /// 1 to 8.

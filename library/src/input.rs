@@ -5,8 +5,11 @@ use crate::records::{LeafRecord, SizeRecord};
 use crate::refusal::Refusal;
 use crate::tree;
 
-/// The settings record.
+/// The settings' first field, and the margin's: a tag, a two-byte length and as many bytes.
 const SETTINGS_BYTES: usize = 3 + calls::SETTINGS;
+const MARGIN_BYTES: usize = 3 + calls::MARGIN;
+/// The tag of the margin's.
+const MARGIN_TAG: u8 = 0x11;
 
 /// The bytes of settings and of a tree, good or bad. The calls answer values.
 ///
@@ -21,7 +24,7 @@ const SETTINGS_BYTES: usize = 3 + calls::SETTINGS;
 /// ```
 #[derive(Debug, Clone, Copy, PartialEq, Eq)]
 pub struct Input<'a> {
-    /// The settings record.
+    /// The settings record, with the margin's field or without.
     pub settings: &'a [u8],
     /// The tree.
     pub tree: &'a [u8],
@@ -29,16 +32,21 @@ pub struct Input<'a> {
 
 impl<'a> Input<'a> {
     /// One byte more than the longest input that can be accepted: a longer one is refused as its beginning of so many bytes is.
-    pub const BYTES: usize = SETTINGS_BYTES + tree::BYTES + 1;
+    pub const BYTES: usize = SETTINGS_BYTES + MARGIN_BYTES + tree::BYTES + 1;
 
-    /// The sheet program's input: the settings record (the first 31 bytes, or all if there are fewer), then the tree.
+    /// The sheet program's input: the settings record, then the tree. The record is the first 31 bytes, or all if there are fewer; and where a
+    /// hex 11 follows them, that byte and the ten after it, or all there are.
     #[must_use]
     pub fn split(bytes: &'a [u8]) -> Input<'a> {
-        let (settings, tree) = bytes.split_at(bytes.len().min(SETTINGS_BYTES));
+        let record = match bytes.get(SETTINGS_BYTES) {
+            Some(&MARGIN_TAG) => SETTINGS_BYTES + MARGIN_BYTES,
+            _ => SETTINGS_BYTES,
+        };
+        let (settings, tree) = bytes.split_at(bytes.len().min(record));
         Input { settings, tree }
     }
 
-    /// The sheet.
+    /// The sheet, with its margin.
     ///
     /// # Errors
     /// 1 to 7.
@@ -46,7 +54,7 @@ impl<'a> Input<'a> {
         printed(|out| calls::print_sheet(self.settings, self.tree, out))
     }
 
-    /// A leaf's block.
+    /// A leaf's block, without the margin.
     ///
     /// # Errors
     /// 1 to 6, 9.

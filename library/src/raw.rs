@@ -8,6 +8,13 @@ extern "C" {
         out_len: usize,
     ) -> u64;
 
+    pub fn leg_read_margin(
+        bytes: *const u8,
+        bytes_len: usize,
+        out: *mut u16,
+        out_len: usize,
+    ) -> u64;
+
     pub fn leg_read_tree(tree: *const u8, tree_len: usize) -> u64;
 
     pub fn leg_sizes(

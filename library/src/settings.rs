@@ -36,7 +36,7 @@ pub struct Sides {
     pub bottom: u8,
 }
 
-/// What a sheet looks like: marks, padding, alignments, priorities. No value is out of its range.
+/// What a sheet looks like: marks, padding, alignments, priorities, margin. No value is out of its range.
 ///
 /// ```
 /// use leg_sheet::{print_sheet, Alignment, Settings, Sides, Tree};
@@ -54,6 +54,17 @@ pub struct Sides {
 ///      4___________5"
 /// );
 /// assert!(settings.with_padding(Sides { left: 17, ..settings.padding() }).is_err());
+///
+/// let punched = Settings::default()
+///     .with_margin(Sides { left: 3, right: 0, top: 1, bottom: 0 })?
+///     .with_margin_fills(Sides { left: b'.', top: b'=', ..Sides::all(b' ') })?;
+/// assert_eq!(
+///     print_sheet(&punched, &Tree::from("leg 1"))?,
+///     "...=========\n\
+///      ...+-------+\n\
+///      ...| leg 1 |\n\
+///      ...+-------+"
+/// );
 /// # Ok::<(), leg_sheet::Refusal>(())
 /// ```
 #[derive(Debug, Clone, Copy, PartialEq, Eq, Hash)]
@@ -66,7 +77,12 @@ pub struct Settings {
     line_mode: bool,
     width_priority: Priority,
     height_priority: Priority,
+    margin: Sides,
+    margin_fills: Sides,
 }
+
+/// The margin where there is none: its sizes and its fills.
+const NO_MARGIN: [Sides; 2] = [Sides::all(0), Sides::all(b' ')];
 
 impl Alignment {
     /// As the reader has it: 0 is Start, 1 Center.
@@ -113,7 +129,7 @@ impl Sides {
 }
 
 impl Default for Settings {
-    /// Document 01's defaults.
+    /// Document 01's defaults, and no margin.
     fn default() -> Settings {
         Settings {
             marks: *b"--||-|+++++++++",
@@ -124,34 +140,39 @@ impl Default for Settings {
             line_mode: false,
             width_priority: Priority::List,
             height_priority: Priority::List,
+            margin: NO_MARGIN[0],
+            margin_fills: NO_MARGIN[1],
         }
     }
 }
 
 impl Settings {
-    /// The settings of a record.
+    /// The settings of a record: 31 bytes, or 42 with the margin.
     ///
     /// # Errors
     /// 1, where the proved reader refuses it.
     pub fn from_bytes(bytes: &[u8]) -> Result<Settings, Refusal> {
-        let mut out = [0; calls::SETTINGS];
+        let (mut out, mut margin) = ([0; calls::SETTINGS], [0; calls::MARGIN]);
         calls::read_settings(bytes, &mut out)?;
-        // The reader writes what the record's bytes are.
-        let out = out.map(|number| number as u8);
-        let sides = |at: usize| Sides::of([out[at], out[at + 1], out[at + 2], out[at + 3]]);
+        calls::read_margin(bytes, &mut margin)?;
+        // The readers write what the record's bytes are.
+        let (out, margin) = (out.map(|n| n as u8), margin.map(|n| n as u8));
+        let sides = |four: &[u8]| Sides::of([four[0], four[1], four[2], four[3]]);
         Ok(Settings {
             marks: std::array::from_fn(|at| out[at]),
-            padding: sides(15),
-            fills: sides(19),
+            padding: sides(&out[15..]),
+            fills: sides(&out[19..]),
             horizontal: Alignment::of(out[23]),
             vertical: Alignment::of(out[24]),
             line_mode: out[25] == 1,
             width_priority: Priority::of(out[26]),
             height_priority: Priority::of(out[27]),
+            margin: sides(&margin),
+            margin_fills: sides(&margin[4..]),
         })
     }
 
-    /// The settings record, which every call on bytes accepts.
+    /// The settings record, which every call on bytes accepts: 31 bytes, and 11 more where the margin or a fill of it is other than the default.
     #[must_use]
     pub fn to_bytes(&self) -> Vec<u8> {
         let choices = [
@@ -162,7 +183,13 @@ impl Settings {
             self.height_priority as u8,
         ];
         let sides = [self.padding.numbers(), self.fills.numbers()].concat();
-        [&[0x10, 0, 28], &self.marks[..], &sides, &choices].concat()
+        let mut bytes = [&[0x10, 0, 28], &self.marks[..], &sides, &choices].concat();
+        let margin = [self.margin, self.margin_fills];
+        if margin != NO_MARGIN {
+            bytes.extend([0x11, 0, 8]);
+            bytes.extend(margin.map(Sides::numbers).as_flattened());
+        }
+        bytes
     }
 
     /// These, if the proved reader accepts them: it alone knows the ranges.
@@ -217,6 +244,18 @@ impl Settings {
     #[must_use]
     pub const fn height_priority(&self) -> Priority {
         self.height_priority
+    }
+
+    /// The columns and lines around the whole sheet.
+    #[must_use]
+    pub const fn margin(&self) -> Sides {
+        self.margin
+    }
+
+    /// The characters that the margin is filled with; the left and the right one go from the sheet's first line to its last.
+    #[must_use]
+    pub const fn margin_fills(&self) -> Sides {
+        self.margin_fills
     }
 
     /// Other [marks](Settings::marks), each hex 20 to 7E.
@@ -277,5 +316,25 @@ impl Settings {
             height_priority,
             ..self
         }
+    }
+
+    /// Another [margin](Settings::margin), each 0 to 16.
+    ///
+    /// # Errors
+    /// 1, where one is out of its range.
+    pub fn with_margin(self, margin: Sides) -> Result<Settings, Refusal> {
+        Settings { margin, ..self }.checked()
+    }
+
+    /// Other [fills of the margin](Settings::margin_fills), each hex 20 to 7E.
+    ///
+    /// # Errors
+    /// 1, where one is out of its range.
+    pub fn with_margin_fills(self, margin_fills: Sides) -> Result<Settings, Refusal> {
+        Settings {
+            margin_fills,
+            ..self
+        }
+        .checked()
     }
 }

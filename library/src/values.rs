@@ -19,7 +19,7 @@ fn on_bytes<T>(
     })
 }
 
-/// The sheet: its lines with a line feed between them, none at the end.
+/// The sheet with its margin: its lines with a line feed between them, none at the end.
 ///
 /// ```
 /// use leg_sheet::{print_sheet, Settings, Tree};

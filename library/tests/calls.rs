@@ -1,6 +1,6 @@
 //! The calls on lent buffers by themselves: figure F1 of document 01, refusals, what they leave of a lent output, and priorities that no settings have.
 
-use leg_sheet::calls::{print_sheet, read_settings, share, SETTINGS};
+use leg_sheet::calls::{print_sheet, read_margin, read_settings, share, MARGIN, SETTINGS};
 use leg_sheet::Refusal;
 
 /// The settings record with document 01's defaults D.
@@ -42,6 +42,35 @@ fn reads_settings() {
         numbers.to_vec(),
         bytes.chain([0xA5A5]).collect::<Vec<u16>>()
     );
+}
+
+/// The eight numbers of the field, or those of none; the numbers past them stay, and a refusal leaves all.
+#[test]
+fn reads_the_margin() {
+    let field = b"\x11\x00\x08\x01\x02\x03\x10lr~ ";
+    let with = [&D[..], field].concat();
+    let read = |settings: &[u8], length: usize| {
+        let mut numbers = [0xA5A5; MARGIN + 1];
+        let answer = read_margin(settings, &mut numbers[..length]);
+        (answer.map_err(Refusal::number), numbers.to_vec())
+    };
+    let written = |eight: &[u8]| {
+        let numbers = eight.iter().map(|&byte| byte.into());
+        (Ok(MARGIN), numbers.chain([0xA5A5]).collect::<Vec<u16>>())
+    };
+    let refused = |number: u8| (Err(number), vec![0xA5A5; MARGIN + 1]);
+    assert_eq!(read(&with, 9), written(&field[3..]));
+    assert_eq!(read(&with, 8), written(&field[3..]));
+    assert_eq!(read(D, 9), written(b"\x00\x00\x00\x00    "));
+    assert_eq!(read(&with, 7), refused(8));
+    assert_eq!(read(&with[..41], 9), refused(1));
+    assert_eq!(read(b"", 7), refused(1));
+
+    // The first field's numbers are the same with the margin.
+    let (mut one, mut other) = ([0; SETTINGS], [0; SETTINGS]);
+    assert_eq!(read_settings(&with, &mut one), Ok(SETTINGS));
+    assert_eq!(read_settings(D, &mut other), Ok(SETTINGS));
+    assert_eq!(one, other);
 }
 
 /// The header: 'Priority 0 is First, 1 Last, 2 and every other number List.'

@@ -9,6 +9,13 @@ use leg_sheet::{
 /// The record of document 01's defaults.
 const DEFAULTS: &[u8; 31] = b"\x10\x00\x1C--||-|+++++++++\x01\x01\x00\x00    \x00\x00\x00\x02\x02";
 
+const MARGIN: Sides = Sides {
+    left: 16,
+    right: 0,
+    top: 1,
+    bottom: 2,
+};
+
 fn figure_2() -> Tree {
     Tree::column(["abcdef".into(), Tree::row(["a", "b"])])
 }
@@ -19,6 +26,8 @@ fn other_settings() -> Settings {
         .with_marks(*b"-_()hv123456789")
         .and_then(|settings| settings.with_padding(Sides::all(16)))
         .and_then(|settings| settings.with_fills(Sides::all(b'~')))
+        .and_then(|settings| settings.with_margin(MARGIN))
+        .and_then(|settings| settings.with_margin_fills(Sides::all(b'#')))
         .expect("within the ranges")
         .with_horizontal(Alignment::Center)
         .with_vertical(Alignment::End)
@@ -32,11 +41,33 @@ fn settings_and_their_record_are_one() {
     assert_eq!(Settings::default().to_bytes(), DEFAULTS);
     assert_eq!(
         other_settings().to_bytes(),
-        b"\x10\x00\x1C-_()hv123456789\x10\x10\x10\x10~~~~\x01\x02\x01\x00\x01"
+        b"\x10\x00\x1C-_()hv123456789\x10\x10\x10\x10~~~~\x01\x02\x01\x00\x01\x11\x00\x08\x10\x00\x01\x02####"
     );
     for settings in [Settings::default(), other_settings()] {
         assert_eq!(Settings::from_bytes(&settings.to_bytes()), Ok(settings));
     }
+}
+
+/// The record has the margin's field where a size or a fill is other than without it.
+#[test]
+fn the_margin_has_its_field() {
+    let none = Settings::default();
+    let sized = none.with_margin(Sides {
+        bottom: 1,
+        ..none.margin()
+    });
+    let filled = none.with_margin_fills(Sides::all(b'.'));
+    for (settings, field) in [
+        (Ok(none), &b""[..]),
+        (sized, b"\x11\x00\x08\x00\x00\x00\x01    "),
+        (filled, b"\x11\x00\x08\x00\x00\x00\x00...."),
+    ] {
+        let settings = settings.expect("within the ranges");
+        assert_eq!(settings.to_bytes(), [&DEFAULTS[..], field].concat());
+        assert_eq!(Settings::from_bytes(&settings.to_bytes()), Ok(settings));
+    }
+    let empty = [&DEFAULTS[..], b"\x11\x00\x08\x00\x00\x00\x00    "].concat();
+    assert_eq!(Settings::from_bytes(&empty), Ok(none));
 }
 
 #[test]
@@ -50,6 +81,8 @@ fn getters_answer_what_was_set() {
     assert!(settings.line_mode());
     assert_eq!(settings.width_priority(), Priority::First);
     assert_eq!(settings.height_priority(), Priority::Last);
+    assert_eq!(settings.margin(), MARGIN);
+    assert_eq!(settings.margin_fills(), Sides::all(b'#'));
 }
 
 #[test]
@@ -64,19 +97,24 @@ fn setters_stay_in_the_ranges() {
             ..settings.fills()
         };
         assert_eq!(settings.with_fills(fills), Err(Refusal::BadSettings));
+        assert_eq!(settings.with_margin_fills(fills), Err(Refusal::BadSettings));
     }
     let padding = Sides {
         top: 17,
         ..settings.padding()
     };
     assert_eq!(settings.with_padding(padding), Err(Refusal::BadSettings));
+    assert_eq!(settings.with_margin(padding), Err(Refusal::BadSettings));
 }
 
 #[test]
 fn records_of_another_form_are_refused() {
-    for length in 0..31 {
-        let read = Settings::from_bytes(&DEFAULTS[..length]);
-        assert_eq!(read, Err(Refusal::BadSettings));
+    let long = [&other_settings().to_bytes()[..], b"\x11\x00"].concat();
+    for length in 0..=44 {
+        let read = Settings::from_bytes(&long[..length]);
+        let is_good = length == 31 || length == 42;
+        assert_eq!(read.is_ok(), is_good, "{length}");
+        assert!(is_good || read == Err(Refusal::BadSettings));
     }
 }
 
@@ -151,6 +189,50 @@ fn a_leaf_has_its_lists() {
     assert_eq!(leaf.horizontal.entries()[2..], [0; 510]);
 }
 
+/// The margin is around the sheet, and counts for its limits alone.
+#[test]
+fn margins() {
+    let margin = |left: u8, right: u8, top: u8, bottom: u8| {
+        let sides = Sides {
+            left,
+            right,
+            top,
+            bottom,
+        };
+        let fills = Sides {
+            left: b'l',
+            right: b'r',
+            top: b't',
+            bottom: b'b',
+        };
+        let settings = other_settings().with_padding(Sides::all(0));
+        settings
+            .and_then(|settings| settings.with_margin(sides))
+            .and_then(|settings| settings.with_margin_fills(fills))
+            .expect("within the ranges")
+    };
+    let tree = Tree::from("ab");
+    assert_eq!(
+        print_sheet(&margin(1, 2, 1, 1), &tree),
+        Ok("lttttrr\nl1--2rr\nl(ab)rr\nl4__5rr\nlbbbbrr".into())
+    );
+    let block = Ok("1--2\n(ab)\n4__5".into());
+    assert_eq!(print_sheet(&margin(0, 0, 0, 0), &tree), block);
+    assert_eq!(print_leaf(&margin(1, 2, 1, 1), &tree, 0), block);
+    let sizes_of = |settings: Settings| sizes(&settings, &tree);
+    assert_eq!(sizes_of(margin(1, 2, 1, 1)), sizes_of(margin(0, 0, 0, 0)));
+
+    for (settings, most) in [(margin(16, 16, 0, 0), 366), (margin(0, 1, 0, 0), 397)] {
+        let cell = |length: usize| Tree::from("x".repeat(length));
+        assert!(print_sheet(&settings, &cell(most)).is_ok());
+        let wide = cell(most + 1);
+        assert_eq!(print_sheet(&settings, &wide), Err(Refusal::TooLarge));
+        assert_eq!(print_leaf(&settings, &wide, 0), Err(Refusal::TooLarge));
+        assert_eq!(leaf_record(&settings, &wide, 0), Err(Refusal::TooLarge));
+        assert!(sizes(&settings, &wide).is_ok());
+    }
+}
+
 #[test]
 fn every_call_is_refused() {
     let settings = Settings::default();
@@ -195,4 +277,28 @@ fn an_input_is_split_after_31_bytes() {
     let short = Input::split(&bytes[..30]);
     assert_eq!((short.settings.len(), short.tree.len()), (30, 0));
     assert_eq!(short.print_sheet(), Err(Refusal::BadSettings));
+}
+
+/// A hex 11 behind the first field starts the margin's, which has that byte and the ten after it, or all there are.
+#[test]
+fn an_input_is_split_after_the_margin() {
+    let field = b"\x11\x00\x08\x01\x00\x00\x00lrtb";
+    let tree = b"\x01\x00\x02ab";
+    let answer = |rest: &[&[u8]], settings: usize| {
+        let bytes = [&DEFAULTS[..], &rest.concat()].concat();
+        let input = Input::split(&bytes);
+        assert_eq!(input.settings, &bytes[..settings]);
+        assert_eq!(input.tree, &bytes[settings..]);
+        input.print_sheet()
+    };
+    let (bad_settings, bad_tree) = (Err(Refusal::BadSettings), Err(Refusal::BadTree));
+    let printed = Ok("l+----+\nl| ab |\nl+----+".into());
+    assert_eq!(answer(&[field, tree], 42), printed);
+    assert_eq!(answer(&[&field[..1]], 32), bad_settings);
+    assert_eq!(answer(&[&field[..10]], 41), bad_settings);
+    assert_eq!(answer(&[&field[..9], tree], 42), bad_settings);
+    assert_eq!(answer(&[field], 42), bad_tree);
+    assert_eq!(answer(&[b"\x11\x00\x00"], 34), bad_settings);
+    assert_eq!(answer(&[b"\x12", &field[1..], tree], 31), bad_tree);
+    assert_eq!(answer(&[field, field, tree], 42), bad_tree);
 }

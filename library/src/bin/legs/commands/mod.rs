@@ -58,7 +58,7 @@ pub fn help() -> String {
     let commands: String = COMMANDS.iter().map(line).collect();
     format!(
         "Prints leg sheets: bordered tables of nested rows and columns.\n\n{commands}\n\
-         FILE is a settings record, then a tree, as examples/encode.py writes them; - is standard input.\n\
+         FILE is a settings record, with the margin's field or without, then a tree, as examples/encode.py writes them; - is standard input.\n\
          Nodes are numbered from 0, a parent before its children, these from left to right.\n\n\
          Exit status: 0, or 1 refused, 2 usage, 3 input or output failed.\n"
     )
