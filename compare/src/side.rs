@@ -1,12 +1,13 @@
 //! The library as a side of the comparison. Its lists are lent full of canaries, with some numbers more than needed and with one less (`lent`), so that
 //! whatever a refusal writes, or a result past its end, shows. What was written is read by the library's own records.
 
-use leg_sheet::calls::{self, CUT, LENT_CUT, LIST, PIECES, SETTINGS, SIZES};
+use leg_sheet::calls::{self, CUT, LENT_CUT, LIST, MARGIN, PIECES, SETTINGS, SIZES};
 use leg_sheet::List;
 use oracle::calls::{
-    Calls, Counted, CutParts, CutPositions, LeafRecord, ReadSettings, Shared, SizeRecord, SplitList,
+    Calls, Counted, CutParts, CutPositions, LeafRecord, ReadMargin, ReadSettings, Shared,
+    SizeRecord, SplitList,
 };
-use oracle::form::{encode_settings, Flags, Settings};
+use oracle::form::{encode_record, encode_settings, Flags, Margin, Settings};
 
 use crate::lent::{self, canary, number, sound, Answer, Lent, Writes, MORE};
 
@@ -34,6 +35,10 @@ fn settings_of(settings: leg_sheet::Settings) -> Settings {
         line_mode: settings.line_mode().into(),
         width_priority: settings.width_priority() as u8,
         height_priority: settings.height_priority() as u8,
+        margin: Margin {
+            sizes: sides(settings.margin()),
+            fills: sides(settings.margin_fills()),
+        },
     }
 }
 
@@ -76,17 +81,31 @@ fn list_of(list: &leg_sheet::SplitList) -> SplitList {
 }
 
 impl Calls for Library {
-    /// The numbers written and the settings that the library makes of them are held to each other.
+    /// The numbers written, the settings that the library makes of them and the bytes that it makes of these are held to each other.
     fn read_settings(&mut self, settings: &[u8]) -> ReadSettings {
         let (number, out) = lent::record::<SETTINGS>(|out| calls::read_settings(settings, out));
         let read = leg_sheet::Settings::from_bytes(settings);
         let is_same = number == lent::number(read.map(|_| SETTINGS));
         let settings = read.map_or(Settings::BLANK, settings_of);
-        let record = encode_settings(&settings);
+        let record = encode_record(&settings);
         let is_written = record[3..].iter().map(|&byte| u16::from(byte)).eq(out);
+        let is_encoded = read.map_or(true, |read| read.to_bytes() == encode_settings(&settings));
         ReadSettings {
-            number: sound(number, is_same && is_written),
+            number: sound(number, is_same && is_written && is_encoded),
             settings,
+        }
+    }
+
+    fn read_margin(&mut self, settings: &[u8]) -> ReadMargin {
+        let (number, out) = lent::record::<MARGIN>(|out| calls::read_margin(settings, out));
+        let bytes = out.map(|number| number as u8);
+        let [left, right, top, bottom, fills @ ..] = bytes;
+        ReadMargin {
+            number: sound(number, bytes.map(u16::from) == out),
+            margin: Margin {
+                sizes: [left, right, top, bottom],
+                fills,
+            },
         }
     }
 
@@ -201,6 +220,25 @@ impl Calls for Library {
                 number: sound(number(refused), part == lent),
                 part: 0,
             },
+        }
+    }
+}
+
+#[cfg(test)]
+mod tests {
+    use leg_sheet::Input;
+    use oracle::judge;
+
+    /// The library parts the sheet program's input where the judge does.
+    #[test]
+    fn an_input_is_split_as_the_judge_says() {
+        for tag in 0..=255 {
+            let mut bytes = [0x11; 60];
+            bytes[31] = tag;
+            for length in 0..=bytes.len() {
+                let input = Input::split(&bytes[..length]);
+                assert_eq!((input.settings, input.tree), judge::split(&bytes[..length]));
+            }
         }
     }
 }
