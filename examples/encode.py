@@ -1,21 +1,25 @@
 #!/usr/bin/env python3
-"""Writes the example inputs: the settings record, then the tree, as document 01 has them.
+"""Writes the example inputs: the settings, then the tree, as documents 01 and 02 have them.
 
-A tree is a text (a Cell), row(..) or column(..).
+A tree is a text (a Cell), row(..) or column(..). The sides of padding and margin are left, right, top, bottom.
 """
 import os
 
 MARKS = b"--||-|+++++++++"
 
 
-def settings(marks=MARKS, padding=(1, 1, 0, 0), fills=b"    ", horizontal=0, vertical=0, line_mode=0, width=2, height=2):
-    body = marks + bytes(padding) + fills + bytes([horizontal, vertical, line_mode, width, height])
-    assert len(body) == 28
-    return b"\x10" + len(body).to_bytes(2, "big") + body
-
-
 def element(tag, contents):
     return bytes([tag]) + len(contents).to_bytes(2, "big") + contents
+
+
+def settings(marks=MARKS, padding=(1, 1, 0, 0), fills=b"    ", horizontal=0, vertical=0, line_mode=0, width=2, height=2, margin=None, margin_fills=b"    "):
+    body = marks + bytes(padding) + fills + bytes([horizontal, vertical, line_mode, width, height])
+    assert len(body) == 28
+    if margin is None:
+        return element(0x10, body)
+    edge = bytes(margin) + margin_fills
+    assert len(edge) == 8
+    return element(0x10, body) + element(0x11, edge)
 
 
 def cell(text):
@@ -55,6 +59,7 @@ FLIGHT = column(
 EXAMPLES = {
     "flight": (settings(), FLIGHT),
     "centred": (settings(marks=b"=_()hv/\\T[]*<>#", padding=(2, 2, 1, 1), fills=b".. .", horizontal=1, vertical=1, line_mode=1), FLIGHT),
+    "binder": (settings(margin=(8, 0, 1, 0), margin_fills=b"  = "), FLIGHT),
     "figure2": (settings(marks=b"-_()hv123456789"), column("abcdef", row("a", "b"))),
     "refused": (settings(padding=(0, 0, 0, 0)), row("leg 1", "")),
 }

@@ -44,6 +44,10 @@ fn fails(words: &[&str], message: &str, status: i32) {
 #[test]
 fn prints() {
     answers(&["print", "figure2.legs"], FIGURE_2);
+    answers(
+        &["print", "binder.legs"],
+        include_str!("../../examples/binder.txt"),
+    );
 }
 
 #[test]
@@ -85,6 +89,10 @@ fn check() {
     answers(
         &["check", "flight.legs"],
         "settings: accepted\ntree: accepted, nodes: 66\nsheet: accepted, 74 columns by 23 lines\n",
+    );
+    answers(
+        &["check", "binder.legs"],
+        "settings: accepted\ntree: accepted, nodes: 66\nsheet: accepted, 82 columns by 24 lines\n",
     );
     let refused = "settings: accepted\n\
                    tree: accepted, nodes: 3\n\
