@@ -1,4 +1,4 @@
-//! The oracle on the command line. Settings and tree come as bytes on standard input, as document 01's sheet program takes them.
+//! The oracle on the command line. Settings and tree come as bytes on standard input, as the sheet program takes them.
 
 use std::io::{Read, Write};
 use std::process::ExitCode;
@@ -8,9 +8,9 @@ use oracle::compare::Comparison;
 use oracle::sides::{Original, Paper};
 use oracle::{judge, original, replay};
 
-const USAGE: &str = "oracle sheet             the sheet, as document 01's sheet program prints it
+const USAGE: &str = "oracle sheet             the sheet, as the sheet program prints it
 oracle leaves            every node's sizes, every leaf's record and block
-oracle agree [SEED [N]]  the crate against document 01, on the exhaustive inputs and N rounds of the random ones
+oracle agree [SEED [N]]  the crate against documents 01 and 02, on the exhaustive inputs and N rounds of the random ones
 oracle replay SEED       answers of the crate as the input of the program crates/replay
 oracle faults SEED       the same of crates/replay_faults";
 
