@@ -10,7 +10,7 @@ use Rattle.frame.specs.Frame.{tooLarge}
 use Rattle.sheet.specs.Sheet.{sheet}
 use Rattle.sheet.specs.Answers.{narrow}
 
--- `refused `, the number and 0A. Every number that the program tells is under 10 (`refused-digit`): one decimal digit
+-- `refused `, the number and 0A. Every number that the program tells is under 10 (`told`, proofs/Told.antt): one decimal digit
 abbrev pub refusedText : ℕ → List ℕ
 refusedText k = 114 ∷ 101 ∷ 102 ∷ 117 ∷ 115 ∷ 101 ∷ 100 ∷ 32 ∷ (48 + k) ∷ 10 ∷ []
 
