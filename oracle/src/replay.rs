@@ -367,16 +367,16 @@ fn bad_margins(lines: &mut Lines, rng: &mut Rng, count: usize) {
             ..Settings::D
         })
     };
-    let items: [([u8; 4], &[u8], usize, &[u8]); 6] = [
-        ([1, 0, 0, 0], &[1, 0x01, 0x8C], 396, b"a"),
-        ([16, 16, 0, 0], &[1, 0x01, 0x6C], 364, b"a"),
-        ([16, 16, 0, 0], &[1, 0x01, 0x6D], 365, b"a"),
-        ([0, 0, 0, 1], &[1, 0x00, 0x9D], 157, b"\n"),
-        ([0, 0, 16, 16], &[1, 0x00, 0x7D], 125, b"\n"),
-        ([0, 0, 16, 16], &[1, 0x00, 0x7E], 126, b"\n"),
-    ];
-    for (sizes, head, n, item) in items {
-        lines.repeated(&margin(sizes), head, n, item);
+    for (sizes, length, byte) in [
+        ([1, 0, 0, 0], 396, b'a'),
+        ([16, 16, 0, 0], 364, b'a'),
+        ([16, 16, 0, 0], 365, b'a'),
+        ([0, 0, 0, 1], 157, b'\n'),
+        ([0, 0, 16, 16], 125, b'\n'),
+        ([0, 0, 16, 16], 126, b'\n'),
+    ] {
+        let [high, low] = u16::to_be_bytes(length);
+        lines.repeated(&margin(sizes), &[1, high, low], length.into(), &[byte]);
         lines.both(0);
     }
 }
