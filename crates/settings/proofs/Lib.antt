@@ -1,4 +1,5 @@
 -- What the proofs of several functions, and the layers above, use.
 pub mod Small
 pub mod Complete
+pub mod Long
 mod Within

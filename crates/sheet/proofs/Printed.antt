@@ -200,6 +200,7 @@ module _ {bs ts : List ℕ} {m : Measured} (k : Taken bs ts m) where
             let l = large-no (f .columns) (f .lines) (passed .first) in
             rw (frame-of, le) (record {
               lines-is = refl;
+              columns-is = refl;
               apart = omega arith;
               room = rw frame-of at (sheet-room (f .columns) (f .lines) (length o) (l .0) (l .1) (rw frame-of (rw frame-of at within)));
             })

@@ -43,6 +43,7 @@ insideAt m stride = m .left + m .top * stride
 -- the frame is the margin around its rectangle, and has room in len bytes
 pub record Framed (m : Margin) (f : Frame) (len : ℕ) : Type 0 where
   pub lines-is : f .lines ≡ m .top + f .tall + m .bottom
+  pub columns-is : f .columns ≡ m .left + f .wide + m .right
   pub apart : m .left + f .wide + m .right ≤ f .stride
   pub room : Room 0 (f .stride) (m .top + f .tall + m .bottom) (m .left + f .wide + m .right) len
 
