@@ -7,12 +7,15 @@ import os
 
 MARKS = b"--||-|+++++++++"
 
+# priorities
+LAST, LIST = 1, 2
+
 
 def element(tag, contents):
     return bytes([tag]) + len(contents).to_bytes(2, "big") + contents
 
 
-def settings(marks=MARKS, padding=(1, 1, 0, 0), fills=b"    ", horizontal=0, vertical=0, line_mode=0, width=2, height=2, margin=None, margin_fills=b"    "):
+def settings(marks=MARKS, padding=(1, 1, 0, 0), fills=b"    ", horizontal=0, vertical=0, line_mode=0, width=LAST, height=LIST, margin=None, margin_fills=b"    "):
     body = marks + bytes(padding) + fills + bytes([horizontal, vertical, line_mode, width, height])
     assert len(body) == 28
     if margin is None:
@@ -57,11 +60,12 @@ FLIGHT = column(
 )
 
 EXAMPLES = {
-    "flight": (settings(), FLIGHT),
-    "centred": (settings(marks=b"=_()hv/\\T[]*<>#", padding=(2, 2, 1, 1), fills=b".. .", horizontal=1, vertical=1, line_mode=1), FLIGHT),
-    "binder": (settings(margin=(8, 0, 1, 0), margin_fills=b"  = "), FLIGHT),
-    "figure2": (settings(marks=b"-_()hv123456789"), column("abcdef", row("a", "b"))),
-    "refused": (settings(padding=(0, 0, 0, 0)), row("leg 1", "")),
+    "flight": (settings(width=LIST), FLIGHT),
+    "centred": (settings(marks=b"=_()hv/\\T[]*<>#", padding=(2, 2, 1, 1), fills=b".. .", horizontal=1, vertical=1, line_mode=1, width=LIST), FLIGHT),
+    "binder": (settings(width=LIST, margin=(8, 0, 1, 0), margin_fills=b"  = "), FLIGHT),
+    "remarks": (settings(), column("abcdefghijk", row("a", "b", "c"))),
+    "figure2": (settings(marks=b"-_()hv123456789", width=LIST), column("abcdef", row("a", "b"))),
+    "refused": (settings(padding=(0, 0, 0, 0), width=LIST), row("leg 1", "")),
 }
 
 if __name__ == "__main__":

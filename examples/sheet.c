@@ -1,4 +1,4 @@
-/* The sheet of Column[`abcdef`, Row[`a`, `b`]] by the C library:
+/* The sheet of Column[`abcdef`, Row[`a`, `b`]] by the C library, with spare width shared by all (List):
  *
  *     rt staticlib export
  *     cc -Iinclude examples/sheet.c target/staticlib/libexport.a -o target/sheet && target/sheet

@@ -24,7 +24,7 @@
  *   4 padding sizes, 0 to 16 (decimal): left, right, top, bottom; 4 fills in that order, 20 to 7E
  *   horizontal alignment (0 left, 1 center, 2 right), vertical alignment (0 top, 1 center, 2 bottom), line mode (0 moves all lines of a text
  *      as its widest, 1 each by itself), width priority and height priority (0 First, 1 Last, 2 List)
- * The defaults: "\x10\x00\x1C" "--||-|+++++++++" "\x01\x01\x00\x00" "    " "\x00\x00\x00\x02\x02".
+ * The defaults: "\x10\x00\x1C" "--||-|+++++++++" "\x01\x01\x00\x00" "    " "\x00\x00\x00\x01\x02".
  * The margin stands around the whole sheet. Behind these 31 bytes, 11 00 08, then
  *   4 sizes, 0 to 16 (decimal): left, right, top, bottom; 4 fills in that order, 20 to 7E; the left and right ones go from the first line to the last
  * W and H, 400 and 160 at the most, are the columns and lines of the sheet with its margin: the root's natural width or height, 2 for the edge, and the

@@ -129,7 +129,7 @@ impl Sides {
 }
 
 impl Default for Settings {
-    /// Document 01's defaults, and no margin.
+    /// Document 01's defaults with document 02's width priority, Last, and no margin.
     fn default() -> Settings {
         Settings {
             marks: *b"--||-|+++++++++",
@@ -138,7 +138,7 @@ impl Default for Settings {
             horizontal: Alignment::Start,
             vertical: Alignment::Start,
             line_mode: false,
-            width_priority: Priority::List,
+            width_priority: Priority::Last,
             height_priority: Priority::List,
             margin: NO_MARGIN[0],
             margin_fills: NO_MARGIN[1],

@@ -3,7 +3,7 @@
 use leg_sheet::calls::{print_sheet, read_margin, read_settings, share, MARGIN, SETTINGS};
 use leg_sheet::Refusal;
 
-/// The settings record with document 01's defaults D.
+/// The figures' set D: the default marks, List stated.
 const D: &[u8; 31] = b"\x10\x00\x1C--||-|+++++++++\x01\x01\x00\x00    \x00\x00\x00\x02\x02";
 /// The tree of F1: Cell `ab`.
 const AB: &[u8] = b"\x01\x00\x02ab";

@@ -6,8 +6,8 @@ use leg_sheet::{
     SizeRecord, Tree,
 };
 
-/// The record of document 01's defaults.
-const DEFAULTS: &[u8; 31] = b"\x10\x00\x1C--||-|+++++++++\x01\x01\x00\x00    \x00\x00\x00\x02\x02";
+/// The record of the defaults.
+const DEFAULTS: &[u8; 31] = b"\x10\x00\x1C--||-|+++++++++\x01\x01\x00\x00    \x00\x00\x00\x01\x02";
 
 const MARGIN: Sides = Sides {
     left: 16,
@@ -34,6 +34,18 @@ fn other_settings() -> Settings {
         .with_line_mode(true)
         .with_width_priority(Priority::First)
         .with_height_priority(Priority::Last)
+}
+
+/// Document 02, 2: spare width goes to the last child.
+#[test]
+fn the_defaults_spare_goes_right() {
+    let tree = Tree::column(["abcdefghijk".into(), Tree::row(["a", "b", "c"])]);
+    let sheet =
+        "+-------------+\n| abcdefghijk |\n+---+---+-----+\n| a | b | c   |\n+---+---+-----+";
+    assert_eq!(
+        print_sheet(&Settings::default(), &tree),
+        Ok(sheet.to_string())
+    );
 }
 
 #[test]

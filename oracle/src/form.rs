@@ -47,7 +47,13 @@ pub struct Settings {
 }
 
 impl Settings {
-    /// The set D of the figures.
+    /// The defaults: spare width goes to the last child (document 02, 2).
+    pub const DEFAULT: Settings = Settings {
+        width_priority: 1,
+        ..Settings::D
+    };
+
+    /// The set D of the figures: the defaults, with List stated for the width.
     pub const D: Settings = Settings {
         marks: *b"--||-|+++++++++",
         padding: [1, 1, 0, 0],

@@ -521,7 +521,7 @@ pub fn near(rng: &mut Rng, margins: Margins, limit: Limit, offset: isize) -> (Se
     (settings, tree)
 }
 
-/// The defaults with a margin of these sizes, and a Cell over another: W is so far from its limit, and H from its.
+/// The set D with a margin of these sizes, and a Cell over another: W is so far from its limit, and H from its.
 pub fn corner(sizes: [u8; 4], width: isize, height: isize) -> (Settings, Tree) {
     let at =
         |limit: usize, offset: isize| limit.checked_add_signed(offset).expect("a small offset");

@@ -20,6 +20,20 @@ fn rectangle(tree: &Tree) -> (usize, usize) {
     paper::rectangle(&BARE, &paper::sizes(&BARE, tree))
 }
 
+/// Document 02, 2: the port's default width priority is Last, the crate's is List.
+#[test]
+fn defaults() {
+    let row = Tree::Row(vec![Tree::cell("a"), Tree::cell("b")]);
+    let tree = Tree::Column(vec![Tree::cell("abcdef"), row]);
+    let crates = "+--------+\n| abcdef |\n+----+---+\n| a  | b |\n+----+---+";
+    let ports = "+--------+\n| abcdef |\n+---+----+\n| a | b  |\n+---+----+";
+    assert_eq!(original::default_sheet(&tree), crates.as_bytes());
+    assert_eq!(
+        paper::answer(&Settings::DEFAULT, &tree).sheet,
+        ports.as_bytes()
+    );
+}
+
 #[test]
 fn zero_wide_leaves() {
     let empty = || Tree::cell("");

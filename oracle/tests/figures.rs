@@ -29,6 +29,51 @@ fn f1() {
     assert_eq!(original::default_sheet(&tree), lines.join("\n").as_bytes());
 }
 
+/// Document 02, 2: spare width goes right, spare height is shared as before.
+#[test]
+fn the_default_record() {
+    let record = *b"\x10\x00\x1c--||-|+++++++++\x01\x01\x00\x00    \x00\x00\x00\x01\x02";
+    assert_eq!(encode_settings(&Settings::DEFAULT), record);
+    let row = Tree::Row(vec![cell("a"), cell("b"), cell("c")]);
+    let tree = Tree::Column(vec![cell("abcdefghijk"), row]);
+    let lines = [
+        "+-------------+",
+        "| abcdefghijk |",
+        "+---+---+-----+",
+        "| a | b | c   |",
+        "+---+---+-----+",
+    ];
+    assert_eq!(sheet(&Settings::DEFAULT, &tree), lines);
+    let column = Tree::Column(vec![cell("a"), cell("b")]);
+    let tree = Tree::Row(vec![cell("x\nx\nx\nx"), column]);
+    let lines = [
+        "+---+---+",
+        "| x | a |",
+        "| x |   |",
+        "| x +---+",
+        "| x | b |",
+        "+---+---+",
+    ];
+    assert_eq!(sheet(&Settings::DEFAULT, &tree), lines);
+}
+
+/// The same tree as F2, with Last stated.
+#[test]
+fn f2_goes_right() {
+    let settings = Settings {
+        width_priority: 1,
+        ..Settings::M
+    };
+    let lines = [
+        "1--------2",
+        "( abcdef )",
+        "7---3----8",
+        "( a ( b  )",
+        "4___6____5",
+    ];
+    assert_eq!(sheet(&settings, &figure_2()), lines);
+}
+
 fn figure_2() -> Tree {
     let row = Tree::Row(vec![cell("a"), cell("b")]);
     Tree::Column(vec![cell("abcdef"), row])

@@ -1,4 +1,4 @@
--- The defaults of 01, "Settings record": marks `--||-|+++++++++`, padding 1 1 0 0, fills space, then 0 0 0 2 2.
+-- The defaults of 01, "Settings record": marks `--||-|+++++++++`, padding 1 1 0 0, fills space, then 0 0 0 1 2: the width priority is Last by 02, 2.
 use mathlib.Core.Path.{_≡_, refl}
 use Prim.Native.Nat.{ℕ}
 use mathlib.Core.Bool.{false}
@@ -23,7 +23,7 @@ defaults = record {
   horizontal = Alignment.Start;
   vertical = Alignment.Start;
   «line_mode» = false;
-  «width_priority» = Priority.List;
+  «width_priority» = Priority.Last;
   «height_priority» = Priority.List;
 }
 
@@ -50,13 +50,18 @@ recordOf s =
 abbrev pub marginBytes : Margin → List ℕ
 marginBytes m = 17 ∷ 0 ∷ 8 ∷ m .left ∷ m .right ∷ m .top ∷ m .bottom ∷ m .fills
 
+-- the 31 bytes of the defaults
+pub defaults-bytes : recordOf defaults
+    ≡ 16 ∷ 0 ∷ 28 ∷ 45 ∷ 45 ∷ 124 ∷ 124 ∷ 45 ∷ 124 ∷ 43 ∷ 43 ∷ 43 ∷ 43 ∷ 43 ∷ 43 ∷ 43 ∷ 43 ∷ 43 ∷ 1 ∷ 1 ∷ 0 ∷ 0 ∷ 32 ∷ 32 ∷ 32 ∷ 32 ∷ 0 ∷ 0 ∷ 0 ∷ 1 ∷ 2 ∷ []
+defaults-bytes = refl
+
 pub defaults-read : readSettings (recordOf defaults) ≡ read defaults
 unfolding readSettings
 defaults-read = refl
 
 -- a margin of 2 columns on the left, 1 line on top, of dots and stars
 pub margin-read : readSettings (recordOf defaults ++ (17 ∷ 0 ∷ 8 ∷ 2 ∷ 0 ∷ 1 ∷ 0 ∷ 46 ∷ 32 ∷ 42 ∷ 32 ∷ []))
-    ≡ read (record { margin = record { left = 2; right = 0; top = 1; bottom = 0; fills = 46 ∷ 32 ∷ 42 ∷ 32 ∷ [] }; marks = defaults .marks; left = 1; right = 1; top = 0; bottom = 0; fills = replicate 4 32; horizontal = Alignment.Start; vertical = Alignment.Start; «line_mode» = false; «width_priority» = Priority.List; «height_priority» = Priority.List })
+    ≡ read (record { margin = record { left = 2; right = 0; top = 1; bottom = 0; fills = 46 ∷ 32 ∷ 42 ∷ 32 ∷ [] }; marks = defaults .marks; left = 1; right = 1; top = 0; bottom = 0; fills = replicate 4 32; horizontal = Alignment.Start; vertical = Alignment.Start; «line_mode» = false; «width_priority» = Priority.Last; «height_priority» = Priority.List })
 unfolding readSettings
 margin-read = refl
 
