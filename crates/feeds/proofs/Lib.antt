@@ -1,0 +1,4 @@
+pub mod Lanes
+pub mod Loads
+pub mod Flags
+pub mod Seeing
