@@ -53,9 +53,9 @@ extern "C" {
 #define LEG_MARGIN 8
 #define LEG_PIECES 512
 #define LEG_LIST (1 + LEG_PIECES)
-#define LEG_RECORD (11 + 2 * LEG_LIST)
-#define LEG_CUT (1 + 2 * LEG_LIST)
-#define LEG_LENT_CUT (2 + LEG_LIST)
+#define LEG_RECORD (13 + 2 * LEG_LIST)
+#define LEG_CUT (3 + 2 * LEG_LIST)
+#define LEG_LENT_CUT (4 + LEG_LIST)
 
 /* Reads settings of 31 or 42 bytes. 1, 8. Writes the 28 numbers after the first tag and length: 15 marks; padding left, right, top, bottom;
  * their fills; horizontal and vertical alignment; line mode; width and height priority. Counts 28. */
@@ -73,8 +73,9 @@ uint64_t leg_read_tree(const uint8_t *tree, size_t tree_len);
 uint64_t leg_sizes(const uint8_t *settings, size_t settings_len, const uint8_t *tree, size_t tree_len, uint16_t *list, size_t list_len);
 
 /* A leaf's record. 1 to 6, 9; 8 last, where `out` has under LEG_RECORD numbers. Writes node, width, height; first_row, last_row, first_col, last_col,
- * no_right, lean_top, top_left, top_intersection (1 or 0); the horizontal list, then the vertical one, each a count and 512 entries with
- * 0 past the count. Counts LEG_RECORD. */
+ * no_right, lean_top, top_left, top_intersection (1 or 0); the pair (leg_short_splits3) of the cut that its parent made for it, of the horizontal list in
+ * a Row, of the vertical one in a Column; 0 0 for the root; the horizontal list, then the vertical one, each a count and 512 entries with 0 past the
+ * count. Counts LEG_RECORD. */
 uint64_t leg_leaf_record(const uint8_t *settings, size_t settings_len, const uint8_t *tree, size_t tree_len, size_t node, uint16_t *out, size_t out_len);
 
 /* Prints a leaf's block, its lines joined by 0A. 1 to 6, 9, 8. Counts the bytes written. */
@@ -84,12 +85,13 @@ uint64_t leg_print_leaf(const uint8_t *settings, size_t settings_len, const uint
 uint64_t leg_print_sheet(const uint8_t *settings, size_t settings_len, const uint8_t *tree, size_t tree_len, uint8_t *out, size_t out_len);
 
 /* Cuts the list of the first `count` of `pieces` at `w`; numbers past them are not looked at. 10; 8 where `pieces` has under `count` numbers or `out` under
- * LEG_CUT. Writes yes or no (1 or 0), the list taken, the list left, each a count and 512 entries with 0 past the count. Counts LEG_CUT. */
+ * LEG_CUT. Writes yes or no (1 or 0); the cut's pair: how many pieces it took, and the length left of the first piece not taken, 0 if there is none or it
+ * was removed; the list taken, the list left, each a count and 512 entries with 0 past the count. Counts LEG_CUT. */
 uint64_t leg_short_splits3(const uint16_t *pieces, size_t pieces_len, size_t count, uint16_t w, uint16_t *out, size_t out_len);
 
 /* The same cut, with the list left in the place of the lent one. 10; 8 where `pieces` has under `count` numbers or `out` under LEG_LENT_CUT. Writes the first
- * 512 numbers of `pieces`, or all where it has fewer: the list left with 0 past its count; and to `out` yes or no, the count left, the list taken as above.
- * Counts LEG_LENT_CUT. */
+ * 512 numbers of `pieces`, or all where it has fewer: the list left with 0 past its count; and to `out` yes or no, the pair, the count left, the list taken as
+ * above. Counts LEG_LENT_CUT. */
 uint64_t leg_short_splits3_lent(uint16_t *pieces, size_t pieces_len, size_t count, uint16_t w, uint16_t *out, size_t out_len);
 
 /* `short_splits` of the first `count` of `pieces`. 10; 8 where `pieces` has under `count` numbers, or `positions` or `left` under LEG_LIST. Writes the

@@ -7,7 +7,7 @@ use oracle::calls::{
     Calls, Counted, CutParts, CutPositions, LeafRecord, ReadMargin, ReadSettings, Shared,
     SizeRecord, SplitList,
 };
-use oracle::form::{encode_record, encode_settings, Flags, Margin, Settings};
+use oracle::form::{encode_record, encode_settings, CutPair, Flags, Margin, Settings};
 
 use crate::lent::{self, canary, number, sound, Answer, Lent, Writes, MORE};
 
@@ -70,6 +70,13 @@ fn flags_of(flags: leg_sheet::Flags) -> Flags {
         lean_top: flags.lean_top,
         top_left: flags.top_left,
         top_intersection: flags.top_intersection,
+    }
+}
+
+fn pair_of(pair: leg_sheet::CutPair) -> CutPair {
+    CutPair {
+        taken: pair.taken,
+        rest: pair.rest.into(),
     }
 }
 
@@ -137,6 +144,7 @@ impl Calls for Library {
             horizontal: list_of(&leaf.horizontal),
             vertical: list_of(&leaf.vertical),
             flags: flags_of(leaf.flags),
+            pair: pair_of(leaf.pair),
         }
     }
 
@@ -161,6 +169,7 @@ impl Calls for Library {
         CutParts {
             number,
             split: cut.split,
+            pair: pair_of(cut.pair),
             taken: list_of(&cut.taken),
             left: list_of(&cut.left),
         }
@@ -203,6 +212,7 @@ impl Calls for Library {
         CutParts {
             number,
             split: cut.split,
+            pair: pair_of(cut.pair),
             taken: list_of(&cut.taken),
             left,
         }

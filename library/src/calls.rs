@@ -28,12 +28,12 @@ pub const SIZES: usize = 4;
 pub const PIECES: usize = 512;
 /// A list that is written: its count, then its entries with 0 past the count.
 pub const LIST: usize = 1 + PIECES;
-/// A leaf record: node, width, height, eight flags, two lists.
-pub const RECORD: usize = 11 + 2 * LIST;
-/// `short_splits3`: yes or no, the list taken, the list left.
-pub const CUT: usize = 1 + 2 * LIST;
-/// `short_splits3_lent`: yes or no, the count left, the list taken.
-pub const LENT_CUT: usize = 2 + LIST;
+/// A leaf record: node, width, height, eight flags, the pair of its cut, two lists.
+pub const RECORD: usize = 13 + 2 * LIST;
+/// `short_splits3`: yes or no, the pair, the list taken, the list left.
+pub const CUT: usize = 3 + 2 * LIST;
+/// `short_splits3_lent`: yes or no, the pair, the count left, the list taken.
+pub const LENT_CUT: usize = 4 + LIST;
 /// The largest sheet or block: 160 lines of 400 columns, the margin included, with a line feed between them.
 pub const SHEET: usize = 401 * 160 - 1;
 /// The nodes of a tree at the most.

@@ -36,7 +36,8 @@ mod values;
 
 pub use input::Input;
 pub use records::{
-    CutAnswer, CutParts, Flags, LeafRecord, List, Positions, ShortParts, SizeRecord, SplitList,
+    CutAnswer, CutPair, CutParts, Flags, LeafRecord, List, Positions, ShortParts, SizeRecord,
+    SplitList,
 };
 pub use refusal::Refusal;
 pub use settings::{Alignment, Priority, Settings, Sides};

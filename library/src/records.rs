@@ -118,7 +118,16 @@ impl Flags {
     }
 }
 
-/// A leaf: its size, the split lists that it is handed, its flags.
+/// What a cut by `short_splits3` took and left.
+#[derive(Debug, Clone, Copy, Default, PartialEq, Eq, Hash)]
+pub struct CutPair {
+    /// How many pieces it took.
+    pub taken: usize,
+    /// The length left of the first piece not taken; 0 if there is none or it was removed.
+    pub rest: u16,
+}
+
+/// A leaf: its size, its flags, the pair of its cut, the split lists that it is handed.
 #[derive(Debug, Clone, Copy, PartialEq, Eq, Hash)]
 pub struct LeafRecord {
     /// Its number.
@@ -129,6 +138,8 @@ pub struct LeafRecord {
     pub height: u16,
     /// Its flags.
     pub flags: Flags,
+    /// What was taken and left of the list that its parent cut for it, a Row the horizontal one, a Column the vertical one; zeros for the root.
+    pub pair: CutPair,
     /// The pieces above it.
     pub horizontal: SplitList,
     /// The pieces left of it.
@@ -153,8 +164,9 @@ impl LeafRecord {
                 top_left: yes(numbers[9]),
                 top_intersection: yes(numbers[10]),
             },
-            horizontal: list_at(numbers, 11),
-            vertical: list_at(numbers, 11 + LIST),
+            pair: pair_at(numbers, 11),
+            horizontal: list_at(numbers, 13),
+            vertical: list_at(numbers, 13 + LIST),
         }
     }
 }
@@ -164,6 +176,8 @@ impl LeafRecord {
 pub struct CutParts {
     /// Whether the cut falls between two pieces, so that a piece was removed.
     pub split: bool,
+    /// How much it took and left.
+    pub pair: CutPair,
     /// The pieces taken.
     pub taken: SplitList,
     /// The list left.
@@ -176,8 +190,9 @@ impl CutParts {
     pub fn from_numbers(numbers: &[u16; CUT]) -> CutParts {
         CutParts {
             split: yes(numbers[0]),
-            taken: list_at(numbers, 1),
-            left: list_at(numbers, 1 + LIST),
+            pair: pair_at(numbers, 1),
+            taken: list_at(numbers, 3),
+            left: list_at(numbers, 3 + LIST),
         }
     }
 }
@@ -187,6 +202,8 @@ impl CutParts {
 pub struct CutAnswer {
     /// Whether the cut falls between two pieces, so that a piece was removed.
     pub split: bool,
+    /// How much it took and left.
+    pub pair: CutPair,
     /// How many pieces are left.
     pub left: usize,
     /// The pieces taken.
@@ -199,8 +216,9 @@ impl CutAnswer {
     pub fn from_numbers(numbers: &[u16; LENT_CUT]) -> CutAnswer {
         CutAnswer {
             split: yes(numbers[0]),
-            left: numbers[1].into(),
-            taken: list_at(numbers, 2),
+            pair: pair_at(numbers, 1),
+            left: numbers[3].into(),
+            taken: list_at(numbers, 4),
         }
     }
 }
@@ -218,6 +236,14 @@ pub struct ShortParts {
 fn yes(number: u16) -> bool {
     debug_assert!(number < 2, "{number} is neither yes nor no");
     number == 1
+}
+
+/// The pair among a record's numbers.
+fn pair_at(numbers: &[u16], start: usize) -> CutPair {
+    CutPair {
+        taken: numbers[start].into(),
+        rest: numbers[start + 1],
+    }
 }
 
 /// The list among a record's numbers.

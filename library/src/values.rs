@@ -75,6 +75,10 @@ pub fn sizes(settings: &Settings, tree: &Tree) -> Result<Vec<SizeRecord>, Refusa
 /// assert_eq!((leaf.width, leaf.height), (8, 1));
 /// assert_eq!(leaf.horizontal.len(), 2);
 /// assert!(leaf.flags.last_row && !leaf.flags.first_row);
+///
+/// let tree = Tree::column([Tree::row(["aaaa", "b"]), Tree::row(["c", "dd"])]);
+/// let leaf = leaf_record(&Settings::default(), &tree, 5)?;
+/// assert_eq!((leaf.pair.taken, leaf.pair.rest), (0, 2));
 /// # Ok::<(), leg_sheet::Refusal>(())
 /// ```
 ///
@@ -89,6 +93,7 @@ pub fn leaf_record(settings: &Settings, tree: &Tree, node: usize) -> Result<Leaf
 /// ```
 /// let cut = leg_sheet::short_splits3(&[4, 2], 5)?;
 /// assert_eq!((cut.split, &cut.taken[..], &cut.left[..]), (false, &[4][..], &[1][..]));
+/// assert_eq!((cut.pair.taken, cut.pair.rest), (1, 1));
 /// # Ok::<(), leg_sheet::Refusal>(())
 /// ```
 ///

@@ -1,6 +1,10 @@
-//! The calls on lent buffers by themselves: figure F1 of document 01, refusals, what they leave of a lent output, and priorities that no settings have.
+//! The calls on lent buffers by themselves: figure F1 of document 01, refusals, what they leave of a lent output, where the pair of a cut stands, and priorities
+//! that no settings have.
 
-use leg_sheet::calls::{print_sheet, read_margin, read_settings, share, MARGIN, SETTINGS};
+use leg_sheet::calls::{
+    leaf_record, print_sheet, read_margin, read_settings, share, short_splits3, short_splits3_lent,
+    CUT, LENT_CUT, LIST, MARGIN, RECORD, SETTINGS,
+};
 use leg_sheet::Refusal;
 
 /// The figures' set D: the default marks, List stated.
@@ -71,6 +75,37 @@ fn reads_the_margin() {
     assert_eq!(read_settings(&with, &mut one), Ok(SETTINGS));
     assert_eq!(read_settings(D, &mut other), Ok(SETTINGS));
     assert_eq!(one, other);
+}
+
+/// The pair, 3 taken and 8 left, behind yes or no; then the lists, or the count left and the list taken.
+#[test]
+fn cuts_say_their_pair() {
+    let pieces = [1, 1, 1, 9];
+    let mut out = [0xA5A5; CUT + 1];
+    assert_eq!(short_splits3(&pieces, 4, 6, &mut out), Ok(1029));
+    assert_eq!(out[..8], [0, 3, 8, 3, 1, 1, 1, 0]);
+    assert_eq!(out[3 + LIST..][..3], [1, 8, 0]);
+    assert_eq!(out[CUT - 1..], [0, 0xA5A5]);
+
+    let mut lent = pieces;
+    let mut out = [0xA5A5; LENT_CUT + 1];
+    assert_eq!(short_splits3_lent(&mut lent, 4, 6, &mut out), Ok(517));
+    assert_eq!(out[..9], [0, 3, 8, 1, 3, 1, 1, 1, 0]);
+    assert_eq!(out[LENT_CUT - 1..], [0, 0xA5A5]);
+    assert_eq!(lent, [8, 0, 0, 0]);
+}
+
+/// Column[Row[`a`, `b`, `c`], Row[``, `efghijk`]], node 7, whose Row cuts 1 3 3 at 9 for it: the pair, 2 taken and none left, stands behind the
+/// flags, before the lists 1 3 and 1.
+#[test]
+fn a_record_has_its_pair() {
+    let tree = b"\x03\x00\x1F\x02\x00\x0C\x01\x00\x01a\x01\x00\x01b\x01\x00\x01c\x02\x00\x0D\x01\x00\x00\x01\x00\x07efghijk";
+    let mut out = [0xA5A5; RECORD + 1];
+    assert_eq!(leaf_record(D, tree, 7, &mut out), Ok(1039));
+    assert_eq!(out[..3], [7, 9, 1]);
+    assert_eq!(out[11..17], [2, 0, 2, 1, 3, 0]);
+    assert_eq!(out[13 + LIST..][..3], [1, 1, 0]);
+    assert_eq!(out[RECORD - 1..], [0, 0xA5A5]);
 }
 
 /// The header: 'Priority 0 is First, 1 Last, 2 and every other number List.'

@@ -77,6 +77,7 @@ fn leaf() {
         &["leaf", "figure2.legs", "4"],
         "node 4: 3 wide, 1 high\n\
          flags: last_row last_col lean_top\n\
+         cut: 0 taken, 0 left of the next\n\
          horizontal pieces: none\n\
          vertical pieces: 1\n\
          \n\

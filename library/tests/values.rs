@@ -2,7 +2,7 @@
 
 use leg_sheet::{
     leaf_record, print_leaf, print_sheet, share, short_splits, short_splits3,
-    short_splits3_in_place, sizes, Alignment, Input, Priority, Refusal, Settings, Sides,
+    short_splits3_in_place, sizes, Alignment, CutPair, Input, Priority, Refusal, Settings, Sides,
     SizeRecord, Tree,
 };
 
@@ -201,6 +201,30 @@ fn a_leaf_has_its_lists() {
     assert_eq!(leaf.horizontal.entries()[2..], [0; 510]);
 }
 
+/// Document 02, 4: the pair of the cut that the parent made, of the horizontal list in a Row, of the vertical one in a Column; zeros for the root.
+#[test]
+fn a_leaf_has_the_pair_of_its_cut() {
+    let settings = Settings::default().with_width_priority(Priority::List);
+    let pair = |tree: &Tree, node: usize| {
+        let CutPair { taken, rest } = leaf_record(&settings, tree, node).expect("a leaf").pair;
+        (taken, rest)
+    };
+    assert_eq!(pair(&"ab".into(), 0), (0, 0));
+    let rows = Tree::column([Tree::row(["a", "b", "c"]), Tree::row(["", "efghijk"])]);
+    assert_eq!(
+        [2, 6, 7].map(|node| pair(&rows, node)),
+        [(0, 0), (0, 1), (2, 0)]
+    );
+    let columns = Tree::row([
+        Tree::column(["a\na", "b\nb"]),
+        Tree::column(["c", "d", "e"]),
+    ]);
+    assert_eq!(
+        [5, 6, 7].map(|node| pair(&columns, node)),
+        [(0, 0), (1, 1), (0, 0)]
+    );
+}
+
 /// The margin is around the sheet, and counts for its limits alone.
 #[test]
 fn margins() {
@@ -261,7 +285,7 @@ fn every_call_is_refused() {
     assert_eq!((cut, pieces.len()), (Err(Refusal::TooManyPieces), 513));
 }
 
-/// Figures F6 to F9.
+/// Figures F6 to F9 and more, with the pair of document 02, 4.
 #[test]
 fn cuts() {
     let cut = |pieces: &[u16], width: u16| {
@@ -269,15 +293,20 @@ fn cuts() {
         let mut left = pieces.to_vec();
         let answer = short_splits3_in_place(&mut left, width).expect("a cut");
         assert_eq!((answer.split, answer.taken), (cut.split, cut.taken));
+        assert_eq!((answer.pair, answer.left), (cut.pair, cut.left.len()));
         assert_eq!(left, cut.left[..]);
-        (cut.split, cut.taken.to_vec(), left)
+        let CutPair { taken, rest } = cut.pair;
+        (cut.split, cut.taken.to_vec(), left, (taken, rest))
     };
-    assert_eq!(cut(&[4, 2], 5), (false, vec![4], vec![1]));
-    assert_eq!(cut(&[3, 3], 3), (true, vec![], vec![3]));
-    assert_eq!(cut(&[5], 0), (false, vec![], vec![4]));
-    assert_eq!(cut(&[0, 5], 0), (true, vec![], vec![5]));
-    assert_eq!(cut(&[], 3), (false, vec![], vec![]));
-    assert_eq!(cut(&[0; 512], 512), (false, vec![0; 512], vec![]));
+    assert_eq!(cut(&[4, 2], 5), (false, vec![4], vec![1], (1, 1)));
+    assert_eq!(cut(&[3, 3], 3), (true, vec![], vec![3], (0, 0)));
+    assert_eq!(cut(&[5], 0), (false, vec![], vec![4], (0, 4)));
+    assert_eq!(cut(&[0, 5], 0), (true, vec![], vec![5], (0, 0)));
+    assert_eq!(cut(&[], 3), (false, vec![], vec![], (0, 0)));
+    assert_eq!(cut(&[5], 4), (false, vec![], vec![0], (0, 0)));
+    assert_eq!(cut(&[2, 3], 6), (true, vec![2], vec![], (1, 0)));
+    assert_eq!(cut(&[1, 1, 1, 9], 6), (false, vec![1; 3], vec![8], (3, 8)));
+    assert_eq!(cut(&[0; 512], 512), (false, vec![0; 512], vec![], (512, 0)));
 }
 
 #[test]

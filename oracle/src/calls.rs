@@ -3,7 +3,7 @@
 //!
 //! On a refusal every field beside the number is 0 or no, and no lent list or output is written.
 
-use crate::form::{Flags, Margin, Settings};
+use crate::form::{CutPair, Flags, Margin, Settings};
 use crate::judge;
 
 /// A number and the settings.
@@ -86,6 +86,7 @@ pub struct LeafRecord {
     pub horizontal: SplitList,
     pub vertical: SplitList,
     pub flags: Flags,
+    pub pair: CutPair,
 }
 
 /// What `short_splits3` answers.
@@ -93,6 +94,7 @@ pub struct LeafRecord {
 pub struct CutParts {
     pub number: u8,
     pub split: bool,
+    pub pair: CutPair,
     pub taken: SplitList,
     pub left: SplitList,
 }

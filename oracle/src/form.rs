@@ -200,6 +200,15 @@ pub struct Flags {
     pub top_intersection: bool,
 }
 
+/// What a cut by `short_splits3` also says (document 02, 4).
+#[derive(Debug, Clone, Copy, Default, PartialEq, Eq)]
+pub struct CutPair {
+    /// 'How many pieces it took.'
+    pub taken: usize,
+    /// 'The length left of the first piece not taken, 0 if there is none or it was removed.'
+    pub rest: usize,
+}
+
 /// A leaf's record and its block.
 #[derive(Debug, Clone, PartialEq, Eq)]
 pub struct Leaf {
@@ -211,6 +220,8 @@ pub struct Leaf {
     pub horizontal: Vec<usize>,
     pub vertical: Vec<usize>,
     pub flags: Flags,
+    /// 'The pair from its own cut': the one that its parent made for it. 'Zeros for the root.'
+    pub pair: CutPair,
     pub block: Vec<u8>,
 }
 
@@ -230,6 +241,7 @@ pub struct Cut3 {
     pub yes: bool,
     pub taken: Vec<usize>,
     pub left: Vec<usize>,
+    pub pair: CutPair,
 }
 
 /// What `short_splits` makes of a list, and `squash_splits` of its positions.

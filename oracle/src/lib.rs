@@ -11,6 +11,7 @@ pub mod replay;
 pub mod sides;
 
 pub use form::{
-    encode_margin, encode_settings, encode_tree, Answer, Flags, Leaf, Margin, Settings, Size, Tree,
+    encode_margin, encode_settings, encode_tree, Answer, CutPair, Flags, Leaf, Margin, Settings,
+    Size, Tree,
 };
 pub use original::{answer, cut, cut3};

@@ -95,8 +95,14 @@ fn leaves() -> ExitCode {
     }
     for leaf in answer.leaves {
         println!(
-            "leaf {}: {} by {}, horizontal {:?}, vertical {:?}, {:?}",
-            leaf.node, leaf.width, leaf.height, leaf.horizontal, leaf.vertical, leaf.flags
+            "leaf {}: {} by {}, horizontal {:?}, vertical {:?}, {:?}, {:?}",
+            leaf.node,
+            leaf.width,
+            leaf.height,
+            leaf.horizontal,
+            leaf.vertical,
+            leaf.flags,
+            leaf.pair
         );
         print(&leaf.block);
         println!();

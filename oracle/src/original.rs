@@ -1,6 +1,6 @@
 //! The original's answers: the tables of crate `original` (as published) and of crate `traced` (with trace lines).
 
-use crate::form::{Answer, Cut, Cut3, Flags, Leaf, Settings, Size, Tree};
+use crate::form::{Answer, Cut, Cut3, CutPair, Flags, Leaf, Settings, Size, Tree};
 
 /// The same few lines over the types of each of the two builds.
 macro_rules! build {
@@ -119,8 +119,8 @@ pub struct Seen {
     pub uneven: usize,
 }
 
-/// All that the original says about a table. Panics where the two builds print different sheets, and where the trace contradicts
-/// document 01 on which nodes there are and which flags are always false.
+/// All that the original says about a table. Panics where the two builds print different sheets, where the trace contradicts document 01 on
+/// which nodes there are and which flags are always false, and where a child is not given what was taken for it.
 pub fn seen(settings: &Settings, tree: &Tree) -> Seen {
     let _ = (traced::trace::take(), traced::table::uneven());
     let traced_sheet = instrumented::table(settings, tree).to_string().into_bytes();
@@ -135,6 +135,13 @@ pub fn seen(settings: &Settings, tree: &Tree) -> Seen {
         naturals[pos] = Some((width, height));
     }
 
+    let mut cuts = vec![None; count];
+    for cut in trace.cuts {
+        let pos = cut.pos;
+        assert!(cuts[pos].is_none(), "a list is cut for node {pos} twice");
+        cuts[pos] = Some((cut.is_row, cut3(&cut.splits, cut.width)));
+    }
+
     let mut sizes = vec![None; count];
     for node in &trace.nodes {
         let (natural_width, natural_height) = naturals[node.pos].expect("a node is measured");
@@ -143,6 +150,11 @@ pub fn seen(settings: &Settings, tree: &Tree) -> Seen {
             !(node.kv || node.kv_is_first || node.no_bottom),
             "kv, kv_is_first and no_bottom are always false"
         );
+        match &cuts[node.pos] {
+            None => assert_eq!(node.pos, 0, "a list is cut for every child"),
+            Some((true, cut)) => assert_eq!(cut.taken, node.intersections_horizontal),
+            Some((false, cut)) => assert_eq!(cut.taken, node.intersections_vertical),
+        }
         sizes[node.pos] = Some(Size {
             natural_width,
             natural_height,
@@ -172,6 +184,9 @@ pub fn seen(settings: &Settings, tree: &Tree) -> Seen {
                 top_left: node.top_left,
                 top_intersection: node.top_intersection,
             },
+            pair: cuts[pos]
+                .as_ref()
+                .map_or(CutPair::default(), |(_, cut)| cut.pair),
             block: block.into_bytes(),
         }
     });
@@ -196,11 +211,22 @@ pub fn answer(settings: &Settings, tree: &Tree) -> Answer {
     answer
 }
 
-/// `short_splits3`.
+/// `short_splits3`. It does not say the pair, but shows it: the pieces taken are counted, and where nothing was removed the list left begins with the
+/// first piece not taken.
 pub fn cut3(list: &[usize], width: usize) -> Cut3 {
     let mut left = list.to_vec();
     let (yes, taken) = traced::tables::short_splits3(&mut left, width);
-    Cut3 { yes, taken, left }
+    let first = if yes { None } else { left.first() };
+    let pair = CutPair {
+        taken: taken.len(),
+        rest: first.copied().unwrap_or(0),
+    };
+    Cut3 {
+        yes,
+        taken,
+        left,
+        pair,
+    }
 }
 
 /// `short_splits`, then `squash_splits` on a copy.

@@ -2,7 +2,7 @@
 //! sentences and shares no code with the crate or the port, so that the crate and the documents can be held side by side by running. The headings
 //! are document 01's.
 
-use crate::form::{Answer, Cut, Cut3, Flags, Leaf, Settings, Size, Tree};
+use crate::form::{Answer, Cut, Cut3, CutPair, Flags, Leaf, Settings, Size, Tree};
 
 /// A tree laid out by node number.
 struct Nodes<'a> {
@@ -157,6 +157,7 @@ pub fn cut3(list: &[usize], width: usize) -> Cut3 {
     let (count, position) = walk(list, width, 1);
     let mut left = list[count..].to_vec();
     let mut yes = false;
+    let mut rest = 0;
     if let Some(first) = left.first_mut() {
         *first -= width - position;
         if *first == 0 {
@@ -164,6 +165,7 @@ pub fn cut3(list: &[usize], width: usize) -> Cut3 {
             yes = true;
         } else {
             *first -= 1;
+            rest = *first;
         }
     }
 
@@ -171,6 +173,7 @@ pub fn cut3(list: &[usize], width: usize) -> Cut3 {
         yes,
         taken: list[..count].to_vec(),
         left,
+        pair: CutPair { taken: count, rest },
     }
 }
 
@@ -235,11 +238,12 @@ struct Walk<'a> {
 }
 
 impl Walk<'_> {
-    /// Answers the horizontal and the vertical list that the node gives back.
+    /// The node, with the pair of the cut that its parent made for it. Answers the horizontal and the vertical list that it gives back.
     fn node(
         &mut self,
         node: usize,
         flags: Flags,
+        pair: CutPair,
         horizontal: Vec<usize>,
         vertical: Vec<usize>,
     ) -> (Vec<usize>, Vec<usize>) {
@@ -252,6 +256,7 @@ impl Walk<'_> {
                 horizontal,
                 vertical,
                 flags,
+                pair,
                 block: Vec::new(),
             };
             leaf.block = block(self.settings, &leaf, self.nodes.text(node));
@@ -276,11 +281,11 @@ impl Walk<'_> {
             if is_row {
                 let cut = cut3(&along, size.allotted_width);
                 (previous, along) = (cut.yes, cut.left);
-                (back, across) = self.node(child, flags, cut.taken, across);
+                (back, across) = self.node(child, flags, cut.pair, cut.taken, across);
             } else {
                 let cut = cut3(&along, size.allotted_height);
                 (previous, along) = (cut.yes, cut.left);
-                (across, back) = self.node(child, flags, across, cut.taken);
+                (across, back) = self.node(child, flags, cut.pair, across, cut.taken);
             }
             joined.extend(back);
         }
@@ -492,7 +497,7 @@ pub fn answer(settings: &Settings, tree: &Tree) -> Answer {
         sizes,
         leaves: Vec::new(),
     };
-    walk.node(0, ROOT, Vec::new(), Vec::new());
+    walk.node(0, ROOT, CutPair::default(), Vec::new(), Vec::new());
     let Walk {
         nodes,
         sizes,

@@ -1,7 +1,7 @@
 //! The crate's answers as lines for the programs `replay` and `replay_faults`; crate `script` says what each line means.
 
 use crate::calls::{Calls, LeafRecord, SizeRecord, SplitList};
-use crate::form::{encode_margin, encode_settings, encode_tree, Margin, Settings, Tree};
+use crate::form::{encode_margin, encode_settings, encode_tree, CutPair, Margin, Settings, Tree};
 use crate::gen::{self, Margins, Rng};
 use crate::judge;
 use crate::sides::Original;
@@ -53,8 +53,8 @@ fn record(record: &LeafRecord) -> String {
     let (across, down) = (list(&record.horizontal), list(&record.vertical));
     let flags: String = flags.iter().collect();
     format!(
-        "{} by {}, across{across}, down{down}, {flags}",
-        record.width, record.height
+        "{} by {}, across{across}, down{down}, {flags}, pair {} {}",
+        record.width, record.height, record.pair.taken, record.pair.rest
     )
 }
 
@@ -381,6 +381,26 @@ fn bad_margins(lines: &mut Lines, rng: &mut Rng, count: usize) {
     }
 }
 
+/// Random tables of up to `most` bytes with a leaf whose pair is not zeros, and was not there before: its record and its block.
+fn pairs(lines: &mut Lines, rng: &mut Rng, most: usize, count: usize) {
+    lines.title("Pairs of the leaves' own cuts");
+    let mut known = vec![CutPair::default()];
+    while known.len() <= count {
+        let (settings, tree) = gen::table(rng, Margins::None);
+        let (settings, bytes) = (encode_settings(&settings), encode_tree(&tree));
+        if judge::sheet(&settings, &bytes, most) != 0 {
+            continue;
+        }
+        let node = rng.pick(&judge::leaves(&tree));
+        let pair = lines.original.leaf_record(&settings, &bytes, node).pair;
+        if !known.contains(&pair) {
+            lines.given(&settings, &bytes);
+            lines.leaf(node);
+            known.push(pair);
+        }
+    }
+}
+
 /// The lines of the programs `replay` (shapes and tables) and `replay_faults` (damaged bytes and limits), each within what a test program reads.
 pub fn lines(seed: u64) -> [String; 2] {
     let mut rng = Rng::new(seed);
@@ -393,6 +413,7 @@ pub fn lines(seed: u64) -> [String; 2] {
     limits(&mut faulty);
     margins(&mut good, &mut rng, 300, 8);
     bad_margins(&mut faulty, &mut rng, 12);
+    pairs(&mut good, &mut rng, 200, 20);
     [good, faulty].map(|lines| {
         assert!(lines.text.len() < 65_536, "{} bytes", lines.text.len());
         lines.text

@@ -4,7 +4,7 @@ use crate::calls::{
     Calls, Counted, CutParts, CutPositions, LeafRecord, ReadMargin, ReadSettings, Shared,
     SizeRecord, SplitList,
 };
-use crate::form::{Answer, Cut, Cut3, Flags, Settings, Tree};
+use crate::form::{Answer, Cut, Cut3, CutPair, Flags, Settings, Tree};
 use crate::judge;
 use crate::{original, paper};
 
@@ -172,6 +172,7 @@ impl<A: Answers> Calls for Side<A> {
                 horizontal: SplitList::EMPTY,
                 vertical: SplitList::EMPTY,
                 flags: Flags::default(),
+                pair: CutPair::default(),
             };
         }
         let mut leaves = self.accepted(settings, tree).leaves.iter();
@@ -186,6 +187,7 @@ impl<A: Answers> Calls for Side<A> {
             horizontal: SplitList::new(&leaf.horizontal),
             vertical: SplitList::new(&leaf.vertical),
             flags: leaf.flags,
+            pair: leaf.pair,
         }
     }
 
@@ -215,6 +217,7 @@ impl<A: Answers> Calls for Side<A> {
             return CutParts {
                 number,
                 split: false,
+                pair: CutPair::default(),
                 taken: SplitList::EMPTY,
                 left: SplitList::EMPTY,
             };
@@ -223,6 +226,7 @@ impl<A: Answers> Calls for Side<A> {
         CutParts {
             number: 0,
             split: cut.yes,
+            pair: cut.pair,
             taken: SplitList::new(&cut.taken),
             left: SplitList::new(&cut.left),
         }

@@ -7,7 +7,7 @@ use oracle::calls::{
 use oracle::compare::{Comparison, Difference, NUMBERS};
 use oracle::gen::{self, Margins, Rng};
 use oracle::sides::{Original, Paper};
-use oracle::{judge, original, paper, Margin, Settings, Tree};
+use oracle::{judge, original, paper, CutPair, Margin, Settings, Tree};
 
 fn agree(run: impl Fn(&mut Comparison) -> Result<(), Difference>) {
     let (mut one, mut other) = (Original::default(), Paper::default());
@@ -173,7 +173,7 @@ struct Faulty {
     fault: u8,
 }
 
-const FAULTS: u8 = 21;
+const FAULTS: u8 = 28;
 
 /// The judge's numbers with the margin and without it: whether only the margin makes a sheet too large.
 fn is_large_by_margin(number: u8, settings: &[u8], tree: &[u8]) -> bool {
@@ -229,6 +229,10 @@ impl Calls for Faulty {
             4 => answer.flags.top_intersection = false,
             5 => answer.vertical.pieces[511] = 1,
             6 if answer.number == 9 => answer.node = node,
+            // No pair; one on a refusal; that of the horizontal list in a Column, too.
+            21 => answer.pair = CutPair::default(),
+            22 if answer.number == 9 => answer.pair.taken = 1,
+            23 => answer.pair.taken = answer.horizontal.count,
             _ => {}
         }
         answer
@@ -279,7 +283,19 @@ impl Calls for Faulty {
         match self.fault {
             10 => answer.split = false,
             11 => answer.left.pieces[511] = list.pieces[511],
+            // The piece before it loses its 1; the one behind a piece that was removed; a refusal that counts.
+            24 if !answer.split && answer.left.count > 0 => answer.pair.rest += 1,
+            25 if answer.split => answer.pair.rest = answer.left.pieces[0].into(),
+            26 if answer.number == 10 => answer.pair.taken = judge::PIECES,
             _ => {}
+        }
+        answer
+    }
+
+    fn short_splits3_lent(&mut self, list: &mut SplitList, width: u16) -> CutParts {
+        let mut answer = self.paper.short_splits3_lent(list, width);
+        if self.fault == 27 {
+            answer.pair = CutPair::default();
         }
         answer
     }

@@ -1,6 +1,6 @@
 //! Document 01's figures, whole, and sheets with document 02's margin: the crate's answers, as published and traced, and the documents'.
 
-use oracle::form::{Cut, Cut3};
+use oracle::form::Cut;
 use oracle::{encode_settings, encode_tree, judge, original, paper, Margin, Settings, Tree};
 
 fn cell(text: &str) -> Tree {
@@ -240,26 +240,19 @@ fn inside_the_margin() {
     assert_eq!(judge::sheet(&settings, &tree, 96), 8);
 }
 
-fn cut3(list: &[usize], width: usize) -> Cut3 {
+/// Yes or no, the pieces taken, the list left.
+fn cut3(list: &[usize], width: usize) -> (bool, Vec<usize>, Vec<usize>) {
     let cut = original::cut3(list, width);
     assert_eq!(paper::cut3(list, width), cut);
-    cut
-}
-
-fn parts(yes: bool, taken: &[usize], left: &[usize]) -> Cut3 {
-    Cut3 {
-        yes,
-        taken: taken.to_vec(),
-        left: left.to_vec(),
-    }
+    (cut.yes, cut.taken, cut.left)
 }
 
 #[test]
 fn f6_to_f9() {
-    assert_eq!(cut3(&[4, 2], 5), parts(false, &[4], &[1]));
-    assert_eq!(cut3(&[3, 3], 3), parts(true, &[], &[3]));
-    assert_eq!(cut3(&[5], 0), parts(false, &[], &[4]));
-    assert_eq!(cut3(&[0, 5], 0), parts(true, &[], &[5]));
+    assert_eq!(cut3(&[4, 2], 5), (false, vec![4], vec![1]));
+    assert_eq!(cut3(&[3, 3], 3), (true, vec![], vec![3]));
+    assert_eq!(cut3(&[5], 0), (false, vec![], vec![4]));
+    assert_eq!(cut3(&[0, 5], 0), (true, vec![], vec![5]));
 }
 
 #[test]

@@ -9,7 +9,7 @@ struct Insertion {
     text: &'static str,
 }
 
-const INSERTIONS: [Insertion; 6] = [
+const INSERTIONS: [Insertion; 8] = [
     // 1: the cuts can be called from outside.
     Insertion {
         after: "",
@@ -40,7 +40,28 @@ const INSERTIONS: [Insertion; 6] = [
             crate::trace::natural(*pos, dim.width, dim.height);
         }",
     },
-    // 3: the context of every node, as `_build_table` is called.
+    // 3: the list that a Column, then a Row, cuts for each child, and at what.
+    Insertion {
+        after: "            let size = Dim::new(ctx.size.width, height);",
+        before: "",
+        text: "            crate::trace::cut(crate::trace::Cut {
+                pos: val_pos,
+                is_row: false,
+                splits: intersections_vertical.clone(),
+                width: size.height,
+            });",
+    },
+    Insertion {
+        after: "            let size = Dim::new(width, ctx.size.height);",
+        before: "",
+        text: "            crate::trace::cut(crate::trace::Cut {
+                pos: val_pos,
+                is_row: true,
+                splits: intersections_horizontal.clone(),
+                width,
+            });",
+    },
+    // 4: the context of every node, as `_build_table` is called.
     Insertion {
         after: "    ) -> CellData {",
         before: "        match val {",
@@ -63,7 +84,7 @@ const INSERTIONS: [Insertion; 6] = [
             intersections_vertical: ctx.intersections_vertical.clone(),
         });",
     },
-    // 4: the block of every leaf.
+    // 5: the block of every leaf.
     Insertion {
         after: "        let height = ctx.size.height;",
         before: "        let table = generate_value_table(text, cfg, ctx);",

@@ -84,11 +84,11 @@ pub extern "C" fn leg_leaf_record(settings: &[u8], tree: &[u8], node: usize, out
     if r.number != 0 {
         return pack(r.number, 0);
     }
-    if out.len() < 1037 {
+    if out.len() < 1039 {
         return pack(8, 0);
     }
     fields::put_record(r, out);
-    pack(0, 1037)
+    pack(0, 1039)
 }
 
 #[no_mangle]
@@ -114,14 +114,14 @@ pub extern "C" fn leg_short_splits3(pieces: &[u16], count: usize, w: u16, out: &
     ensures { λ r. ⌜ r ≡ splits3Given (now (pieces .entry)) count w (now (out .entry)) .word ⌝ }
     ensures shown { λ _. ⌜ now (out .exit) ≡ splits3Given (now (pieces .entry)) count w (now (out .entry)) .out ⌝ }
 {
-    let number = cuts::refused_by(pieces.len(), count, out.len(), 1027);
+    let number = cuts::refused_by(pieces.len(), count, out.len(), 1029);
     if number != 0 {
         return pack(number, 0);
     }
     let list = list_at(pieces, 0, count);
     let cut = splits::short_splits3(list, w);
     cuts::put_cut(cut, out);
-    pack(0, 1027)
+    pack(0, 1029)
 }
 
 #[no_mangle]
@@ -135,7 +135,7 @@ pub extern "C" fn leg_short_splits3_lent(
     ensures left { λ _. ⌜ now (pieces .exit) ≡ lentGiven (now (pieces .entry)) count w (now (out .entry)) .first ⌝ }
     ensures shown { λ _. ⌜ now (out .exit) ≡ lentGiven (now (pieces .entry)) count w (now (out .entry)) .second ⌝ }
 {
-    let number = cuts::refused_by(pieces.len(), count, out.len(), 515);
+    let number = cuts::refused_by(pieces.len(), count, out.len(), 517);
     if number != 0 {
         return pack(number, 0);
     }
@@ -144,7 +144,7 @@ pub extern "C" fn leg_short_splits3_lent(
     let left = kept.list;
     cuts::put_left(left, pieces);
     cuts::put_kept(kept, out);
-    pack(0, 515)
+    pack(0, 517)
 }
 
 #[no_mangle]

@@ -9,7 +9,7 @@ use lib.Dec.{eqb}
 use borrow.Author.Tests.{eq-eqb, ne-eqb}
 use Rattle.settings.specs.declared.Settings.{Settings}
 use Rattle.tree.specs.Tree.{Axis, across, down, Tree, cell, group, Trees, none, more, empty?, count, nodes}
-use Rattle.splits.specs.Splits.{shortSplits3}
+use Rattle.splits.specs.Splits.{Cut, shortSplits3}
 use Rattle.sizes.specs.Text.{total, greatest}
 use Rattle.sizes.specs.Sizes.{Fits, along, beside, sep, leafSize, natural, naturals, allot, spareOf, childSize}
 use Rattle.sizes.proofs.Fill.{extents, child-fits, group-beside, group-fills, fits-refl}
@@ -37,6 +37,10 @@ laid-move : {s : Settings} {l k h w l′ k′ h′ w′ : ℕ} {fs : List Placed
     → Laid s l k h w fs x → l ≡ l′ → k ≡ k′ → h ≡ h′ → w ≡ w′ → Laid s l′ k′ h′ w′ fs x
 laid-move d p q r t = rw (← p, ← q, ← r, ← t) d
 
+-- a list of which nothing was cut off
+abbrev uncut : List ℕ → Cut
+uncut l = record { split = false; taken = l; left = [] }
+
 -- a context's rectangle is laid out as walked
 abbrev pub LaidAt : Settings → Context → Walked → Type 0
 LaidAt s c w = Laid s (c .line) (c .column) (tallAt s c) (wideAt s c) (w .leaves) (w .content)
@@ -45,41 +49,41 @@ LaidAt s c w = Laid s (c .line) (c .column) (tallAt s c) (wideAt s c) (w .leaves
 
 module _ (s : Settings) (c : Context) where
   -- a child with others after it, and those others as one last child: together one last child
-  more-step : (a : Axis) (first old : Bool) (node offset e d : ℕ) (taken handed cut : List ℕ)
+  more-step : (a : Axis) (first old : Bool) (node offset e d : ℕ) (taken : Cut) (handed cut : List ℕ)
       (first′ old′ : Bool) (node′ : ℕ) (cut′ handed′ : List ℕ) (w r : Walked)
       → LaidAt s (child a c first false old node offset e taken handed) w
-      → LaidAt s (child a c first′ true old′ node′ (offset + e + sep s) d cut′ handed′) r
-      → LaidAt s (child a c first true old node offset (e + sep s + d) cut handed) (joinWalked a w r)
+      → LaidAt s (child a c first′ true old′ node′ (offset + e + sep s) d (uncut cut′) handed′) r
+      → LaidAt s (child a c first true old node offset (e + sep s + d) (uncut cut) handed) (joinWalked a w r)
   unfolding child childFlags joinWalked lay tall wide
   more-step across f o n offset e d tk hd cut f′ o′ n′ cut′ hd′ w r p q =
       laid-move (side p (laid-move q refl (omega arith) refl refl)) refl refl refl (omega arith)
   more-step down f o n offset e d tk hd cut f′ o′ n′ cut′ hd′ w r p q =
       laid-move (under p (laid-move q (omega arith) refl refl refl)) refl refl (omega arith) refl
 
-  last-step : (a : Axis) (first old : Bool) (node offset e : ℕ) (taken handed cut other : List ℕ) (w : Walked)
+  last-step : (a : Axis) (first old : Bool) (node offset e : ℕ) (taken : Cut) (handed cut other : List ℕ) (w : Walked)
       → LaidAt s (child a c first true old node offset e taken handed) w
-      → LaidAt s (child a c first true old node offset e cut handed) (joinWalked a w (noneWalked a other))
+      → LaidAt s (child a c first true old node offset e (uncut cut) handed) (joinWalked a w (noneWalked a other))
   unfolding child childFlags joinWalked noneWalked lay tall wide
   last-step across f o n offset e tk hd cut ot w p = rw (append-nil, paired-nil) p
   last-step down f o n offset e tk hd cut ot w p = simp append-nil p
 
   -- one last child that has all of the group's extent stands where the group does
   all-step : (a : Axis) (old : Bool) (node : ℕ) (cut handed : List ℕ) (w : Walked)
-      → LaidAt s (child a c true true old node 0 (along a (c .size)) cut handed) w → LaidAt s c w
+      → LaidAt s (child a c true true old node 0 (along a (c .size)) (uncut cut) handed) w → LaidAt s c w
   unfolding child childFlags along tall wide
   all-step across o n cut hd w p = laid-move p refl (omega arith) refl refl
   all-step down o n cut hd w p = laid-move p (omega arith) refl refl refl
 
   -- a child, and what follows it
-  after : (ts : Trees) (a : Axis) (spare n i : ℕ) (first old : Bool) (node offset e ext : ℕ) (taken handed cut : List ℕ)
+  after : (ts : Trees) (a : Axis) (spare n i : ℕ) (first old : Bool) (node offset e ext : ℕ) (taken : Cut) (handed cut : List ℕ)
       (old′ : Bool) (node′ : ℕ) (cut′ handed′ : List ℕ) (w : Walked)
       → suc i + count ts ≡ n
       → e + total (extents s a spare n (suc i) ts) + suc (count ts) * sep s ≡ ext + sep s
       → LaidAt s (child a c first (eqb (suc i) n) old node offset e taken handed) w
       → ((d : ℕ) → 0 < count ts → total (extents s a spare n (suc i) ts) + count ts * sep s ≡ d + sep s
-      → LaidAt s (child a c (eqb (suc i) 0) true old′ node′ (offset + e + sep s) d cut′ handed′)
+      → LaidAt s (child a c (eqb (suc i) 0) true old′ node′ (offset + e + sep s) d (uncut cut′) handed′)
       (children s ts a c spare n (suc i) old′ node′ (offset + e + sep s) cut′ handed′))
-      → LaidAt s (child a c first true old node offset ext cut handed)
+      → LaidAt s (child a c first true old node offset ext (uncut cut) handed)
       (joinWalked a w (children s ts a c spare n (suc i) old′ node′ (offset + e + sep s) cut′ handed′))
   unfolding children extents total count
   after none a spare n i f o nd off e ext tk hd cut o′ nd′ cut′ hd′ w hn he p q =
@@ -93,7 +97,7 @@ module _ (s : Settings) (c : Context) where
       (subst (λ b. LaidAt s (child a c f b o nd off e tk hd) w) (ne-eqb (suc i) n (omega arith)) p)
       (q d (omega arith) (omega arith)))
 
-pub child-size : (a : Axis) (c : Context) (first last old : Bool) (node offset e : ℕ) (taken handed : List ℕ)
+pub child-size : (a : Axis) (c : Context) (first last old : Bool) (node offset e : ℕ) (taken : Cut) (handed : List ℕ)
     → child a c first last old node offset e taken handed .size ≡ childSize a (c .size) e
 unfolding child
 child-size across c f l o n off e tk hd = refl
@@ -103,7 +107,7 @@ child-size down c f l o n off e tk hd = refl
 whole : (s : Settings) (ts : Trees) (a : Axis) (c : Context) → Fits (natural s (group a ts)) (c .size)
     → ((node : ℕ) (cut handed : List ℕ) (ext : ℕ) → 0 < count ts
     → total (extents s a (spareOf s a ts (c .size)) (count ts) 0 ts) + count ts * sep s ≡ ext + sep s
-    → LaidAt s (child a c (eqb 0 0) true false node 0 ext cut handed)
+    → LaidAt s (child a c (eqb 0 0) true false node 0 ext (uncut cut) handed)
     (children s ts a c (spareOf s a ts (c .size)) (count ts) 0 false node 0 cut handed))
     → LaidAt s c (walk s (group a ts) c)
 unfolding walk empty? leafWalked natural count
@@ -130,15 +134,15 @@ mutual
   laid* : (s : Settings) (ts : Trees) (a : Axis) (c : Context) (spare n i : ℕ) (old : Bool) (node offset : ℕ) (cut handed : List ℕ) (ext : ℕ)
       → greatest (map (beside a) (naturals s ts)) ≤ beside a (c .size)
       → i + count ts ≡ n → 0 < count ts → total (extents s a spare n i ts) + count ts * sep s ≡ ext + sep s
-      → LaidAt s (child a c (eqb i 0) true old node offset ext cut handed) (children s ts a c spare n i old node offset cut handed)
+      → LaidAt s (child a c (eqb i 0) true old node offset ext (uncut cut) handed) (children s ts a c spare n i old node offset cut handed)
   laid* s none a c spare n i old node offset cut handed ext hb hn hp he = absurd (omega arith)
   laid* s (more t ts) a c spare n i old node offset cut handed ext hb hn hp he =
       let e = allot s a spare n i t in
       let k = shortSplits3 cut e in
-      let d = child a c (eqb i 0) (eqb (suc i) n) old node offset e (k .taken) handed in
+      let d = child a c (eqb i 0) (eqb (suc i) n) old node offset e k handed in
       let w = walk s t d in
       let handed′ = besideList a (w .horizontal) (w .vertical) in
-      after s c ts a spare n i (eqb i 0) old node offset e ext (k .taken) handed cut (k .split) (node + nodes t) (k .left) handed′ w (omega arith) (omega arith)
+      after s c ts a spare n i (eqb i 0) old node offset e ext k handed cut (k .split) (node + nodes t) (k .left) handed′ w (omega arith) (omega arith)
       (laid s t d (rw child-size (child-fits s a (c .size) spare n i t (omega arith))))
       (λ x p q. laid* s ts a c spare n (suc i) (k .split) (node + nodes t) (offset + e + sep s) (k .left) handed′ x (omega arith) (omega arith) p q)
 

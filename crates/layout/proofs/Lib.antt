@@ -6,4 +6,7 @@ pub mod Numbered
 pub mod Entries
 pub mod Named
 pub mod Narrow
+pub mod Stand
 pub mod Starts
+pub mod Handed
+pub mod Pairs

@@ -78,7 +78,7 @@ mutual
   wide-nodes* s (more t ts) a c spare n i old node offset cut handed g h =
       let e = allot s a spare n i t in
       let k = shortSplits3 cut e in
-      let d = child a c (eqb i 0) (eqb (suc i) n) old node offset e (k .taken) handed in
+      let d = child a c (eqb i 0) (eqb (suc i) n) old node offset e k handed in
       let w = walk s t d in
       let b = besideList a (w .horizontal) (w .vertical) in
       let r = children s ts a c spare n (suc i) (k .split) (node + nodes t) (offset + e + sep s) (k .left) b in

@@ -10,7 +10,7 @@ use lib.Dec.{eqb}
 use lib.ListN.{length, getD, getElem?, take, length-append}
 use Rattle.settings.specs.declared.Settings.{Settings}
 use Rattle.tree.specs.Tree.{Axis, across, down, Tree, cell, group, Trees, none, more, empty?, count, nodes, nodes*}
-use Rattle.splits.specs.Splits.{shortSplits3}
+use Rattle.splits.specs.Splits.{Cut, shortSplits3}
 use Rattle.sizes.specs.declared.Size.{Size}
 use Rattle.sizes.specs.Text.{total}
 use Rattle.sizes.specs.Sizes.{along, sep, allot, spareOf, childSize, Sizes, sizes, sizes*, treeSizes}
@@ -22,38 +22,10 @@ use Rattle.block.proofs.Every.{every-append, every-elem}
 use Rattle.layout.specs.Walk.{Context, Placed, child, leafWalked, alongList, besideList, walk, children, root, leaves}
 use Rattle.layout.specs.Starts.{Place, placeOf, further, starts, starts*, origin, startAt}
 use Rattle.layout.proofs.Laid.{child-size}
+use Rattle.layout.proofs.Stand.{Stand, stand-first, stand-rest, stand-front, stand-back, stand-whole, entry-at}
 use Rattle.layout.proofs.Numbered.{child-node, none-leaves}
 use Rattle.layout.proofs.Narrow.{join-leaves}
 use Rattle.layout.proofs.Named.{LeafAt}
-
--- ---- a list of places within a longer one
-
--- qs stand in ps from n on
-record Stand (ps : List Place) (n : ℕ) (qs : List Place) : Type 0 where
-  is : (i : ℕ) (q : Place) → getElem? qs i ≡ some q → getElem? ps (n + i) ≡ some q
-
-module _ {ps : List Place} {n : ℕ} where
-  stand-first : {q : Place} {qs : List Place} → Stand ps n (q ∷ qs) → getElem? ps n ≡ some q
-  stand-first {q} h = let e : n + 0 ≡ n = omega arith in rw e at (h .is 0 q refl)
-
-  stand-rest : {q : Place} {qs : List Place} → Stand ps n (q ∷ qs) → Stand ps (suc n) qs
-  stand-rest h = record { is = λ i r d. let e : suc n + i ≡ n + suc i = omega arith in rw e (h .is (suc i) r d) }
-
-  stand-front : (xs ys : List Place) → Stand ps n (xs ++ ys) → Stand ps n xs
-  stand-front xs ys h = record { is = λ i q d. h .is i q (elem-front xs ys i (elem-in xs i q d) ∙ d) }
-
-  stand-back : (xs ys : List Place) (m : ℕ) → length xs ≡ m → Stand ps n (xs ++ ys) → Stand ps (n + m) ys
-  stand-back xs ys m l h = record {
-    is = λ i q d. let e : n + m + i ≡ n + (length xs + i) = omega arith in rw e (h .is (length xs + i) q (elem-back xs ys i (length xs + i) refl ∙ d));
-  }
-
-stand-whole : (ps : List Place) → Stand ps 0 ps
-stand-whole ps = record { is = λ i q d. let e : 0 + i ≡ i = omega arith in rw e d }
-
-place-at : (ps : List Place) (n : ℕ) (q o : Place) → getElem? ps n ≡ some q → getD ps n o ≡ q
-place-at [] n q o e = elem-none n q e
-place-at (p ∷ ps) zero q o e = cc
-place-at (p ∷ ps) (suc n) q o e = place-at ps n q o e
 
 -- ---- further
 
@@ -156,7 +128,7 @@ module _ (s : Settings) (size : ℕ → Size) where
   -- "The root starts at line 0, column 0."
   pub root-start : (t : Tree) → startAt s size t 0 ≡ record { line = 0; column = 0 }
   unfolding startAt
-  root-start t = place-at (starts s size 0 origin t) 0 origin origin (starts-first 0 origin t)
+  root-start t = entry-at (starts s size 0 origin t) 0 origin origin (starts-first 0 origin t)
 
   module _ (t : Tree) (node : ℕ) where
     -- child i of a group, which is node m, starts where the group does, and along the axis further by the extents of the children before it and a separator each
@@ -167,7 +139,7 @@ module _ (s : Settings) (size : ℕ → Size) where
         let z : 0 + node ≡ node = omega arith in
         let ps = starts s size 0 origin t in
         let g : GroupStands ps node a ts = rw z at (group-stands t 0 origin (stand-whole ps) node a ts e) in
-        rw (place-at ps m _ origin (g .each i m d), place-at ps node _ origin (g .own)) refl
+        rw (entry-at ps m _ origin (g .each i m d), entry-at ps node _ origin (g .own)) refl
 
     -- "A Row's child starts on the Row's line, at the Row's column plus, for each child before it, that child's allotted width" and the separator
     pub row-start : (ts : Trees) → getElem? (subtrees t) node ≡ some (group across ts) → (i m : ℕ) → getElem? (childNodes (suc node) ts) i ≡ some m
@@ -189,8 +161,8 @@ module _ (s : Settings) (size : ℕ → Size) where
 abbrev pub allottedIn : List Sizes → ℕ → Size
 allottedIn zs m = sizesAt zs m .allotted
 
-child-place : (a : Axis) (c : Context) (first last old : Bool) (node offset e : ℕ) (taken handed : List ℕ)
-    → placeOf (child a c first last old node offset e taken handed) ≡ further a (placeOf c) offset
+child-place : (a : Axis) (c : Context) (first last old : Bool) (node offset e : ℕ) (k : Cut) (handed : List ℕ)
+    → placeOf (child a c first last old node offset e k handed) ≡ further a (placeOf c) offset
 unfolding child further
 child-place across c f l o n off e tk hd = refl
 child-place down c f l o n off e tk hd = refl
@@ -232,7 +204,7 @@ module _ (s : Settings) (zs : List Sizes) (ps : List Place) where
     at-start* (more t ts) a c spare n i old node offset cut handed p h =
         let e = allot s a spare n i t in
         let k = shortSplits3 cut e in
-        let d = child a c (eqb i 0) (eqb (suc i) n) old node offset e (k .taken) handed in
+        let d = child a c (eqb i 0) (eqb (suc i) n) old node offset e k handed in
         let w = walk s t d in
         let b = besideList a (w .horizontal) (w .vertical) in
         let r = children s ts a c spare n (suc i) (k .split) (node + nodes t) (offset + e + sep s) (k .left) b in
@@ -252,4 +224,4 @@ unfolding startAt treeSizes leaves root
 leaf-start s t {n} {f} p =
     let ps = starts s (allottedIn (treeSizes s t)) 0 origin t in
     let e = every-elem _ (leaves s t) (p .index) f (at-start s (treeSizes s t) ps t (root s t) (part-whole _) (stand-whole ps)) (p .stands) in
-    sym (place-at ps n _ origin (rw (p .number) at e))
+    sym (entry-at ps n _ origin (rw (p .number) at e))

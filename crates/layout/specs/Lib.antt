@@ -1,3 +1,4 @@
 pub mod Walk
 pub mod Contexts
 pub mod Starts
+pub mod Handed

@@ -1,16 +1,18 @@
 // Where each node starts and what it is handed: the child's step. The definition over the whole tree is `walk` (specs/Walk.antt), and proofs/ has its laws.
 use block::Flags;
+use splits::cut::CutPair;
 ghost use mathlib.Core.Path.{_≡_};
 ghost use Prim.Native.Nat.{_+_, _<_};
 ghost use Rattle.tree.specs.Tree.{across, down};
 ghost use Rattle.layout.specs.Walk.{childFlags};
 ghost use Rattle.layout.specs.Contexts.{childSpot, childCtx, noFlags};
 
-// Where a node starts, and with which flags.
+// Where a node starts, with which flags, and the pair of the cut that its parent made for it.
 pub struct Spot {
     pub line: usize,
     pub column: usize,
     pub flags: Flags,
+    pub pair: CutPair,
 }
 
 // `PrintContext`; the size stands in the lists of sizes, the pieces of the split lists in lent memory.
@@ -79,9 +81,17 @@ fn column_flags(f: Flags, first: bool, last: bool, old: bool) -> Flags
 }
 
 // The child's start and flags, at this offset along the axis.
-pub fn child_spot(across: bool, b: Spot, offset: usize, first: bool, last: bool, old: bool) -> Spot
+pub fn child_spot(
+    across: bool,
+    b: Spot,
+    offset: usize,
+    first: bool,
+    last: bool,
+    old: bool,
+    pair: CutPair,
+) -> Spot
     requires { ⌜ (b .line + offset < 4294967296) × (b .column + offset < 4294967296) ⌝ }
-    ensures { λ r. ⌜ r ≡ childSpot across b offset first last old ⌝ }
+    ensures { λ r. ⌜ r ≡ childSpot across b offset first last old pair ⌝ }
 {
     let f = b.flags;
     if across {
@@ -90,6 +100,7 @@ pub fn child_spot(across: bool, b: Spot, offset: usize, first: bool, last: bool,
             line: b.line,
             column: b.column + offset,
             flags: flags,
+            pair: pair,
         };
     }
     let flags = column_flags(f, first, last, old);
@@ -97,6 +108,7 @@ pub fn child_spot(across: bool, b: Spot, offset: usize, first: bool, last: bool,
         line: b.line + offset,
         column: b.column,
         flags: flags,
+        pair: pair,
     }
 }
 

@@ -2,3 +2,4 @@
 pub mod Seek
 pub mod Calls
 pub mod Prints
+pub mod Pair

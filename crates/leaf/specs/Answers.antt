@@ -6,6 +6,7 @@ use lib.Dec.{ltb, eqb}
 use Rattle.common.specs.Choice.{pick}
 use Rattle.settings.specs.declared.Settings.{Settings}
 use Rattle.tree.specs.Tree.{Tree}
+use Rattle.splits.specs.Splits.{noPair}
 use Rattle.splits.specs.Lists.{splitList}
 use Rattle.sizes.specs.Input.{Input, refused, given}
 use Rattle.block.specs.Content.{feeds}
@@ -27,10 +28,10 @@ numbered n (l ∷ ls) = pick (eqb (l .at .node) n) (some l) (numbered n ls)
 
 -- a refusal: its number, and 0 or no in every other field
 abbrev pub noRecord : ℕ → LeafRecord
-noRecord k = record { number = k; node = 0; size = record { width = 0; height = 0 }; horizontal = splitList []; vertical = splitList []; flags = noFlags }
+noRecord k = record { number = k; node = 0; size = record { width = 0; height = 0 }; horizontal = splitList []; vertical = splitList []; flags = noFlags; pair = noPair }
 
 abbrev pub recordOf : Placed → LeafRecord
-recordOf l = record { number = 0; node = l .at .node; size = l .at .size; horizontal = splitList (l .at .horizontal); vertical = splitList (l .at .vertical); flags = l .at .flags }
+recordOf l = record { number = 0; node = l .at .node; size = l .at .size; horizontal = splitList (l .at .horizontal); vertical = splitList (l .at .vertical); flags = l .at .flags; pair = l .at .pair }
 
 -- 9 where the number names no leaf
 abbrev pub recordFound : Option Placed → LeafRecord
@@ -57,7 +58,7 @@ leafPrintOf (given s t) n o = pick (tooLarge s t) (noPrint 6 o) (printFound s o 
 
 -- the record that a walk kept, as the answer
 abbrev pub foundRecord : Kept → LeafRecord
-foundRecord f = pick (f .hit) (record { number = 0; node = f .node; size = f .size; horizontal = splitList (f .horizontal); vertical = splitList (f .vertical); flags = f .flags }) (noRecord 9)
+foundRecord f = pick (f .hit) (record { number = 0; node = f .node; size = f .size; horizontal = splitList (f .horizontal); vertical = splitList (f .vertical); flags = f .flags; pair = f .pair }) (noRecord 9)
 
 -- what is answered for the leaf that a block's walk kept, with an output of len bytes
 abbrev pub foundWritten : Settings → Kept → ℕ → Written

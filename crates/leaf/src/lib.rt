@@ -4,6 +4,7 @@ use frame::Written;
 use settings::Settings;
 use sizes::Size;
 use splits::SplitList;
+use splits::cut::CutPair;
 use splits::lent::list_at;
 use visit::Found;
 use visit::Job;
@@ -16,7 +17,7 @@ ghost use Rattle.sizes.specs.Input.{inputOf};
 ghost use Rattle.visit.specs.Visiting.{keptOf, Few};
 ghost use Rattle.leaf.specs.Answers.{noRecord, foundRecord, leafRecordOf, foundWritten, leafPrintOf};
 
-// A leaf's record: node, allotted size, both split lists as handed to the leaf, eight flags; or a refusal with 0 or no elsewhere.
+// A leaf's record: node, allotted size, both split lists as handed to the leaf, eight flags, the pair of the cut that its parent made for it; or a refusal with 0 or no elsewhere.
 pub struct LeafRecord {
     pub number: u8,
     pub node: usize,
@@ -24,6 +25,7 @@ pub struct LeafRecord {
     pub horizontal: SplitList,
     pub vertical: SplitList,
     pub flags: Flags,
+    pub pair: CutPair,
 }
 
 fn no_record(number: u8) -> LeafRecord
@@ -43,6 +45,7 @@ fn no_record(number: u8) -> LeafRecord
         horizontal: h,
         vertical: v,
         flags: flags,
+        pair: CutPair { taken: 0, rest: 0 },
     }
 }
 
@@ -56,6 +59,7 @@ fn record_of(found: Found, kept: &[u16]) -> LeafRecord
         let h = list_at(kept, 0, found.horizontal);
         let v = list_at(kept, found.horizontal, found.vertical);
         let flags = found.flags;
+        let pair = found.pair;
         return LeafRecord {
             number: 0,
             node: found.node,
@@ -63,6 +67,7 @@ fn record_of(found: Found, kept: &[u16]) -> LeafRecord
             horizontal: h,
             vertical: v,
             flags: flags,
+            pair: pair,
         };
     }
     no_record(9)

@@ -24,15 +24,15 @@ use Rattle.numbers.proofs.Given.{Same, same-written, sets-front}
 
 -- ---- what is stored one after the other
 
-pub cut-stored : (k : CutParts) (o : List ℕ) {b : ℕ} {o₁ o₂ o₃ : List ℕ} → b ≡ bit (k .split) → o₁ ≡ sets o 0 (b ∷ []) → o₂ ≡ sets o₁ 1 (listNumbers (k .taken)) → length (k .taken .pieces) ≡ 512
-    → o₃ ≡ sets o₂ 514 (listNumbers (k .left)) → o₃ ≡ sets o 0 (cutNumbers k)
+pub cut-stored : (k : CutParts) (o : List ℕ) {b : ℕ} {o₁ o₂ o₃ : List ℕ} → b ≡ bit (k .split) → o₁ ≡ sets o 0 (b ∷ k .pair .taken ∷ k .pair .rest ∷ []) → o₂ ≡ sets o₁ 3 (listNumbers (k .taken)) → length (k .taken .pieces) ≡ 512
+    → o₃ ≡ sets o₂ 516 (listNumbers (k .left)) → o₃ ≡ sets o 0 (cutNumbers k)
 cut-stored k o {b} {o₁} eb e f long g =
-    let x = stored-on (listNumbers (k .taken)) (listNumbers (k .left)) o₁ 1 f (omega arith) g in
-    rw eb at (stored-on (b ∷ []) (listNumbers (k .taken) ++ listNumbers (k .left)) o 0 e refl x)
+    let x = stored-on (listNumbers (k .taken)) (listNumbers (k .left)) o₁ 3 f (omega arith) g in
+    rw eb at (stored-on (b ∷ k .pair .taken ∷ k .pair .rest ∷ []) (listNumbers (k .taken) ++ listNumbers (k .left)) o 0 e refl x)
 
-pub kept-stored : (k : Kept) (o : List ℕ) {b : ℕ} {o₁ o₂ : List ℕ} → b ≡ bit (k .answer .split) → o₁ ≡ sets o 0 (b ∷ k .list .count ∷ []) → o₂ ≡ sets o₁ 2 (listNumbers (k .answer .taken))
+pub kept-stored : (k : Kept) (o : List ℕ) {b : ℕ} {o₁ o₂ : List ℕ} → b ≡ bit (k .answer .split) → o₁ ≡ sets o 0 (b ∷ k .answer .pair .taken ∷ k .answer .pair .rest ∷ k .list .count ∷ []) → o₂ ≡ sets o₁ 4 (listNumbers (k .answer .taken))
     → o₂ ≡ sets o 0 (keptNumbers k)
-kept-stored k o {b} eb e f = rw eb at (stored-on (b ∷ k .list .count ∷ []) (listNumbers (k .answer .taken)) o 0 e refl f)
+kept-stored k o {b} eb e f = rw eb at (stored-on (b ∷ k .answer .pair .taken ∷ k .answer .pair .rest ∷ k .list .count ∷ []) (listNumbers (k .answer .taken)) o 0 e refl f)
 
 -- ---- the list left in the place of the lent one
 
@@ -66,21 +66,21 @@ passes held n room needed e z =
 
 -- ---- `short_splits3`
 
-module _ (s : List ℕ) (n w : ℕ) (o : List ℕ) (r : ℕ) (er : r ≡ refusedBy (length s) n (length o) 1027) where
+module _ (s : List ℕ) (n w : ℕ) (o : List ℕ) (r : ℕ) (er : r ≡ refusedBy (length s) n (length o) 1029) where
   pub splits3-refused : (r ≡ 0 → ⊥) → splits3Given s n w o ≡ refusal r o
   unfolding splits3Given
   splits3-refused z = rw (← er, ne-eqb _ _ z)
 
   module _ (z : r ≡ 0) (list : SplitList) (el : list ≡ splitList (take n s)) (k : CutParts) (ek : k ≡ cutOf list w) where
-    splits3-is : splits3Given s n w o ≡ written 1027 (cutNumbers k) o
+    splits3-is : splits3Given s n w o ≡ written 1029 (cutNumbers k) o
     unfolding splits3Given
     splits3-is = rw (← er, eq-eqb _ _ z, ek, el)
 
-    pub splits3-written : (word : ℕ) (p : List ℕ) → length (k .taken .pieces) ≡ 512 → length (k .left .pieces) ≡ 512 → word ≡ packed 0 1027
+    pub splits3-written : (word : ℕ) (p : List ℕ) → length (k .taken .pieces) ≡ 512 → length (k .left .pieces) ≡ 512 → word ≡ packed 0 1029
         → p ≡ sets o 0 (cutNumbers k) → Same word p (splits3Given s n w o)
     splits3-written word p t l x y =
-        let long : length (cutNumbers k) ≡ 1027 = rw (length-append (listNumbers (k .taken)), t, l) in
-        same-written 1027 (cutNumbers k) o p splits3-is (rw long (passes (length s) n (length o) 1027 er z .fits)) x y
+        let long : length (cutNumbers k) ≡ 1029 = rw (length-append (listNumbers (k .taken)), t, l) in
+        same-written 1029 (cutNumbers k) o p splits3-is (rw long (passes (length s) n (length o) 1029 er z .fits)) x y
 
 -- ---- two lent lists
 
@@ -97,21 +97,21 @@ two-written count l m o p a b e w x y = rw e (w, (x, y))
 
 -- ---- `short_splits3` on a lent list
 
-module _ (s : List ℕ) (n w : ℕ) (o : List ℕ) (r : ℕ) (er : r ≡ refusedBy (length s) n (length o) 515) where
+module _ (s : List ℕ) (n w : ℕ) (o : List ℕ) (r : ℕ) (er : r ≡ refusedBy (length s) n (length o) 517) where
   pub lent-refused : (r ≡ 0 → ⊥) → lentGiven s n w o ≡ refusalTwo r s o
   unfolding lentGiven
   lent-refused z = rw (← er, ne-eqb _ _ z)
 
   module _ (z : r ≡ 0) (list : SplitList) (el : list ≡ splitList (take n s)) (k : Kept) (ek : k ≡ keptOf list w) where
-    lent-is : lentGiven s n w o ≡ writtenTwo 515 (take (length s) (k .list .pieces)) (keptNumbers k) s o
+    lent-is : lentGiven s n w o ≡ writtenTwo 517 (take (length s) (k .list .pieces)) (keptNumbers k) s o
     unfolding lentGiven keptGiven
     lent-is = rw (← er, eq-eqb _ _ z, ek, el)
 
-    pub lent-written : (word : ℕ) (a b : List ℕ) → length (k .answer .taken .pieces) ≡ 512 → word ≡ packed 0 515
+    pub lent-written : (word : ℕ) (a b : List ℕ) → length (k .answer .taken .pieces) ≡ 512 → word ≡ packed 0 517
         → a ≡ over (take (length s) (k .list .pieces)) s → b ≡ sets o 0 (keptNumbers k) → SameTwo word a b (lentGiven s n w o)
     lent-written word a b t x y v =
-        let h = passes (length s) n (length o) 515 er z .fits in
-        two-written 515 (take (length s) (k .list .pieces)) (keptNumbers k) s o a b lent-is x y (v ∙ sets-front (keptNumbers k) o (omega arith))
+        let h = passes (length s) n (length o) 517 er z .fits in
+        two-written 517 (take (length s) (k .list .pieces)) (keptNumbers k) s o a b lent-is x y (v ∙ sets-front (keptNumbers k) o (omega arith))
 
 -- ---- `short_splits`
 

@@ -14,6 +14,7 @@ use Rattle.sizes.specs.Sizes.{Sizes, treeSizes}
 use Rattle.sizes.specs.Input.{Input, refused, given}
 use Rattle.splits.specs.declared.SplitList.{SplitList}
 use Rattle.splits.specs.declared.Positions.{Positions}
+use Rattle.splits.specs.declared.cut.CutPair.{CutPair}
 use Rattle.sizes.specs.declared.Size.{Size}
 use Rattle.block.specs.declared.Flags.{Flags}
 use Rattle.leaf.specs.declared.LeafRecord.{LeafRecord}
@@ -100,17 +101,18 @@ bit b = pick b 1 0
 
 -- ---- leaf records
 
-abbrev pub frontNumbers : ℕ → Size → Flags → List ℕ
-frontNumbers node z f =
+-- node, size, flags, the pair of the leaf's cut
+abbrev pub frontNumbers : ℕ → Size → Flags → CutPair → List ℕ
+frontNumbers node z f p =
     node ∷ z .width ∷ z .height ∷ bit (f .«first_row») ∷ bit (f .«last_row») ∷ bit (f .«first_col») ∷ bit (f .«last_col»)
-    ∷ bit (f .«no_right») ∷ bit (f .«lean_top») ∷ bit (f .«top_left») ∷ bit (f .«top_intersection») ∷ []
+    ∷ bit (f .«no_right») ∷ bit (f .«lean_top») ∷ bit (f .«top_left») ∷ bit (f .«top_intersection») ∷ p .taken ∷ p .rest ∷ []
 
 abbrev pub recordNumbers : LeafRecord → List ℕ
-recordNumbers r = frontNumbers (r .node) (r .size) (r .flags) ++ (listNumbers (r .horizontal) ++ listNumbers (r .vertical))
+recordNumbers r = frontNumbers (r .node) (r .size) (r .flags) (r .pair) ++ (listNumbers (r .horizontal) ++ listNumbers (r .vertical))
 
 unfoldable pub recordGiven : LeafRecord → List ℕ → Gives
 unfolding refusal offered
-recordGiven r o = pick (eqb (r .number) 0) (offered 1037 (recordNumbers r) o) (refusal (r .number) o)
+recordGiven r o = pick (eqb (r .number) 0) (offered 1039 (recordNumbers r) o) (refusal (r .number) o)
 
 -- a record whose numbers fit 16 bits
 pub record Plain (r : LeafRecord) : Type 0 where
@@ -119,3 +121,4 @@ pub record Plain (r : LeafRecord) : Type 0 where
   pub tall : r .size .height < 65536
   pub horizontal : r .horizontal .count ≤ 512
   pub vertical : r .vertical .count ≤ 512
+  pub pair : r .pair .taken < 65536

@@ -7,6 +7,7 @@ use settings::Priority;
 use settings::Settings;
 use sizes::Core;
 use sizes::Size;
+use splits::cut::CutPair;
 ghost use mathlib.Core.Path.{_≡_};
 ghost use Prim.Native.Nat.{_*_, _≤_, _<_};
 ghost use mathlib.Core.List.{_∷_, []};
@@ -106,10 +107,10 @@ pub fn put_sizes(core: Core, out: &mut [u16])
     }
 }
 
-// Node, width, height, eight flags.
-fn front(node: usize, size: Size, f: Flags) -> [u16; 11]
-    requires { ⌜ (node < 65536) × (size .width < 65536) × (size .height < 65536) ⌝ }
-    ensures { λ r. ⌜ r ≡ frontNumbers node size f ⌝ }
+// Node, width, height, eight flags, the pair of the leaf's cut.
+fn front(node: usize, size: Size, f: Flags, pair: CutPair) -> [u16; 13]
+    requires { ⌜ (node < 65536) × (size .width < 65536) × (size .height < 65536) × (pair .taken < 65536) ⌝ }
+    ensures { λ r. ⌜ r ≡ frontNumbers node size f pair ⌝ }
 {
     [
         node as u16,
@@ -123,20 +124,23 @@ fn front(node: usize, size: Size, f: Flags) -> [u16; 11]
         lists::bit(f.lean_top),
         lists::bit(f.top_left),
         lists::bit(f.top_intersection),
+        pair.taken as u16,
+        pair.rest,
     ]
 }
 
 // The front, the horizontal list, the vertical list.
 pub fn put_record(r: LeafRecord, out: &mut [u16])
-    requires { ⌜ Plain r × (1037 ≤ length (now out)) ⌝ }
+    requires { ⌜ Plain r × (1039 ≤ length (now out)) ⌝ }
     ensures { λ _. ⌜ now (out .exit) ≡ sets (now (out .entry)) 0 (recordNumbers r) ⌝ }
 {
     let size = r.size;
     let flags = r.flags;
-    let first = front(r.node, size, flags);
+    let pair = r.pair;
+    let first = front(r.node, size, flags, pair);
     lists::copy(&first, out, 0);
     let horizontal = r.horizontal;
-    lists::put_list(horizontal, out, 11);
+    lists::put_list(horizontal, out, 13);
     let vertical = r.vertical;
-    lists::put_list(vertical, out, 524);
+    lists::put_list(vertical, out, 526);
 }

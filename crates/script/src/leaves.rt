@@ -1,6 +1,5 @@
 // Leaf records, as text, and the refusals of both leaf calls.
 use crate::printers;
-use crate::text;
 use lines::compare;
 use lines::contents;
 use lines::tell;
@@ -9,7 +8,7 @@ use lines::tell;
 const LONGEST: usize = 4200;
 
 // The text of a refused record: 0 or no in every field.
-const BLANK: [u8; 40] = *b"0 by 0, across none, down none, nnnnnnnn";
+const BLANK: [u8; 50] = *b"0 by 0, across none, down none, nnnnnnnn, pair 0 0";
 
 // The record of the leaf: its number, the node that it names, and the rest as in `want`, which is shown.
 fn compare_record(
@@ -22,7 +21,7 @@ fn compare_record(
 ) {
     let r = leaf::leaf_record(settings, tree, node);
     let mut found = [compare::MADE_OF; LONGEST];
-    let end = text::record(&mut found, r);
+    let end = record_lines::record(&mut found, r);
     tell::text(b", number ");
     tell::number(r.number as usize);
     tell::text(b": ");

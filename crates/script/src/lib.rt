@@ -15,7 +15,6 @@ mod leaves;
 mod measures;
 mod printers;
 mod readers;
-mod text;
 
 use libc::STDIN_FILENO;
 use lines::contents;

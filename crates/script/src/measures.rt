@@ -1,5 +1,4 @@
 // A node's natural and allotted size, as text, from the list that the size collector writes.
-use crate::text;
 use collector::SizeRecord;
 use lines::compare;
 use lines::tell;
@@ -26,7 +25,7 @@ fn entry(settings: &[u8], tree: &[u8], node: usize) -> SizeRecord {
 pub fn measured(settings: &[u8], tree: &[u8], node: usize, want: &[u8]) {
     let z = entry(settings, tree, node);
     let mut found = [compare::MADE_OF; LONGEST];
-    let end = text::measured(&mut found, z);
+    let end = record_lines::measured(&mut found, z);
     tell::node(node);
     tell::text(b": sizes ");
     tell::part(&found, end);

@@ -8,13 +8,14 @@ use native.Mathlib.Omega.{arith}
 use lib.ListN.{length, take, drop, getD, set, replicate, length-set, drop-of-length-le}
 use lib.Seq.{drop-cons, length-take-le, getD-take, getD-set-same, take-take, take-set-lt, drop-set-lt}
 use borrow.Author.Tests.{lt-leb, le-leb, eq-eqb, ne-eqb}
+use Rattle.common.specs.Choice.{pick}
 use Rattle.splits.specs.declared.SplitList.{SplitList}
 use Rattle.splits.specs.declared.ShortParts.{ShortParts}
 use Rattle.splits.specs.declared.CutParts.{CutParts}
 use Rattle.splits.specs.declared.cut.Stop.{Stop}
 use Rattle.splits.specs.declared.cut.CutAt.{CutAt}
 use Rattle.splits.specs.declared.short.Listed.{Listed}
-use Rattle.splits.specs.Splits.{closed, shortSplits3, loses, shortSplits}
+use Rattle.splits.specs.Splits.{closed, shortSplits3, pairOf, loses, shortSplits}
 use Rattle.splits.specs.Lists.{listOf, splitList}
 use Rattle.splits.proofs.Lists.{drop-replicate}
 use Rattle.splits.specs.Cuts.{Took, CutsIn, Told, answered, refusedCut, cutOf, refusedShort, shortOf}
@@ -51,12 +52,13 @@ module _ {w n : ℕ} {s : List ℕ} {k : Stop} {o₀ o : List ℕ} (t : Took w n
 
   -- as the code answers it
   pub cuts-in : (b : Bool) (l : List ℕ) → shortSplits3 (take n s) w ≡ record { split = b; taken = taken; left = l }
-      → (gone : ℕ) (s₁ : List ℕ) → gone ≤ n → drop gone (take n s₁) ≡ l → CutsIn n w (record { split = b; taken = k .count; gone = gone }) s s₁ o₀ o
+      → (gone : ℕ) (s₁ : List ℕ) → gone ≤ n → drop gone (take n s₁) ≡ l → CutsIn n w (record { split = b; pair = record { taken = k .count; rest = pick b 0 (getD l 0 0) }; gone = gone }) s s₁ o₀ o
+  unfolding pairOf
   cuts-in b l e gone s₁ h f =
       let m : length (take n s) ≡ n = length-take-le n s long in
       let c : length taken ≡ k .count = length-take-le (k .count) (take n s) (omega (arith, t .stops .within)) in
       let u : taken ≡ take (k .count) s = take-take (k .count) n s (t .stops .within) in
-      record { split = rw e; taken = rw (e, c); stored = rw (e, u) (t .stored); within = h; left = rw e f }
+      record { split = rw e; pair = rw (e, c); stored = rw (e, u) (t .stored); within = h; left = rw e f }
 
 -- the piece that is shortened where it stands
 pub first-set : (n : ℕ) (s : List ℕ) (k v : ℕ) → n ≤ length s → k < n → drop k (take n (set s k v)) ≡ v ∷ drop (k + 1) (take n s)
@@ -86,5 +88,6 @@ short-within {list = list} t few l = rw (t .listed, l, le-leb (list .count) 512 
 -- the cut by value, over memory that held zeros
 pub cut-whole : (list : SplitList) (w : ℕ) (r : CutAt) (s o : List ℕ) → CutsIn (list .count) w r (list .pieces) s (replicate 512 0) o → list .count ≤ 512
     → (left : SplitList) → left ≡ splitList (drop (r .gone) (take (list .count) s))
-    → _≡_ {A = CutParts} (record { number = 0; split = r .split; taken = record { pieces = o; count = r .taken }; left = left }) (cutOf list w)
-cut-whole list w r s o k few left e = rw (cut-within list w few, k .stored, k .split, k .taken, e, k .left, drop-replicate (length (shortSplits3 (take (list .count) (list .pieces)) w .taken)) 512 0)
+    → _≡_ {A = CutParts} (record { number = 0; split = r .split; pair = r .pair; taken = record { pieces = o; count = r .pair .taken }; left = left }) (cutOf list w)
+unfolding pairOf
+cut-whole list w r s o k few left e = rw (cut-within list w few, k .stored, k .split, k .pair, e, k .left, drop-replicate (length (shortSplits3 (take (list .count) (list .pieces)) w .taken)) 512 0)

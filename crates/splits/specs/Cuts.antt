@@ -14,7 +14,7 @@ use Rattle.splits.specs.declared.Kept.{Kept}
 use Rattle.splits.specs.declared.cut.Stop.{Stop}
 use Rattle.splits.specs.declared.cut.CutAt.{CutAt}
 use Rattle.splits.specs.declared.short.Listed.{Listed}
-use Rattle.splits.specs.Splits.{reach, Cut, shortSplits3, Short, shortSplits}
+use Rattle.splits.specs.Splits.{reach, Cut, shortSplits3, pairOf, noPair, Short, shortSplits}
 use Rattle.splits.specs.Lists.{listOf, splitList, positionList}
 
 -- over the first n of s, the loop of a cut stops before entry `at`, at position `pos`
@@ -34,8 +34,8 @@ pub record Took (w n : ℕ) (s : List ℕ) (r : Stop) (o₀ o : List ℕ) : Type
 -- what `short_splits3` of the first n of s₀ answers: the pieces taken stand at the front of o, those left in s, past the ones that are gone
 pub record CutsIn (n w : ℕ) (r : CutAt) (s₀ s o₀ o : List ℕ) : Type 0 where
   pub split : r .split ≡ shortSplits3 (take n s₀) w .split
-  pub taken : r .taken ≡ length (shortSplits3 (take n s₀) w .taken)
-  pub stored : o ≡ shortSplits3 (take n s₀) w .taken ++ drop (r .taken) o₀
+  pub pair : r .pair ≡ pairOf (shortSplits3 (take n s₀) w)
+  pub stored : o ≡ shortSplits3 (take n s₀) w .taken ++ drop (r .pair .taken) o₀
   pub within : r .gone ≤ n
   pub left : drop (r .gone) (take n s) ≡ shortSplits3 (take n s₀) w .left
 
@@ -45,11 +45,11 @@ pub record Told (w : ℕ) (list : SplitList) (r : Listed) : Type 0 where
   pub listed : r .positions ≡ positionList (reach 0 w (listOf list) 0 .positions)
 
 abbrev pub answered : Cut → CutParts
-answered k = record { number = 0; split = k .split; taken = splitList (k .taken); left = splitList (k .left) }
+answered k = record { number = 0; split = k .split; pair = pairOf k; taken = splitList (k .taken); left = splitList (k .left) }
 
 -- a refusal: its number, and 0 or no in every other field
 abbrev pub refusedCut : CutParts
-refusedCut = record { number = 10; split = false; taken = splitList []; left = splitList [] }
+refusedCut = record { number = 10; split = false; pair = noPair; taken = splitList []; left = splitList [] }
 
 -- `short_splits3`: 10 where the count is over 512
 unfoldable pub cutOf : SplitList → ℕ → CutParts
@@ -58,7 +58,7 @@ cutOf list w = pick (leb (list .count) 512) (answered (shortSplits3 (listOf list
 -- the answer of a cut in place, and the list that the caller then has: a refusal leaves it as it was
 unfoldable pub keptOf : SplitList → ℕ → Kept
 keptOf list w = record {
-  answer = record { number = cutOf list w .number; split = cutOf list w .split; taken = cutOf list w .taken };
+  answer = record { number = cutOf list w .number; split = cutOf list w .split; pair = cutOf list w .pair; taken = cutOf list w .taken };
   list = pick (leb (list .count) 512) (cutOf list w .left) list;
 }
 

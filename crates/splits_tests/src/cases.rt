@@ -3,31 +3,39 @@ use crate::fields;
 use crate::lists;
 use splits::Positions;
 use splits::SplitList;
+use splits::cut::CutPair;
 use splits::lent::copy_pieces;
 use splits::lent::list_at;
 
-// What a call answers: its number, yes or no, the pieces taken or the positions, the list left.
+// What a call answers: its number, yes or no, its pair, the pieces taken or the positions, the list left.
 struct Answer {
     number: usize,
     yes: bool,
+    pair: CutPair,
     taken: Positions,
     left: Positions,
 }
 
-fn answered(number: usize, yes: bool, taken: SplitList, left: SplitList) -> Answer {
+fn answered(number: usize, yes: bool, pair: CutPair, taken: SplitList, left: SplitList) -> Answer {
     Answer {
         number: number,
         yes: yes,
+        pair: pair,
         taken: lists::widened(taken),
         left: lists::widened(left),
     }
+}
+
+// Calls other than cuts say none.
+fn no_pair() -> CutPair {
+    CutPair { taken: 0, rest: 0 }
 }
 
 fn by_value(list: SplitList, w: u16) -> Answer {
     let r = splits::short_splits3(list, w);
     let taken = r.taken;
     let left = r.left;
-    answered(r.number as usize, r.split, taken, left)
+    answered(r.number as usize, r.split, r.pair, taken, left)
 }
 
 // The list left is then the lent one.
@@ -36,7 +44,7 @@ fn in_place(list: SplitList, w: u16) -> Answer {
     let a = r.answer;
     let taken = a.taken;
     let left = r.list;
-    answered(a.number as usize, a.split, taken, left)
+    answered(a.number as usize, a.split, a.pair, taken, left)
 }
 
 fn short(list: SplitList, w: u16) -> Answer {
@@ -46,6 +54,7 @@ fn short(list: SplitList, w: u16) -> Answer {
     Answer {
         number: r.number as usize,
         yes: false,
+        pair: no_pair(),
         taken: positions,
         left: lists::widened(left),
     }
@@ -55,13 +64,13 @@ fn short(list: SplitList, w: u16) -> Answer {
 fn join(a: SplitList, b: SplitList) -> Answer {
     let none = splits::no_pieces();
     if 511 < b.count {
-        return answered(0, false, none, none);
+        return answered(0, false, no_pair(), none, none);
     }
     let first = a.pieces[0];
     let mut room = [first; 512];
     copy_pieces(&mut room, 1, &b.pieces, b.count);
     let got = list_at(&room, 0, 1 + b.count);
-    answered(0, false, got, none)
+    answered(0, false, no_pair(), got, none)
 }
 
 fn answer_of(kind: u8, list: SplitList, w: u16, second: SplitList) -> Answer {
@@ -73,11 +82,21 @@ fn answer_of(kind: u8, list: SplitList, w: u16, second: SplitList) -> Answer {
     }
 }
 
-// What fields 2 to 4 of the line say.
+// The two numbers of field 5; where it is left out, 0 and 0.
+fn wanted_pair(s: &[u8]) -> CutPair {
+    let numbers = fields::list(s, 5).pieces;
+    CutPair {
+        taken: common::wide16(numbers[0]),
+        rest: numbers[1],
+    }
+}
+
+// What fields 2 to 5 of the line say.
 fn wanted(s: &[u8]) -> Answer {
     answered(
         fields::number(s, 4),
         fields::yes(s, 4),
+        wanted_pair(s),
         fields::list(s, 2),
         fields::list(s, 3),
     )
@@ -89,7 +108,8 @@ fn same(a: Answer, b: Answer) -> bool {
     let taken2 = b.taken;
     let left2 = b.left;
     let lists_same = lists::same(taken, taken2) && lists::same(left, left2);
-    lists_same && a.number == b.number && a.yes == b.yes
+    let pair_same = a.pair.taken == b.pair.taken && a.pair.rest == b.pair.rest;
+    lists_same && pair_same && a.number == b.number && a.yes == b.yes
 }
 
 // Whether a call of this kind answers what the line says.

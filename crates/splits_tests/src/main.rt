@@ -1,6 +1,6 @@
 // Split lists at their bounds, against document 01. The cases are the lines of standard input (the file `stdin`); each is told again with the verdict on it.
 // A line that begins with `#` is a title. Of a case the first letter says the call, and commas part its fields:
-//   cut LIST, at W, took LIST, left LIST, yes or no       `short_splits3`, by value and in place
+//   cut LIST, at W, took LIST, left LIST, yes or no, pair TAKEN REST       `short_splits3`, by value and in place
 //   value .., lent ..                                     the same by value alone, in place alone, with `refused N` for yes or no
 //   short LIST, at W, positions LIST, left LIST           `short_splits`; after a refusal with `refused N`
 //   named LIST, at W, place P, yes or no                  whether the squashed positions have the place

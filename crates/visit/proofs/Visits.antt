@@ -36,7 +36,7 @@ lists-kept h v k e₁ e₂ =
     e₂ ∙ rw (e₁ ∙ x, take-append-seam h (drop (length h) k), take-length v, drop-append-add h (drop (length h) k) (length v), drop-drop (length v) (length h) k)
 
 -- they are the lists of the record
-pub record-kept : (node : ℕ) (p : Spot) (z : Size) (h v k : List ℕ) → keptOf (record { hit = true; node = node; size = z; horizontal = length h; vertical = length v; flags = p .flags }) (keptLists h v k) ≡ keptAt (contextOf node p z h v)
+pub record-kept : (node : ℕ) (p : Spot) (z : Size) (h v k : List ℕ) → keptOf (record { hit = true; node = node; size = z; horizontal = length h; vertical = length v; flags = p .flags; pair = p .pair }) (keptLists h v k) ≡ keptAt (contextOf node p z h v)
 record-kept node p z h v k =
     let r = drop (length h + length v) k in
     rw (append-assoc h v r, take-append-seam h (v ++ r), drop-append-seam h (v ++ r), take-append-seam v r)

@@ -7,6 +7,8 @@ use lib.ListN.{length, take, drop}
 use lib.Dec.{eqb, ltb}
 use Rattle.common.specs.Choice.{pick}
 use Rattle.settings.specs.declared.Settings.{Settings}
+use Rattle.splits.specs.declared.cut.CutPair.{CutPair}
+use Rattle.splits.specs.Splits.{noPair}
 use Rattle.sizes.specs.declared.Size.{Size}
 use Rattle.sizes.specs.Sizes.{Fits, leafSize}
 use Rattle.block.specs.declared.Flags.{Flags}
@@ -30,27 +32,28 @@ pub record Kept : Type 0 where
   pub horizontal : List ℕ
   pub vertical : List ℕ
   pub flags : Flags
+  pub pair : CutPair
 
 -- as the code has it: the pieces lie at the front of k, those of the horizontal list first
 abbrev pub keptOf : Found → List ℕ → Kept
-keptOf f k = record { hit = f .hit; node = f .node; size = f .size; horizontal = take (f .horizontal) k; vertical = take (f .vertical) (drop (f .horizontal) k); flags = f .flags }
+keptOf f k = record { hit = f .hit; node = f .node; size = f .size; horizontal = take (f .horizontal) k; vertical = take (f .vertical) (drop (f .horizontal) k); flags = f .flags; pair = f .pair }
 
 -- a record's lists are no longer than 512
 abbrev pub Few : Found → Type 0
 Few f = (f .horizontal ≤ 512) × (f .vertical ≤ 512)
 
 abbrev pub noFound : Found
-noFound = record { hit = false; node = 0; size = record { width = 0; height = 0 }; horizontal = 0; vertical = 0; flags = noFlags }
+noFound = record { hit = false; node = 0; size = record { width = 0; height = 0 }; horizontal = 0; vertical = 0; flags = noFlags; pair = noPair }
 
 -- nothing kept
 abbrev pub noKept : Kept
-noKept = record { hit = false; node = 0; size = record { width = 0; height = 0 }; horizontal = []; vertical = []; flags = noFlags }
+noKept = record { hit = false; node = 0; size = record { width = 0; height = 0 }; horizontal = []; vertical = []; flags = noFlags; pair = noPair }
 
 abbrev pub keptLists : List ℕ → List ℕ → List ℕ → List ℕ
 keptLists h v k = h ++ v ++ drop (length h + length v) k
 
 abbrev pub keptAt : Context → Kept
-keptAt c = record { hit = true; node = c .node; size = c .size; horizontal = c .horizontal; vertical = c .vertical; flags = c .flags }
+keptAt c = record { hit = true; node = c .node; size = c .size; horizontal = c .horizontal; vertical = c .vertical; flags = c .flags; pair = c .pair }
 
 unfoldable pub keeps : Job → Kept → Placed → Kept
 keeps job f l = pick (eqb (l .at .node) (job .wanted)) (keptAt (l .at)) f

@@ -3,6 +3,7 @@ use block::Flags;
 use layout::Spot;
 use settings::Settings;
 use sizes::Size;
+use splits::cut::CutPair;
 use splits::lent::copy_pieces;
 ghost use mathlib.Core.Path.{_≡_};
 ghost use Prim.Native.Nat.{_+_, _*_, _≤_, _<_};
@@ -37,6 +38,7 @@ pub struct Found {
     pub horizontal: usize,
     pub vertical: usize,
     pub flags: Flags,
+    pub pair: CutPair,
 }
 
 // The pieces of both lists at the front of `kept`.
@@ -66,6 +68,7 @@ fn keep(
     if node == wanted {
         keep_lists(horizontal, vertical, kept);
         let flags = spot.flags;
+        let pair = spot.pair;
         return Found {
             hit: true,
             node: node,
@@ -73,6 +76,7 @@ fn keep(
             horizontal: horizontal.len(),
             vertical: vertical.len(),
             flags: flags,
+            pair: pair,
         };
     }
     found

@@ -33,11 +33,6 @@ unfolding besideList joinWalked
 join-beside across w r = refl
 join-beside down w r = refl
 
-pub join-leaves : (a : Axis) (w r : Walked) → joinWalked a w r .leaves ≡ w .leaves ++ r .leaves
-unfolding joinWalked
-join-leaves across w r = refl
-join-leaves down w r = refl
-
 pub none-along : (a : Axis) (h : List ℕ) → alongW a (noneWalked a h) ≡ []
 unfolding alongList noneWalked
 none-along across h = refl
@@ -48,16 +43,11 @@ unfolding besideList noneWalked
 none-beside across h = refl
 none-beside down h = refl
 
-pub none-leaves : (a : Axis) (h : List ℕ) → noneWalked a h .leaves ≡ []
-unfolding noneWalked
-none-leaves across h = refl
-none-leaves down h = refl
-
 -- ---- the children, one step
 
 -- the context of the first of these children
 abbrev pub childAt : Settings → Tree → Axis → Context → ℕ → ℕ → ℕ → Bool → ℕ → ℕ → List ℕ → List ℕ → Context
-childAt s t a c spare n i old node offset cut handed = child a c (eqb i 0) (eqb (suc i) n) old node offset (allot s a spare n i t) (shortSplits3 cut (allot s a spare n i t) .taken) handed
+childAt s t a c spare n i old node offset cut handed = child a c (eqb i 0) (eqb (suc i) n) old node offset (allot s a spare n i t) (shortSplits3 cut (allot s a spare n i t)) handed
 
 pub children-none : (s : Settings) (a : Axis) (c : Context) (spare n i : ℕ) (old : Bool) (node offset : ℕ) (cut handed : List ℕ)
     → children s none a c spare n i old node offset cut handed ≡ noneWalked a handed

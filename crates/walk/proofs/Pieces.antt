@@ -8,6 +8,7 @@ use borrow.Rule.Slice.PartAt.{part-to-end}
 use lib.ListN.{length, take, drop, length-append, length-drop, drop-of-length-le}
 use lib.Seq.{take-at, drop-at, take-append-seam, drop-append-add, length-take-le}
 use Rattle.splits.specs.declared.cut.CutAt.{CutAt}
+use Rattle.splits.specs.Splits.{pairOf}
 use Rattle.splits.specs.Cuts.{CutsIn}
 use Rattle.splits.proofs.Lists.{rest-is}
 use Rattle.layout.specs.declared.Spot.{Spot}
@@ -35,20 +36,21 @@ module _ (g : Going) (b : Spot) (a last : Bool) (e used : ℕ) (k : CutAt) (al s
   planned = record {
     used = used;
     offset = g .offset + e + 1;
-    child = childCtx a (g .node) (childSpot a b (g .offset) (g .first) last (g .old)) (k .taken) (g .handed);
+    child = childCtx a (g .node) (childSpot a b (g .offset) (g .first) last (g .old) (k .pair)) (k .pair .taken) (g .handed);
     split = k .split;
     from = g .from + k .gone;
     left = g .left - k .gone;
   }
 
   pub plans : Plans g b a last e used planned al (take (g .from) al ++ s₁) jo (take (g .joined) jo ++ o₁)
+  unfolding pairOf
   plans =
       let m : length (drop (g .from) al) ≡ length al - g .from = length-drop (g .from) al in
       let j : length (take (g .joined) jo) ≡ g .joined = length-take-le (g .joined) jo (omega arith) in
       record {
         used-is = refl;
         offset-is = refl;
-        child-is = rw (c .taken);
+        child-is = rw (c .pair);
         split-is = c .split;
         same-end = omega (arith, c .within);
         left-is = past al s₁ (g .from) (k .gone) (g .left) (omega arith) (c .within) (omega arith) ∙ c .left;

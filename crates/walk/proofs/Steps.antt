@@ -14,6 +14,7 @@ use Rattle.tree.specs.Bytes.{Is, Are, lengthAt, axisOf}
 use Rattle.tree.proofs.Fronts.{is-whole}
 use Rattle.sizes.specs.declared.Size.{Size}
 use Rattle.sizes.specs.Sizes.{natural, sep, childSize}
+use Rattle.splits.specs.Splits.{Cut, pairOf}
 use Rattle.layout.specs.Walk.{Context, alongList, besideList, child}
 use Rattle.layout.specs.Contexts.{spotOf, ctxOf, childSpot, childCtx}
 use Rattle.walk.specs.Walking.{extentAt, Lie, Lists, Here, Allotted}
@@ -39,34 +40,24 @@ sep-is s = refl
 
 -- ---- a child's context
 
-pub child-ctx : (a : Bool) (c : Context) (first last old : Bool) (node offset e : ℕ) (taken handed : List ℕ)
-    → ctxOf (child (axisOf a) c first last old node offset e taken handed) ≡ childCtx a node (childSpot a (spotOf c) offset first last old) (length taken) (length handed)
+pub child-ctx : (a : Bool) (c : Context) (first last old : Bool) (node offset e : ℕ) (k : Cut) (handed : List ℕ)
+    → ctxOf (child (axisOf a) c first last old node offset e k handed) ≡ childCtx a node (childSpot a (spotOf c) offset first last old (pairOf k)) (length (k .taken)) (length handed)
 unfolding child
-child-ctx true c first last old node offset e taken handed = refl
-child-ctx false c first last old node offset e taken handed = refl
-
-pub child-node : (a : Axis) (c : Context) (first last old : Bool) (node offset e : ℕ) (taken handed : List ℕ) → child a c first last old node offset e taken handed .node ≡ node
-unfolding child
-child-node across c first last old node offset e taken handed = refl
-child-node down c first last old node offset e taken handed = refl
-
-pub child-size : (a : Axis) (c : Context) (first last old : Bool) (node offset e : ℕ) (taken handed : List ℕ) → child a c first last old node offset e taken handed .size ≡ childSize a (c .size) e
-unfolding child childSize
-child-size across c first last old node offset e taken handed = refl
-child-size down c first last old node offset e taken handed = refl
+child-ctx true c first last old node offset e k handed = refl
+child-ctx false c first last old node offset e k handed = refl
 
 -- a child's place: not far from its group's
-pub child-low : (a : Axis) (c : Context) (first last old : Bool) (node offset e : ℕ) (taken handed : List ℕ) (m : ℕ) → c .line + offset ≤ m → c .column + offset ≤ m
-    → let k = child a c first last old node offset e taken handed in (k .line ≤ m) × (k .column ≤ m)
+pub child-low : (a : Axis) (c : Context) (first last old : Bool) (node offset e : ℕ) (k : Cut) (handed : List ℕ) (m : ℕ) → c .line + offset ≤ m → c .column + offset ≤ m
+    → let d = child a c first last old node offset e k handed in (d .line ≤ m) × (d .column ≤ m)
 unfolding child
-child-low across c first last old node offset e taken handed m h k = (omega arith, k)
-child-low down c first last old node offset e taken handed m h k = (h, omega arith)
+child-low across c first last old node offset e k handed m h i = (omega arith, i)
+child-low down c first last old node offset e k handed m h i = (h, omega arith)
 
-pub child-few : (a : Axis) (c : Context) (first last old : Bool) (node offset e : ℕ) (taken handed : List ℕ) → length taken ≤ 512 → length handed ≤ 512
-    → let k = child a c first last old node offset e taken handed in (length (k .horizontal) ≤ 512) × (length (k .vertical) ≤ 512)
+pub child-few : (a : Axis) (c : Context) (first last old : Bool) (node offset e : ℕ) (k : Cut) (handed : List ℕ) → length (k .taken) ≤ 512 → length handed ≤ 512
+    → let d = child a c first last old node offset e k handed in (length (d .horizontal) ≤ 512) × (length (d .vertical) ≤ 512)
 unfolding child
-child-few across c first last old node offset e taken handed h k = (h, k)
-child-few down c first last old node offset e taken handed h k = (k, h)
+child-few across c first last old node offset e k handed h i = (h, i)
+child-few down c first last old node offset e k handed h i = (i, h)
 
 pub extent-is : (a : Bool) (n z : Size) (e node : ℕ) (ls : Lists) → Here n (childSize (axisOf a) z e) node ls → extentAt a (ls .ws) (ls .hs) node ≡ e
 unfolding childSize
@@ -79,11 +70,11 @@ extent-small false ws hs i k = k .1
 
 -- ---- lists by the axis
 
-pub child-along : (a : Axis) (c : Context) (first last old : Bool) (node offset e : ℕ) (taken handed : List ℕ)
-    → let k = child a c first last old node offset e taken handed in (alongList a (k .horizontal) (k .vertical) ≡ taken) × (besideList a (k .horizontal) (k .vertical) ≡ handed)
+pub child-along : (a : Axis) (c : Context) (first last old : Bool) (node offset e : ℕ) (k : Cut) (handed : List ℕ)
+    → let d = child a c first last old node offset e k handed in (alongList a (d .horizontal) (d .vertical) ≡ k .taken) × (besideList a (d .horizontal) (d .vertical) ≡ handed)
 unfolding child alongList besideList
-child-along across c first last old node offset e taken handed = (refl, refl)
-child-along down c first last old node offset e taken handed = (refl, refl)
+child-along across c first last old node offset e k handed = (refl, refl)
+child-along down c first last old node offset e k handed = (refl, refl)
 
 pub axis-few : (a : Axis) (h v : List ℕ) (m : ℕ) → length h ≤ m → length v ≤ m → (length (alongList a h v) ≤ m) × (length (besideList a h v) ≤ m)
 unfolding alongList besideList

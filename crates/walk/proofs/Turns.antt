@@ -29,8 +29,11 @@ use Rattle.layout.specs.Walk.{Context, Walked, alongList, besideList, child, jo
 use Rattle.layout.specs.Contexts.{spotOf, ctxOf}
 use Rattle.visit.specs.Visiting.{keptOf, Few, keepAll, showAll, Asks}
 use Rattle.walk.specs.Walking.{uncut, Plans, Looks, startOf, advanceOf, finishOf, Walks, Lists, Here, Allotted, AllottedIn, Ready, ReadyIn, walked, walkedIn}
-use Rattle.walk.proofs.Outcome.{alongW, besideW, join-along, join-beside, join-leaves, none-along, none-beside, none-leaves, childAt, children-none, children-more, few-beside, walk-few, children-few, keep-append, keep-nil, show-append, show-nil}
-use Rattle.walk.proofs.Steps.{here-of, last-is, sep-is, child-ctx, child-node, child-size, child-low, child-few, child-along, extent-is, extent-small, axis-few, along-count, beside-count, horizontal-count, vertical-count}
+use Rattle.layout.proofs.Laid.{child-size}
+use Rattle.layout.proofs.Numbered.{child-node, none-leaves}
+use Rattle.layout.proofs.Narrow.{join-leaves}
+use Rattle.walk.proofs.Outcome.{alongW, besideW, join-along, join-beside, none-along, none-beside, childAt, children-none, children-more, few-beside, walk-few, children-few, keep-append, keep-nil, show-append, show-nil}
+use Rattle.walk.proofs.Steps.{here-of, last-is, sep-is, child-ctx, child-low, child-few, child-along, extent-is, extent-small, axis-few, along-count, beside-count, horizontal-count, vertical-count}
 
 -- ---- the loop over a group's children
 
@@ -250,7 +253,7 @@ module _ (job : Job) (s : List ℕ) (ls : Lists) (a : Bool) (x : Ctx) (al₀ be�
         plan = rw (pe, last, extent-is a (natural (job .settings) t) (q .at .size) e (g .node) ls here) at ye
 
         child-is : y .child ≡ ctxOf kid
-        child-is = plan .child-is ∙ rw (child-ctx a (q .at) (eqb (l .i) 0) (eqb (suc (l .i)) n) (g .old) (g .node) (l .offset) e (k .taken) (l .handed), spot-is, l .offset-is, l .first, l .cut-is, l .handed-count)
+        child-is = plan .child-is ∙ rw (child-ctx a (q .at) (eqb (l .i) 0) (eqb (suc (l .i)) n) (g .old) (g .node) (l .offset) e k (l .handed), spot-is, l .offset-is, l .first, l .cut-is, l .handed-count)
 
         pub used-is : (3 ≤ y .used) × (at + y .used ≤ length s)
         used-is =
@@ -259,19 +262,19 @@ module _ (job : Job) (s : List ℕ) (ls : Lists) (a : Bool) (x : Ctx) (al₀ be�
             (omega arith, omega (arith, whole, l .within))
 
         few-kid : (length (kid .horizontal) ≤ 512) × (length (kid .vertical) ≤ 512)
-        few-kid = child-few A (q .at) (eqb (l .i) 0) (eqb (suc (l .i)) n) (g .old) (g .node) (l .offset) e (k .taken) (l .handed) (omega (arith, cut-few (l .cut) e .0, l .few-cut)) (l .few-handed)
+        few-kid = child-few A (q .at) (eqb (l .i) 0) (eqb (suc (l .i)) n) (g .old) (g .node) (l .offset) e k (l .handed) (omega (arith, cut-few (l .cut) e .0, l .few-cut)) (l .few-handed)
 
         low-kid : (kid .line ≤ 65537 * g .node) × (kid .column ≤ 65537 * g .node)
-        low-kid = child-low A (q .at) (eqb (l .i) 0) (eqb (suc (l .i)) n) (g .old) (g .node) (l .offset) e (k .taken) (l .handed) (65537 * g .node) (near .0) (near .1)
+        low-kid = child-low A (q .at) (eqb (l .i) 0) (eqb (suc (l .i)) n) (g .old) (g .node) (l .offset) e k (l .handed) (65537 * g .node) (near .0) (near .1)
 
         node-is : kid .node ≡ g .node
-        node-is = child-node A (q .at) (eqb (l .i) 0) (eqb (suc (l .i)) n) (g .old) (g .node) (l .offset) e (k .taken) (l .handed)
+        node-is = child-node A (q .at) (eqb (l .i) 0) (eqb (suc (l .i)) n) (g .old) (g .node) (l .offset) e k (l .handed)
 
         size-is : kid .size ≡ childSize A (q .at .size) e
-        size-is = child-size A (q .at) (eqb (l .i) 0) (eqb (suc (l .i)) n) (g .old) (g .node) (l .offset) e (k .taken) (l .handed)
+        size-is = child-size A (q .at) (eqb (l .i) 0) (eqb (suc (l .i)) n) (g .old) (g .node) (l .offset) e k (l .handed)
 
         lists-are : (alongList A (kid .horizontal) (kid .vertical) ≡ k .taken) × (besideList A (kid .horizontal) (kid .vertical) ≡ l .handed)
-        lists-are = child-along A (q .at) (eqb (l .i) 0) (eqb (suc (l .i)) n) (g .old) (g .node) (l .offset) e (k .taken) (l .handed)
+        lists-are = child-along A (q .at) (eqb (l .i) 0) (eqb (suc (l .i)) n) (g .old) (g .node) (l .offset) e k (l .handed)
 
         taken-is : take (length (k .taken)) (drop (g .joined) jo₁) ≡ k .taken
         taken-is = rw (← l .cut-is) (plan .taken-is)

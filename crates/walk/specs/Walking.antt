@@ -9,7 +9,7 @@ use Rattle.common.specs.Choice.{pick}
 use Rattle.settings.specs.declared.Settings.{Settings}
 use Rattle.tree.specs.Tree.{Axis, Tree, Trees, cell, group, none, more, count, nodes, nodes*}
 use Rattle.tree.specs.Bytes.{Is, Are, lengthAt, axisOf}
-use Rattle.splits.specs.Splits.{shortSplits3}
+use Rattle.splits.specs.Splits.{shortSplits3, pairOf, noPair}
 use Rattle.sizes.specs.declared.Size.{Size}
 use Rattle.sizes.specs.declared.Core.{Core}
 use Rattle.sizes.specs.Sizes.{natural, allot, spareOf, childSize}
@@ -40,7 +40,7 @@ uncut g al = take (g .left) (drop (g .from) al)
 pub record Plans (g : Going) (b : Spot) (a last : Bool) (e used : ℕ) (r : Planned) (al₀ al jo₀ jo : List ℕ) : Type 0 where
   pub used-is : r .used ≡ used
   pub offset-is : r .offset ≡ g .offset + e + 1
-  pub child-is : r .child ≡ childCtx a (g .node) (childSpot a b (g .offset) (g .first) last (g .old)) (length (shortSplits3 (uncut g al₀) e .taken)) (g .handed)
+  pub child-is : r .child ≡ childCtx a (g .node) (childSpot a b (g .offset) (g .first) last (g .old) (pairOf (shortSplits3 (uncut g al₀) e))) (length (shortSplits3 (uncut g al₀) e .taken)) (g .handed)
   pub split-is : r .split ≡ shortSplits3 (uncut g al₀) e .split
   pub same-end : r .from + r .left ≡ g .from + g .left
   pub left-is : take (r .left) (drop (r .from) al) ≡ shortSplits3 (uncut g al₀) e .left
@@ -219,7 +219,7 @@ pub record ReadyTree (job : Job) (s : List ℕ) (ls : Lists) (len : ℕ) : Type 
   pub asks : Every (Asks job len) (leaves (job .settings) tree)
 
 abbrev pub rootCtx : Ctx
-rootCtx = record { node = 0; spot = record { line = 0; column = 0; flags = rootFlags }; horizontal = 0; vertical = 0 }
+rootCtx = record { node = 0; spot = record { line = 0; column = 0; flags = rootFlags; pair = noPair }; horizontal = 0; vertical = 0 }
 
 -- the record that was kept, and what the output holds, which was o₀
 pub record WalksTree (job : Job) (ls : List Placed) (r : Found) (k o₀ o : List ℕ) : Type 0 where

@@ -106,8 +106,9 @@ pub fn look(
     let from = g.from;
     let at = g.joined;
     let k = cut_pieces(&mut along[from..], g.left, extent, &mut joined[at..]);
-    let spot = layout::child_spot(across, b, g.offset, g.first, last, g.old);
-    let child = layout::child_ctx(across, g.node, spot, k.taken, g.handed);
+    let pair = k.pair;
+    let spot = layout::child_spot(across, b, g.offset, g.first, last, g.old, pair);
+    let child = layout::child_ctx(across, g.node, spot, pair.taken, g.handed);
     Planned {
         used: used,
         offset: g.offset + common::wide16(extent) + 1,

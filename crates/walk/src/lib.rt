@@ -7,6 +7,7 @@ use layout::Ctx;
 use layout::Spot;
 use sizes::Core;
 use sizes::Size;
+use splits::cut::CutPair;
 use visit::Found;
 use visit::Job;
 ghost use mathlib.Core.Path.{_≡_};
@@ -33,6 +34,7 @@ fn root_ctx() -> Ctx
         line: 0,
         column: 0,
         flags: flags,
+        pair: CutPair { taken: 0, rest: 0 },
     };
     Ctx {
         node: 0,
@@ -57,6 +59,7 @@ fn no_found() -> Found
         horizontal: 0,
         vertical: 0,
         flags: flags,
+        pair: CutPair { taken: 0, rest: 0 },
     }
 }
 

@@ -2,6 +2,16 @@
 
 use std::cell::RefCell;
 
+/// The cut that a Row or a Column is about to make for a child: what it hands to `short_splits3`.
+#[derive(Debug, Clone)]
+pub struct Cut {
+    /// The child's.
+    pub pos: usize,
+    pub is_row: bool,
+    pub splits: Vec<usize>,
+    pub width: usize,
+}
+
 /// The context that one call of `_build_table` is given, under the original's names.
 #[derive(Debug, Clone)]
 pub struct Node {
@@ -28,6 +38,8 @@ pub struct Trace {
     /// `pos`, natural width, natural height; in no order.
     pub naturals: Vec<(usize, usize, usize)>,
     /// In the order of the calls.
+    pub cuts: Vec<Cut>,
+    /// In the order of the calls.
     pub nodes: Vec<Node>,
     /// `pos` and the block, in the order of the calls.
     pub blocks: Vec<(usize, String)>,
@@ -44,6 +56,10 @@ pub fn take() -> Trace {
 
 pub(crate) fn natural(pos: usize, width: usize, height: usize) {
     TRACE.with(|trace| trace.borrow_mut().naturals.push((pos, width, height)));
+}
+
+pub(crate) fn cut(cut: Cut) {
+    TRACE.with(|trace| trace.borrow_mut().cuts.push(cut));
 }
 
 pub(crate) fn node(node: Node) {

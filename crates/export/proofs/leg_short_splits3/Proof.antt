@@ -7,6 +7,26 @@ use Rattle.numbers.proofs.Counts.{cut-few}
 use Rattle.numbers.proofs.Split.{passes, splits3-refused, splits3-written}
 use Rattle.export.proofs.leg_short_splits3.Statement.{statement}
 use Rattle.export.proofs.leg_short_splits3.Tie as tie
+use Rattle.export.proofs.leg_short_splits3.Reads as reads
+use Rattle.export.proofs.leg_short_splits3.Lts as lts
+use Rattle.numbers.proofs.cuts.refused_by.Reads as refused-by-reads
+use Rattle.numbers.proofs.cuts.put_cut.Reads as put-cut-reads
+use Rattle.numbers.proofs.pack.Reads as pack-reads
+use Rattle.splits.proofs.lent.list_at.Reads as list-at-reads
+use Rattle.splits.proofs.short_splits3.Reads as short-splits3-reads
+
+abbrev At : Type 0
+At =
+    lts.After-short-splits3
+    (refused-by-reads.Asked, refused-by-reads.Learnt, pack-reads.Asked, pack-reads.Learnt, list-at-reads.Asked, list-at-reads.Learnt, short-splits3-reads.Asked, short-splits3-reads.Learnt, put-cut-reads.Asked, put-cut-reads.Learnt)
+    reads.Pre reads.Post
+
+-- the arrays of the cut have 512 entries
+taken-long : (c : At) → length (c .short-splits3 .result .taken .pieces) ≡ 512
+taken-long c = search needs
+
+left-long : (c : At) → length (c .short-splits3 .result .left .pieces) ≡ 512
+left-long c = search needs
 
 refused-by-requires : tie.Need-refused-by-requires
 refused-by-requires c κs = search needs
@@ -25,11 +45,9 @@ short-splits3-requires c κs = search needs
 
 put-cut-requires : tie.Need-put-cut-requires
 put-cut-requires c κs =
-    let k = c .before .short-splits3 in
-    let t : length (k .result .taken .pieces) ≡ 512 = search needs in
-    let l : length (k .result .left .pieces) ≡ 512 = search needs in
-    let few = cut-few _ _ _ (k .ensures) t l in
-    (few .0, few .1, passes _ _ _ _ (c .before .before .before .before .refused-by .ensures) (c .before .before .before .if1 .left) .fits)
+    let at = c .before in
+    let few = cut-few _ _ _ (at .short-splits3 .ensures) (taken-long at) (left-long at) in
+    (few .0, few .1, few .2, passes _ _ _ _ (c .before .before .before .before .refused-by .ensures) (c .before .before .before .if1 .left) .fits)
 
 pack-requires-2 : tie.Need-pack-requires-2
 pack-requires-2 c κs = search needs
@@ -39,10 +57,8 @@ same-length c = search needs
 
 returns-2 : tie.Need-returns-2
 returns-2 c =
-    let k = c .before .before .before .before .before .short-splits3 in
-    let t : length (k .result .taken .pieces) ≡ 512 = search needs in
-    let l : length (k .result .left .pieces) ≡ 512 = search needs in
-    splits3-written _ _ _ _ _ (c .before .before .before .before .before .before .before .before .refused-by .ensures) (c .before .before .before .before .before .before .before .if1 .left) _ (c .before .before .before .before .before .before .list-at .ensures) _ (k .ensures) _ _ t l (c .pack2 .ensures) (c .before .before .before .put-cut .ensures)
+    let at = c .before .before .before .before .before in
+    splits3-written _ _ _ _ _ (c .before .before .before .before .before .before .before .before .refused-by .ensures) (c .before .before .before .before .before .before .before .if1 .left) _ (c .before .before .before .before .before .before .list-at .ensures) _ (at .short-splits3 .ensures) _ _ (taken-long at) (left-long at) (c .pack2 .ensures) (c .before .before .before .put-cut .ensures)
 
 pub leg-short-splits3-spec : {M : Type 1} → statement M
 leg-short-splits3-spec =

@@ -40,7 +40,7 @@ put-kept-requires c κs =
     let at = c .before .before .before .before .before .before in
     let a = c .before .before .before .before .before .before .before .before .before .before .before .before .before .args in
     let few = kept-few _ _ _ (at .cut-here .ensures) (list-few _ (take (a .count) (a .pieces .now)) (at .before .list-at .ensures) (list-long at)) (taken-long at) (left-long at) in
-    (few .0, few .1, passes _ _ _ _ (c .before .before .before .before .before .before .before .before .before .before .refused-by .ensures) (c .before .before .before .before .before .before .before .before .before .if1 .left) .fits)
+    (few .0, few .1, few .2, passes _ _ _ _ (c .before .before .before .before .before .before .before .before .before .before .refused-by .ensures) (c .before .before .before .before .before .before .before .before .before .if1 .left) .fits)
 
 pack-requires-2 : tie.Need-pack-requires-2
 pack-requires-2 c κs = search needs

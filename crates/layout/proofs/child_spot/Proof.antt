@@ -9,8 +9,8 @@ use Rattle.layout.proofs.row_flags.Reads as row-flags-reads
 row-flags-requires : tie.Need-row-flags-requires
 row-flags-requires c κs = search needs
 
-add-t11 : tie.Need-add-t11
-add-t11 c = search needs
+add-t12 : tie.Need-add-t12
+add-t12 c = search needs
 
 returns : tie.Need-returns
 returns c = rw (c .before .row-flags .ensures, c .before .before .if1 .taken)
@@ -18,12 +18,12 @@ returns c = rw (c .before .row-flags .ensures, c .before .before .if1 .taken)
 column-flags-requires : tie.Need-column-flags-requires
 column-flags-requires c κs = search needs
 
-add-t12 : tie.Need-add-t12
-add-t12 c = search needs
+add-t13 : tie.Need-add-t13
+add-t13 c = search needs
 
 returns-2 : tie.Need-returns-2
 returns-2 c = rw (c .before .column-flags .ensures, c .before .before .if1 .left)
 
 pub child-spot-spec : {M : Type 1} → statement M
 child-spot-spec =
-    tie.close (tie.spec row-flags-requires add-t11 returns column-flags-requires add-t12 returns-2)
+    tie.close (tie.spec row-flags-requires add-t12 returns column-flags-requires add-t13 returns-2)

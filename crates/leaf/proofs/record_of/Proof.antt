@@ -10,7 +10,7 @@ list-at-requires-2 : tie.Need-list-at-requires-2
 list-at-requires-2 c κs = search needs
 
 returns : tie.Need-returns
-returns c = rw (c .before .before .before .before .if1 .taken, c .before .before .list-at .ensures, c .before .list-at2 .ensures)
+returns c = rw (c .before .before .before .before .before .if1 .taken, c .before .before .before .list-at .ensures, c .before .before .list-at2 .ensures)
 
 no-record-requires : tie.Need-no-record-requires
 no-record-requires c κs = search needs

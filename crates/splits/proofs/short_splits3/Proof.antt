@@ -25,7 +25,7 @@ rest-requires : tie.Need-rest-requires
 rest-requires c κs = search needs
 
 returns-2 : tie.Need-returns-2
-returns-2 c = let a = c .before .before .before .before .before .before .before .before .before .args in cut-whole (a .list) (a .w) _ _ _ (c .before .before .before .cut-pieces .ensures) (omega arith) _ (c .rest .ensures)
+returns-2 c = let a = c .before .before .before .before .before .before .before .before .before .before .args in cut-whole (a .list) (a .w) _ _ _ (c .before .before .before .before .cut-pieces .ensures) (omega arith) _ (c .before .rest .ensures)
 
 pub short-splits3-spec : {M : Type 1} → statement M
 short-splits3-spec =

@@ -12,7 +12,7 @@ same-length : tie.Need-same-length
 same-length c = search needs
 
 returns : tie.Need-returns
-returns c = (λ _. (omega arith, omega arith), rw (eq-eqb _ _ (c .before .before .before .before .before .if1 .taken), c .before .before .before .keep-lists .ensures) (record-kept _ (c .before .before .before .before .before .before .before .before .before .args .spot) _ _ _ _))
+returns c = (λ _. (omega arith, omega arith), rw (eq-eqb _ _ (c .before .before .before .before .before .before .if1 .taken), c .before .before .before .before .keep-lists .ensures) (record-kept _ (c .before .before .before .before .before .before .before .before .before .before .args .spot) _ _ _ _))
 
 returns-2 : tie.Need-returns-2
 returns-2 c = (λ h. h, rw (ne-eqb _ _ (c .if1 .left)))

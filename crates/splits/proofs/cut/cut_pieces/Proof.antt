@@ -35,8 +35,8 @@ sub-short c = search needs
 sub-short-2 : tie.Need-sub-short-2
 sub-short-2 c = omega (arith, c .before .before .before .before .before .take-pieces .ensures .stops .high (omega arith))
 
-add-t19 : tie.Need-add-t19
-add-t19 c = search needs
+add-t22 : tie.Need-add-t22
+add-t22 c = search needs
 
 same-length-3 : tie.Need-same-length-3
 same-length-3 c = search needs
@@ -47,11 +47,11 @@ same-length-4 c = search needs
 returns-2 : tie.Need-returns-2
 returns-2 c = let t = c .before .before .before .before .before .before .take-pieces .ensures in cuts-in t (omega arith) _ _ (cut-yes t (omega arith) (omega arith) (omega arith)) _ _ (omega arith) refl
 
-sub-pieces : tie.Need-sub-pieces
-sub-pieces c = search needs
+sub-rest : tie.Need-sub-rest
+sub-rest c = search needs
 
-cast-pieces : tie.Need-cast-pieces
-cast-pieces c = omega (arith, c .before .before .slice-known4 .given (c .before .before .before .before .before .before .take-pieces .result .count))
+cast-rest : tie.Need-cast-rest
+cast-rest c = omega (arith, c .before .before .slice-known4 .given (c .before .before .before .before .before .before .take-pieces .result .count))
 
 mul-pieces : tie.Need-mul-pieces
 mul-pieces c = search needs
@@ -84,12 +84,12 @@ cut-pieces-spec =
     cast-short
     sub-short
     sub-short-2
-    add-t19
+    add-t22
     same-length-3
     same-length-4
     returns-2
-    sub-pieces
-    cast-pieces
+    sub-rest
+    cast-rest
     mul-pieces
     slice-write-pieces
     same-length-5

@@ -1,10 +1,10 @@
-use lib.ListN.{drop}
+use lib.ListN.{length, drop}
 use Rattle.splits.specs.Cuts.{CutsIn}
 use Rattle.walk.specs.Walking.{extentAt}
-use mathlib.Core.Path.{_∙_}
+use mathlib.Core.Path.{refl, _∙_}
 use native.Mathlib.Omega.{arith}
 use borrow.Rule.Slice.PartAt.{part-to-end}
-use Rattle.walk.proofs.Pieces.{part-back, plans}
+use Rattle.walk.proofs.Pieces.{part-back, plans, part-of-length}
 use borrow.Author.Needs.{needs}
 use Rattle.walk.proofs.group.look.Statement.{statement}
 use Rattle.walk.proofs.group.look.Tie as tie
@@ -54,33 +54,41 @@ child-ctx-requires c κs = search needs
 wide16-requires : tie.Need-wide16-requires
 wide16-requires c κs = search needs
 
-add-t24 : tie.Need-add-t24
-add-t24 c = omega (arith, c .before .wide16 .ensures .1, c .before .before .before .before .before .before .before .before .before .before .before .before .before .before .before .before .before .before .pre)
+add-t25 : tie.Need-add-t25
+add-t25 c = omega (arith, c .before .wide16 .ensures .1, c .before .before .before .before .before .before .before .before .before .before .before .before .before .before .before .before .before .before .before .pre)
 
-add-t22 : tie.Need-add-t22
-add-t22 c = omega (arith, c .before .wide16 .ensures .1, c .before .before .before .before .before .before .before .before .before .before .before .before .before .before .before .before .before .before .pre)
+add-t23 : tie.Need-add-t23
+add-t23 c = omega (arith, c .before .wide16 .ensures .1, c .before .before .before .before .before .before .before .before .before .before .before .before .before .before .before .before .before .before .before .pre)
 
-add-t19 : tie.Need-add-t19
-add-t19 c = omega (arith, c .before .before .before .before .before .before .before .before .before .cut-pieces .ensures .within, c .before .before .before .before .before .before .before .before .before .before .before .before .before .before .before .before .before .before .before .pre, c .before .before .before .before .before .before .before .before .before .before .before .before .before .before .before .before .before .before .before .good)
+add-t20 : tie.Need-add-t20
+add-t20 c = omega (arith, c .before .before .before .before .before .before .before .before .before .before .cut-pieces .ensures .within, c .before .before .before .before .before .before .before .before .before .before .before .before .before .before .before .before .before .before .before .before .pre, c .before .before .before .before .before .before .before .before .before .before .before .before .before .before .before .before .before .before .before .before .good)
 
-sub-t27 : tie.Need-sub-t27
-sub-t27 c = search needs
+sub-t28 : tie.Need-sub-t28
+sub-t28 c = omega (arith, c .before .before .before .before .before .before .before .before .before .before .before .before .cut-pieces .ensures .within)
 
 same-length : tie.Need-same-length
-same-length c = search needs
+same-length c =
+    let a = c .before .before .before .before .before .before .before .before .before .before .before .before .before .before .before .before .before .before .before .before .before .before .args in
+    let k = c .before .before .before .before .before .before .before .before .before .before .before .before .cut-pieces in
+    let al = a .along .now in
+    rw (part-back al _ (a .g .from)) (part-of-length al (a .g .from) (length al) refl (omega (arith, c .before .before .before .before .before .before .before .before .before .before .before .before .before .before .before .before .before .before .before .before .before .before .pre)) _ (k .kept .0 ∙ rw (part-to-end al (a .g .from))))
 
 same-length-2 : tie.Need-same-length-2
-same-length-2 c = search needs
+same-length-2 c =
+    let a = c .before .before .before .before .before .before .before .before .before .before .before .before .before .before .before .before .before .before .before .before .before .before .args in
+    let k = c .before .before .before .before .before .before .before .before .before .before .before .before .cut-pieces in
+    let jo = a .joined .now in
+    rw (part-back jo _ (a .g .joined)) (part-of-length jo (a .g .joined) (length jo) refl (omega (arith, c .before .before .before .before .before .before .before .before .before .before .before .before .before .before .before .before .before .before .before .before .before .before .pre)) _ (k .kept .1 .1 .1 .0 ∙ rw (part-to-end jo (a .g .joined))))
 
 returns : tie.Need-returns
 returns c =
-    let a = c .before .before .before .before .before .before .before .before .before .before .before .before .before .before .before .before .before .before .before .before .before .args in
-    let k = c .before .before .before .before .before .before .before .before .before .before .before .cut-pieces in
+    let a = c .before .before .before .before .before .before .before .before .before .before .before .before .before .before .before .before .before .before .before .before .before .before .args in
+    let k = c .before .before .before .before .before .before .before .before .before .before .before .before .cut-pieces in
     let al = a .along .now in
     let jo = a .joined .now in
-    let ends : CutsIn (a .g .left) (extentAt (a .across) (a .widths .now) (a .heights .now) (a .g .node)) (k .result) (drop (a .g .from) al) _ (drop (a .g .joined) jo) _ = rw (part-to-end al (a .g .from), part-to-end jo (a .g .joined), c .before .before .before .before .before .before .before .before .before .before .before .before .before .before .extent-at .ensures) at (k .ensures) in
-    rw (part-back al _ (a .g .from), part-back jo _ (a .g .joined), c .before .before .before .before .before .child-ctx .ensures, c .before .before .before .before .before .before .child-spot .ensures, c .before .before .before .before .wide16 .ensures .0, c .before .before .before .before .before .before .before .before .before .before .before .before .before .before .extent-at .ensures, c .before .before .before .before .before .before .before .before .before .before .before .before .before .before .before .length-at .ensures .0)
-    (plans (a .g) (a .b) (a .across) _ _ _ (k .result) al _ jo _ ends (omega (arith, c .before .before .before .before .before .before .before .before .before .before .before .before .before .before .before .before .before .before .before .before .before .pre)) (omega (arith, c .before .before .before .before .before .before .before .before .before .before .before .before .before .before .before .before .before .before .before .before .before .pre)) (k .kept .0 ∙ rw (part-to-end al (a .g .from))))
+    let ends : CutsIn (a .g .left) (extentAt (a .across) (a .widths .now) (a .heights .now) (a .g .node)) (k .result) (drop (a .g .from) al) _ (drop (a .g .joined) jo) _ = rw (part-to-end al (a .g .from), part-to-end jo (a .g .joined), c .before .before .before .before .before .before .before .before .before .before .before .before .before .before .before .extent-at .ensures) at (k .ensures) in
+    rw (part-back al _ (a .g .from), part-back jo _ (a .g .joined), c .before .before .before .before .before .child-ctx .ensures, c .before .before .before .before .before .before .child-spot .ensures, c .before .before .before .before .wide16 .ensures .0, c .before .before .before .before .before .before .before .before .before .before .before .before .before .before .before .extent-at .ensures, c .before .before .before .before .before .before .before .before .before .before .before .before .before .before .before .before .length-at .ensures .0)
+    (plans (a .g) (a .b) (a .across) _ _ _ (k .result) al _ jo _ ends (omega (arith, c .before .before .before .before .before .before .before .before .before .before .before .before .before .before .before .before .before .before .before .before .before .before .pre)) (omega (arith, c .before .before .before .before .before .before .before .before .before .before .before .before .before .before .before .before .before .before .before .before .before .before .pre)) (k .kept .0 ∙ rw (part-to-end al (a .g .from))))
 
 pub look-spec : {M : Type 1} → statement M
 look-spec =
@@ -101,10 +109,10 @@ look-spec =
     child-spot-requires
     child-ctx-requires
     wide16-requires
-    add-t24
-    add-t22
-    add-t19
-    sub-t27
+    add-t25
+    add-t23
+    add-t20
+    sub-t28
     same-length
     same-length-2
     returns)

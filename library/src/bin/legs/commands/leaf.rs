@@ -1,6 +1,6 @@
 use std::ffi::OsString;
 
-use leg_sheet::{Flags, LeafRecord};
+use leg_sheet::{CutPair, Flags, LeafRecord};
 
 use super::{listed, Answer, Command};
 use crate::fault::Fault;
@@ -9,7 +9,7 @@ use crate::operands::{number, File};
 pub const COMMAND: Command = Command {
     name: "leaf",
     operands: &["FILE", "NODE"],
-    about: "a leaf's size, flags, split lists and block",
+    about: "a leaf's size, flags, cut, split lists and block",
     run,
 };
 
@@ -23,14 +23,19 @@ fn run(words: &[OsString]) -> Result<Answer, Fault> {
 
 fn lines(leaf: &LeafRecord) -> String {
     format!(
-        "node {}: {} wide, {} high\nflags: {}\nhorizontal pieces: {}\nvertical pieces: {}\n",
+        "node {}: {} wide, {} high\nflags: {}\ncut: {}\nhorizontal pieces: {}\nvertical pieces: {}\n",
         leaf.node,
         leaf.width,
         leaf.height,
         flags(leaf.flags),
+        cut(leaf.pair),
         listed(&leaf.horizontal),
         listed(&leaf.vertical),
     )
+}
+
+fn cut(pair: CutPair) -> String {
+    format!("{} taken, {} left of the next", pair.taken, pair.rest)
 }
 
 fn flags(flags: Flags) -> String {

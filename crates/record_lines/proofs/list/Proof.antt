@@ -2,8 +2,8 @@ use borrow.Author.Needs.{needs}
 use Prim.Native.Nat.{_-_, _≤_}
 use mathlib.Core.Path.{_≡_}
 use lib.ListN.{length}
-use Rattle.script.proofs.text.list.Statement.{statement}
-use Rattle.script.proofs.text.list.Tie as tie
+use Rattle.record_lines.proofs.list.Statement.{statement}
+use Rattle.record_lines.proofs.list.Tie as tie
 
 abbrev Inv-loop : tie.InvT-loop
 Inv-loop out₀ from pieces n at₀ i₀ out at i = (i ≤ n) × (n ≤ 512) × (length out ≡ length out₀)

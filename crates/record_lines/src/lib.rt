@@ -1,4 +1,4 @@
-// A leaf's record, and a node's sizes, as text in a lent buffer. Each call writes from `at` or `from` on, and answers where the next byte stands.
+// A leaf's record, and a node's sizes, as the test lines write them, in a lent buffer. Each call writes from `at` or `from` on, and answers where the next byte stands.
 use block::Flags;
 use collector::SizeRecord;
 use leaf::LeafRecord;
@@ -6,6 +6,7 @@ use lines::contents::byte;
 use lines::contents::bytes;
 use sizes::Size;
 use splits::SplitList;
+use splits::cut::CutPair;
 
 fn decimal(out: &mut [u8], at: usize, n: usize) -> usize {
     let mut digits = [0u8; 20];
@@ -82,7 +83,14 @@ fn lists(out: &mut [u8], from: usize, across: SplitList, down: SplitList) -> usi
     list(out, at, down)
 }
 
-// A leaf's record: its size, the two lists, the flags.
+fn pair(out: &mut [u8], from: usize, p: CutPair) -> usize {
+    let mut at = bytes(out, from, b", pair ");
+    at = decimal(out, at, p.taken);
+    at = byte(out, at, 32);
+    decimal(out, at, common::wide16(p.rest))
+}
+
+// A leaf's record: its size, the two lists, the flags, the pair of its cut.
 pub fn record(out: &mut [u8], r: LeafRecord) -> usize {
     let allotted = r.size;
     let across = r.horizontal;
@@ -91,7 +99,8 @@ pub fn record(out: &mut [u8], r: LeafRecord) -> usize {
     let mut at = size(out, 0, allotted);
     at = lists(out, at, across, down);
     at = bytes(out, at, b", ");
-    bytes(out, at, &letters(f))
+    at = bytes(out, at, &letters(f));
+    pair(out, at, r.pair)
 }
 
 fn extent(out: &mut [u8], from: usize, width: u16, height: u16) -> usize {

@@ -1,7 +1,7 @@
 use borrow.Author.Needs.{needs}
 use Prim.Native.Nat.{_-_, _≤_}
-use Rattle.script.proofs.text.rest_is_zero.Statement.{statement}
-use Rattle.script.proofs.text.rest_is_zero.Tie as tie
+use Rattle.record_lines.proofs.rest_is_zero.Statement.{statement}
+use Rattle.record_lines.proofs.rest_is_zero.Tie as tie
 
 abbrev Inv-loop : tie.InvT-loop
 Inv-loop list pieces i₀ i = i ≤ 512
