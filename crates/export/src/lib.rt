@@ -8,6 +8,7 @@ use splits::lent::list_at;
 ghost use mathlib.Core.Path.{_≡_};
 ghost use Rattle.numbers.specs.Words.{packed, partAfter};
 ghost use Rattle.numbers.specs.Numbers.{settingsGiven, marginGiven, sizesGiven, recordGiven};
+ghost use Rattle.numbers.specs.Places.{placeGiven};
 ghost use Rattle.numbers.specs.Cuts.{splits3Given, lentGiven, splitsGiven};
 ghost use Rattle.settings.specs.Reading.{priorityOf, readSettings};
 ghost use Rattle.sizes.specs.Sharing.{shareOf};
@@ -15,6 +16,7 @@ ghost use Rattle.tree.specs.Reading.{answerOf, readTree};
 ghost use Rattle.sizes.specs.Input.{inputOf};
 ghost use Rattle.leaf.specs.Answers.{leafRecordOf, leafPrintOf};
 ghost use Rattle.sheet.specs.Answers.{sheetOf};
+ghost use Rattle.places.specs.Places.{leafPlaceOf};
 
 #[no_mangle]
 pub extern "C" fn leg_read_settings(bytes: &[u8], out: &mut [u16]) -> u64
@@ -107,6 +109,28 @@ pub extern "C" fn leg_print_sheet(settings: &[u8], tree: &[u8], out: &mut [u8]) 
 {
     let w = sheet::print_sheet(settings, tree, out);
     pack(w.number, w.count)
+}
+
+#[no_mangle]
+pub extern "C" fn leg_place(
+    settings: &[u8],
+    tree: &[u8],
+    line: usize,
+    column: usize,
+    out: &mut [u16],
+) -> u64
+    ensures { λ r. ⌜ r ≡ placeGiven (leafPlaceOf (inputOf (now (settings .entry)) (now (tree .entry))) line column) (now (out .entry)) .word ⌝ }
+    ensures shown { λ _. ⌜ now (out .exit) ≡ placeGiven (leafPlaceOf (inputOf (now (settings .entry)) (now (tree .entry))) line column) (now (out .entry)) .out ⌝ }
+{
+    let p = places::leaf_at(settings, tree, line, column);
+    if p.number != 0 {
+        return pack(p.number, 0);
+    }
+    if out.len() < 3 {
+        return pack(8, 0);
+    }
+    fields::put_place(p, out);
+    pack(0, 3)
 }
 
 #[no_mangle]

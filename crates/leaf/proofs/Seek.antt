@@ -1,5 +1,5 @@
 -- The record that the walk's fold keeps is that of the leaf with the wanted number: leaves' numbers rise. Assumes nothing.
-use mathlib.Core.Path.{_≡_, refl}
+use mathlib.Core.Path.{_≡_, refl, ap}
 use Prim.Native.Nat.{ℕ, zero, suc, _<_}
 use native.Mathlib.Omega.{arith}
 use mathlib.Core.Bool.{Bool, true, false}
@@ -87,3 +87,17 @@ leaf-numbered n b (l ∷ ls) (suc i) f r e h = rw (ne-eqb (l .at .node) n (λ z.
 
 pub leaf-found : (s : Settings) (t : Tree) {n : ℕ} {f : Placed} → LeafAt s t n f → numbered n (leaves s t) ≡ some f
 leaf-found s t {n} {f} p = leaf-numbered n 0 (leaves s t) (p .index) f (leaves-rise s t) (p .stands) (p .number)
+
+stands-case : {X : Type 0} (b : Bool) (n : ℕ) (l : Placed) (ls : List Placed) (f : Placed) → eqb (l .at .node) n ≡ b → pick b (some l) (numbered n ls) ≡ some f
+    → ((i : ℕ) → getElem? (l ∷ ls) i ≡ some f → f .at .node ≡ n → X) → (numbered n ls ≡ some f → X) → X
+stands-case true n l ls f be e k h = let z : l ≡ f = cc in k 0 (ap some z) (rw (← z) (eqb-true (l .at .node) n be))
+stands-case false n l ls f be e k h = h e
+
+numbered-stands : {X : Type 0} (n : ℕ) (ls : List Placed) (f : Placed) → numbered n ls ≡ some f → ((i : ℕ) → getElem? ls i ≡ some f → f .at .node ≡ n → X) → X
+unfolding numbered
+numbered-stands n [] f e k = let z : _≡_ {A = ℕ} 0 1 = cc in absurd (omega arith)
+numbered-stands n (l ∷ ls) f e k = stands-case (eqb (l .at .node) n) n l ls f refl e k (λ d. numbered-stands n ls f d (λ i m h. k (suc i) m h))
+
+-- and back
+pub found-leaf : (s : Settings) (t : Tree) (n : ℕ) (f : Placed) → numbered n (leaves s t) ≡ some f → LeafAt s t n f
+found-leaf s t n f e = numbered-stands n (leaves s t) f e (λ i d h. record { index = i; stands = d; number = h })

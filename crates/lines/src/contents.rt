@@ -149,8 +149,18 @@ pub fn within(n: usize, s: &[u8]) -> usize
     if s.len() < n { s.len() } else { n }
 }
 
+// Number `k`, counted from 0, of numbers that spaces part.
+pub fn nth(s: &[u8], k: usize) -> usize {
+    let mut at: usize = 0;
+    let mut i: usize = 0;
+    while i < k {
+        at = at + after_space(&s[at..]);
+        i = i + 1;
+    }
+    number(&s[at..])
+}
+
 // The second number.
 pub fn second(s: &[u8]) -> usize {
-    let start = after_space(s);
-    number(&s[start..])
+    nth(s, 1)
 }

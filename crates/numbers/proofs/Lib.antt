@@ -8,3 +8,4 @@ pub mod Measured
 pub mod Counts
 pub mod Split
 pub mod Record
+pub mod Places

@@ -2,6 +2,7 @@
 use crate::lists;
 use block::Flags;
 use leaf::LeafRecord;
+use places::LeafPlace;
 use settings::Alignment;
 use settings::Priority;
 use settings::Settings;
@@ -16,6 +17,7 @@ ghost use lib.Seq.{sets};
 ghost use Rattle.settings.specs.Reading.{Ranges};
 ghost use Rattle.settings.specs.Defaults.{alignmentNumber, priorityNumber};
 ghost use Rattle.numbers.specs.Numbers.{settingsNumbers, marginNumbers, choiceNumbers, coreNumbers, frontNumbers, recordNumbers, Plain};
+ghost use Rattle.numbers.specs.Places.{placeNumbers};
 
 fn number_of_priority(p: Priority) -> u16
     ensures { λ r. ⌜ r ≡ priorityNumber p ⌝ }
@@ -143,4 +145,13 @@ pub fn put_record(r: LeafRecord, out: &mut [u16])
     lists::put_list(horizontal, out, 13);
     let vertical = r.vertical;
     lists::put_list(vertical, out, 526);
+}
+
+// Node, line, column.
+pub fn put_place(p: LeafPlace, out: &mut [u16])
+    requires { ⌜ (p .node < 65536) × (p .line < 65536) × (p .column < 65536) × (3 ≤ length (now out)) ⌝ }
+    ensures { λ _. ⌜ now (out .exit) ≡ sets (now (out .entry)) 0 (placeNumbers p) ⌝ }
+{
+    let three = [p.node as u16, p.line as u16, p.column as u16];
+    lists::copy(&three, out, 0);
 }

@@ -52,11 +52,11 @@ wide-narrow [] k = refl
 wide-narrow (l ∷ ls) k = rw (ne-eqb (l .at .size .width) 0 (λ e. omega (arith, k .0))) (wide-narrow ls (k .1))
 
 -- two tests that are false together are equal
-together : (a b : Bool) → (a ≡ false → b ≡ false) → (b ≡ false → a ≡ false) → a ≡ b
-together true true f g = refl
-together false false f g = refl
-together true false f g = g refl
-together false true f g = sym (f refl)
+same-test : (a b : Bool) → (a ≡ false → b ≡ false) → (b ≡ false → a ≡ false) → a ≡ b
+same-test true true f g = refl
+same-test false false f g = refl
+same-test true false f g = g refl
+same-test false true f g = sym (f refl)
 
 -- ---- the core of an accepted input
 
@@ -68,7 +68,7 @@ module _ (s : Settings) (t : Tree) (c : Core) (e : c ≡ coreOf s t) where
       rw (e, n) (take-append-seam (map allottedWidth (treeSizes s t)) (replicate (512 - length (map allottedWidth (treeSizes s t))) 0))
 
   pub narrow-is : zeroIn (take (c .count) (c .widths)) ≡ narrow (leaves s t)
-  narrow-is = rw widths-are (together (zeroIn (map allottedWidth (treeSizes s t))) (narrow (leaves s t))
+  narrow-is = rw widths-are (same-test (zeroIn (map allottedWidth (treeSizes s t))) (narrow (leaves s t))
       (λ h. wide-narrow (leaves s t) (leaves-wide s t (zeros-wide (treeSizes s t) h)))
       (λ h. wide-zeros (treeSizes s t) (nodes-wide s t (narrow-wide (leaves s t) h))))
 

@@ -20,8 +20,8 @@ use Rattle.sheet.proofs.Margins.{margined-plain, margined-byte, margine
 use Rattle.sheet.proofs.Content.{sheet-dims}
 use Rattle.sheet.proofs.Parted.{sheet-parted, inside-parted}
 use Rattle.sheet.proofs.Tiling.{Covers}
-use Rattle.sheet.proofs.Demand3.{Accepted, blockOf, placeAt, OneLeaf}
-use Rattle.sheet.proofs.Calls.{written, accepted, demands, each-place, no-place, each-byte}
+use Rattle.sheet.proofs.Demand3.{Accepted, blockOf, placeAt, OneLeaf, covered-once, none-outside}
+use Rattle.sheet.proofs.Calls.{written, accepted, demands, each-byte}
 
 -- ---- the words
 
@@ -56,6 +56,16 @@ shows p q c = record { from-line = omega (arith, c .from-line); to-line = omega 
 
 one-shown : {s : Settings} {t : Tree} {l k : ℕ} → Within s t l k → OneLeaf s t (l - s .margin .top) (k - s .margin .left) → OneShown s t l k
 one-shown w o = record { node = o .node; leaf = o .leaf; named = o .named; shown = shows (w .from-line) (w .from-column) (o .covered); only = λ m g p c. o .only m g p (covers c) }
+
+-- each place of the printed sheet that is not in the margin lies in exactly one leaf's block
+pub shown-once : (s : Settings) (t : Tree) (l k : ℕ) → Within s t l k → OneShown s t l k
+shown-once s t l k w = one-shown w (covered-once s t (l - s .margin .top) (k - s .margin .left) (omega (arith, w .to-line, w .from-line)) (omega (arith, w .to-column, w .from-column)))
+
+-- no block has a place in the margin or outside the sheet
+pub shown-within : (s : Settings) (t : Tree) {n : ℕ} {f : Placed} → LeafAt s t n f → (l k : ℕ) → Shown s f l k → Within s t l k
+shown-within s t p l k c =
+    let i = none-outside s t p (l - s .margin .top) (k - s .margin .left) (covers c) in
+    record { from-line = omega (arith, c .from-line); to-line = omega (arith, i .0); from-column = omega (arith, c .from-column); to-column = omega (arith, i .1) }
 
 -- ---- without a margin nothing changes
 
@@ -112,15 +122,12 @@ module _ (bs ts o : List ℕ) (h : sheetOf (inputOf bs ts) o .answer .number ≡
   pub printed-byte : (l k : ℕ) → l < H s t → k < W s t → placeAt (written (sheetOf (inputOf bs ts) o)) l k ≡ edgedAt (s .margin) (insideH s t) (insideW s t) (placeAt (insideSheet s t)) l k
   printed-byte l k p q = rw (accepted bs ts o h .bytes) (sheet-byte s t (demands bs ts o h) l k p q)
 
-  -- each place of the printed sheet that is not in the margin lies in exactly one leaf's block
+  -- `shown-once`, `shown-within`
   pub printed-place : (l k : ℕ) → Within s t l k → OneShown s t l k
-  printed-place l k w = one-shown w (each-place bs ts o h (l - s .margin .top) (k - s .margin .left) (omega (arith, w .to-line, w .from-line)) (omega (arith, w .to-column, w .from-column)))
+  printed-place l k w = shown-once s t l k w
 
-  -- no block has a place in the margin or outside the sheet
   pub printed-within : {n : ℕ} {f : Placed} → LeafAt s t n f → (l k : ℕ) → Shown s f l k → Within s t l k
-  printed-within p l k c =
-      let i = no-place bs ts o h p (l - s .margin .top) (k - s .margin .left) (covers c) in
-      record { from-line = omega (arith, c .from-line); to-line = omega (arith, i .0); from-column = omega (arith, c .from-column); to-column = omega (arith, i .1) }
+  printed-within p l k c = shown-within s t p l k c
 
   -- the printed sheet's byte at a place of a leaf's block is the byte that the leaf printer writes there in that block
   pub printed-owned : {n : ℕ} {f : Placed} → LeafAt s t n f → (l k : ℕ) → Shown s f l k → (o₁ : List ℕ) → length (blockOf s f) ≤ length o₁

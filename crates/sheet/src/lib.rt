@@ -30,7 +30,7 @@ fn has_zero(widths: [u16; 512], n: usize) -> bool
 }
 
 // 6, 7 and 8 in this order, for an output of `len` bytes; 0 where the sheet is printed.
-fn refusal_of(core: Core, f: Frame, len: usize) -> u8
+pub fn refusal_of(core: Core, f: Frame, len: usize) -> u8
     requires { ⌜ core .count ≤ 512 ⌝ }
     ensures { λ r. ⌜ r ≡ refusalOf core f len ⌝ }
 {

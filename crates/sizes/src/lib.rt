@@ -1,6 +1,6 @@
 // Natural and allotted sizes of a tree's nodes.
 mod allot;
-mod axis;
+pub mod axis;
 pub mod lists;
 mod natural;
 pub mod sharing;

@@ -1,7 +1,7 @@
 -- What the proofs of several functions, and the layers above, use.
 pub mod Outcome
 mod Pieces
-mod Steps
+pub mod Steps
 mod Turns
 mod Nodes
 pub mod Held

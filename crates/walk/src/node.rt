@@ -17,7 +17,7 @@ ghost use Rattle.sizes.specs.Collecting.{sizeAt};
 ghost use Rattle.walk.specs.Walking.{listsOf, LeafReady, LeafReadyBy, Leaves, LeavesBy, Ready, ReadyIn, walked, walkedIn, Walks};
 
 // `generate_value_cell`: a leaf, with its sizes from the lists; it gives back its width and its height as one piece each.
-fn leaf_at(
+fn leaf_there(
     text: &[u8],
     natural_widths: &[u16],
     natural_heights: &[u16],
@@ -83,7 +83,7 @@ fn walk_leaf(
     ensures { λ r. ⌜ LeavesBy across job (now (text .entry)) (sizeAt (now (widths .entry)) (now (heights .entry)) (ctx .node)) ctx found (now (kept .entry)) r (now (along .entry)) (now (along .exit)) (now (beside .entry)) (now (beside .exit)) (now (kept .exit)) (now (out .entry)) (now (out .exit)) ⌝ }
 {
     if across {
-        return leaf_at(
+        return leaf_there(
             text,
             natural_widths,
             natural_heights,
@@ -98,7 +98,7 @@ fn walk_leaf(
             out,
         );
     }
-    leaf_at(
+    leaf_there(
         text,
         natural_widths,
         natural_heights,

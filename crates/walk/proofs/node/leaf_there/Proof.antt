@@ -2,8 +2,8 @@ use mathlib.Core.Path.{refl, sym, _∙_}
 use native.Mathlib.Omega.{arith}
 use lib.Seq.{take-suc-set, length-take-le}
 use borrow.Author.Needs.{needs}
-use Rattle.walk.proofs.node.leaf_at.Statement.{statement}
-use Rattle.walk.proofs.node.leaf_at.Tie as tie
+use Rattle.walk.proofs.node.leaf_there.Statement.{statement}
+use Rattle.walk.proofs.node.leaf_there.Tie as tie
 
 size-at-requires : tie.Need-size-at-requires
 size-at-requires c κs = search needs
@@ -56,8 +56,8 @@ same-length-4 c = search needs
 returns : tie.Need-returns
 returns c = let k = c .before .before .before .before .before .before .before .before .before .before .before .before .before .before .before .before .before .before .before .before .before .before .before .pre in let z = c .before .before .before .before .before .before .before .before .before .before .before .size-at2 .ensures .0 in let v = c .before .before .before .before .before .before .visit .ensures in record { next-is = refl; horizontal-is = refl; vertical-is = refl; width-is = take-suc-set (c .before .before .before .before .before .before .before .before .before .before .before .before .before .before .before .before .before .before .before .before .before .before .before .args .horizontal .now) 0 _ (omega (arith, k .room-h)) ∙ rw z; height-is = take-suc-set (c .before .before .before .before .before .before .before .before .before .before .before .before .before .before .before .before .before .before .before .before .before .before .before .args .vertical .now) 0 _ (omega (arith, k .room-v)) ∙ rw z; few-is = v .0; found-is = v .1 .0 ∙ rw z; out-is = v .1 .1 ∙ rw z }
 
-pub leaf-at-spec : {M : Type 1} → statement M
-leaf-at-spec =
+pub leaf-there-spec : {M : Type 1} → statement M
+leaf-there-spec =
     tie.close
     (tie.spec
     size-at-requires

@@ -1,0 +1,27 @@
+// Test lines about places of the printed sheet (document 02, 5).
+use lines::contents;
+use lines::tell;
+
+// A number of the answer, shown: whether it is number `k` of the line.
+fn is_nth(name: &[u8], found: usize, want: &[u8], k: usize) -> bool {
+    tell::text(name);
+    tell::number(found);
+    found == contents::nth(want, k)
+}
+
+// The place that the line's first two numbers say, and its answer, which is the other four.
+pub fn place(settings: &[u8], tree: &[u8], want: &[u8]) {
+    let line = contents::nth(want, 0);
+    let column = contents::nth(want, 1);
+    let r = places::leaf_at(settings, tree, line, column);
+    tell::text(b"place ");
+    tell::number(line);
+    tell::text(b" ");
+    tell::number(column);
+    let number = is_nth(b": number ", r.number as usize, want, 2);
+    let node = is_nth(b", node ", r.node, want, 3);
+    let inside = is_nth(b", line ", r.line, want, 4);
+    let across = is_nth(b", column ", r.column, want, 5);
+    tell::verdict(number && node && inside && across);
+    tell::end();
+}
