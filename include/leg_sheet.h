@@ -9,12 +9,13 @@
  * one 2, 5, 4, then 3. A refusal writes to none of the lent lists; otherwise items past those said to be written stay as they were. The
  * functions keep nothing between calls and allocate nothing; on the stack they took up to 77 kilobytes (measured, at depth 16).
  *
- *   1   settings not of the form or ranges          7   sheet: a leaf is allotted width 0
- *   2   tree: too long, cut short, unknown tag ..   8   a lent list is shorter than needed
- *   3   forbidden text byte                         9   the number names no leaf
- *   4   node 513 met                               10   split list count over 512
- *   5   depth 17 met                               11   share: n = 0 or index >= n
- *   6   over 400 columns or 160 lines, the margin included
+ *   1   settings not of the form or ranges                    8   a lent list is shorter than needed
+ *   2   tree: too long, cut short, unknown tag ..             9   the number names no leaf
+ *   3   forbidden text byte                                  10   split list count over 512
+ *   4   node 513 met                                         11   share: n = 0 or index >= n
+ *   5   depth 17 met                                         12   a line or column outside the printed sheet
+ *   6   over 400 columns or 160 lines, the margin included   13   a place in the margin
+ *   7   a leaf of the sheet is allotted width 0
  *
  * Settings and trees are bytes (hex below). docs/FORMS.md has them with pictures, examples and the meaning of each; examples/build.c builds a tree.
  *
@@ -56,6 +57,7 @@ extern "C" {
 #define LEG_RECORD (13 + 2 * LEG_LIST)
 #define LEG_CUT (3 + 2 * LEG_LIST)
 #define LEG_LENT_CUT (4 + LEG_LIST)
+#define LEG_PLACE 3
 
 /* Reads settings of 31 or 42 bytes. 1, 8. Writes the 28 numbers after the first tag and length: 15 marks; padding left, right, top, bottom;
  * their fills; horizontal and vertical alignment; line mode; width and height priority. Counts 28. */
@@ -83,6 +85,10 @@ uint64_t leg_print_leaf(const uint8_t *settings, size_t settings_len, const uint
 
 /* Prints the sheet with its margin, its lines joined by 0A: (W + 1) * H - 1 bytes, at most 64,159. 1 to 8. Counts the bytes written. */
 uint64_t leg_print_sheet(const uint8_t *settings, size_t settings_len, const uint8_t *tree, size_t tree_len, uint8_t *out, size_t out_len);
+
+/* From a place to its leaf: line `line`, column `column` of the sheet as printed, both counted from 0, the margin included. 1 to 7, 12, 13; 8 last, where `out`
+ * has under LEG_PLACE numbers. Writes the leaf's node, and the line and the column inside its block. Counts LEG_PLACE. */
+uint64_t leg_place(const uint8_t *settings, size_t settings_len, const uint8_t *tree, size_t tree_len, size_t line, size_t column, uint16_t *out, size_t out_len);
 
 /* Cuts the list of the first `count` of `pieces` at `w`; numbers past them are not looked at. 10; 8 where `pieces` has under `count` numbers or `out` under
  * LEG_CUT. Writes yes or no (1 or 0); the cut's pair: how many pieces it took, and the length left of the first piece not taken, 0 if there is none or it

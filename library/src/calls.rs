@@ -34,6 +34,8 @@ pub const RECORD: usize = 13 + 2 * LIST;
 pub const CUT: usize = 3 + 2 * LIST;
 /// `short_splits3_lent`: yes or no, the pair, the count left, the list taken.
 pub const LENT_CUT: usize = 4 + LIST;
+/// The leaf of a place: its node, the line and the column inside its block.
+pub const PLACE: usize = 3;
 /// The largest sheet or block: 160 lines of 400 columns, the margin included, with a line feed between them.
 pub const SHEET: usize = 401 * 160 - 1;
 /// The nodes of a tree at the most.
@@ -155,6 +157,32 @@ pub fn print_sheet(settings: &[u8], tree: &[u8], out: &mut [u8]) -> Result<usize
             settings.len(),
             tree.as_ptr(),
             tree.len(),
+            out.as_mut_ptr(),
+            out.len(),
+        )
+    })
+}
+
+/// Writes the [`PLACE`] numbers of the leaf that has this line and column of the printed sheet, its margin included.
+///
+/// # Errors
+/// 1 to 7, 12, 13, 8.
+pub fn place(
+    settings: &[u8],
+    tree: &[u8],
+    line: usize,
+    column: usize,
+    out: &mut [u16],
+) -> Result<usize, Refusal> {
+    // SAFETY: pointers and lengths of slices that are borrowed here.
+    answer(unsafe {
+        raw::leg_place(
+            settings.as_ptr(),
+            settings.len(),
+            tree.as_ptr(),
+            tree.len(),
+            line,
+            column,
             out.as_mut_ptr(),
             out.len(),
         )

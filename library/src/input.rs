@@ -1,7 +1,7 @@
 //! Settings and tree together, as bytes.
 
 use crate::calls;
-use crate::records::{LeafRecord, SizeRecord};
+use crate::records::{LeafPlace, LeafRecord, SizeRecord};
 use crate::refusal::Refusal;
 use crate::tree;
 
@@ -81,6 +81,16 @@ impl<'a> Input<'a> {
         let mut out = [0; calls::RECORD];
         calls::leaf_record(self.settings, self.tree, node, &mut out)?;
         Ok(LeafRecord::from_numbers(&out))
+    }
+
+    /// The leaf of a place of the printed sheet, its margin included.
+    ///
+    /// # Errors
+    /// 1 to 7, 12, 13.
+    pub fn place(self, line: usize, column: usize) -> Result<LeafPlace, Refusal> {
+        let mut out = [0; calls::PLACE];
+        calls::place(self.settings, self.tree, line, column, &mut out)?;
+        Ok(LeafPlace::from_numbers(out))
     }
 }
 

@@ -55,6 +55,17 @@ extern "C" {
         out_len: usize,
     ) -> u64;
 
+    pub fn leg_place(
+        settings: *const u8,
+        settings_len: usize,
+        tree: *const u8,
+        tree_len: usize,
+        line: usize,
+        column: usize,
+        out: *mut u16,
+        out_len: usize,
+    ) -> u64;
+
     pub fn leg_short_splits3(
         pieces: *const u16,
         pieces_len: usize,

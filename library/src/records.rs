@@ -3,7 +3,7 @@
 use std::fmt;
 use std::ops::Deref;
 
-use crate::calls::{CUT, LENT_CUT, LIST, PIECES, RECORD, SIZES};
+use crate::calls::{CUT, LENT_CUT, LIST, PIECES, PLACE, RECORD, SIZES};
 
 /// A node's size.
 #[derive(Debug, Clone, Copy, Default, PartialEq, Eq, Hash)]
@@ -168,6 +168,28 @@ impl LeafRecord {
             horizontal: list_at(numbers, 13),
             vertical: list_at(numbers, 13 + LIST),
         }
+    }
+}
+
+/// The leaf of a place: each place of a sheet inside its margin lies in the block of one leaf.
+///
+/// The first line and column of a block are 0 and 0: its top-left mark.
+#[derive(Debug, Clone, Copy, Default, PartialEq, Eq, Hash)]
+pub struct LeafPlace {
+    /// The leaf's number.
+    pub node: usize,
+    /// The line inside its block.
+    pub line: usize,
+    /// The column inside its block.
+    pub column: usize,
+}
+
+impl LeafPlace {
+    /// What [`calls::place`](crate::calls::place) has written.
+    #[must_use]
+    pub fn from_numbers(numbers: [u16; PLACE]) -> LeafPlace {
+        let [node, line, column] = numbers.map(usize::from);
+        LeafPlace { node, line, column }
     }
 }
 

@@ -1,4 +1,4 @@
-//! What is refused, by the table of document 01.
+//! What is refused, by the tables of documents 01 and 02.
 
 use std::error::Error;
 use std::fmt;
@@ -65,6 +65,8 @@ refusals! {
     9 NoLeaf "the number names no leaf",
     10 TooManyPieces "the split list has over 512 pieces",
     11 NoChild "there are no children to share among, or the index is past them",
+    12 OutsideSheet "the line or column is outside the printed sheet",
+    13 InMargin "the place is in the sheet's margin",
 }
 
 impl Refusal {

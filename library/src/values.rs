@@ -2,7 +2,7 @@
 
 use crate::calls::{self, CUT, LENT_CUT, LIST};
 use crate::input::Input;
-use crate::records::{CutAnswer, CutParts, LeafRecord, List, ShortParts, SizeRecord};
+use crate::records::{CutAnswer, CutParts, LeafPlace, LeafRecord, List, ShortParts, SizeRecord};
 use crate::refusal::Refusal;
 use crate::settings::{Priority, Settings};
 use crate::tree::Tree;
@@ -86,6 +86,34 @@ pub fn sizes(settings: &Settings, tree: &Tree) -> Result<Vec<SizeRecord>, Refusa
 /// 2 to 6, 9.
 pub fn leaf_record(settings: &Settings, tree: &Tree, node: usize) -> Result<LeafRecord, Refusal> {
     on_bytes(settings, tree, |input| input.leaf_record(node))
+}
+
+/// The leaf of a place: of a line and a column of the sheet as [`print_sheet`] prints it, both counted from 0, the margin included. The byte there is that of the
+/// leaf's block at the line and column answered.
+///
+/// ```
+/// use leg_sheet::{place, print_leaf, print_sheet, Settings, Tree};
+///
+/// let settings = Settings::default();
+/// let tree = Tree::row(["1", "Home pad"]);
+/// let found = place(&settings, &tree, 1, 6)?;
+/// assert_eq!((found.node, found.line, found.column), (2, 1, 2));
+///
+/// let byte = |text: &str, line: usize, column: usize| text.lines().nth(line).map(|line| line.as_bytes()[column]);
+/// assert_eq!(byte(&print_sheet(&settings, &tree)?, 1, 6), Some(b'H'));
+/// assert_eq!(byte(&print_leaf(&settings, &tree, 2)?, 1, 2), Some(b'H'));
+/// # Ok::<(), leg_sheet::Refusal>(())
+/// ```
+///
+/// # Errors
+/// 2 to 7, 12, 13.
+pub fn place(
+    settings: &Settings,
+    tree: &Tree,
+    line: usize,
+    column: usize,
+) -> Result<LeafPlace, Refusal> {
+    on_bytes(settings, tree, |input| input.place(line, column))
 }
 
 /// Cuts a list of pieces at a width, a line between neighbours.

@@ -1,9 +1,9 @@
-//! The calls on lent buffers by themselves: figure F1 of document 01, refusals, what they leave of a lent output, where the pair of a cut stands, and priorities
-//! that no settings have.
+//! The calls on lent buffers by themselves: figure F1 of document 01, refusals, what they leave of a lent output, where the pair of a cut stands, the leaf of a
+//! place, and priorities that no settings have.
 
 use leg_sheet::calls::{
-    leaf_record, print_sheet, read_margin, read_settings, share, short_splits3, short_splits3_lent,
-    CUT, LENT_CUT, LIST, MARGIN, RECORD, SETTINGS,
+    leaf_record, place, print_sheet, read_margin, read_settings, share, short_splits3,
+    short_splits3_lent, CUT, LENT_CUT, LIST, MARGIN, PLACE, RECORD, SETTINGS,
 };
 use leg_sheet::Refusal;
 
@@ -106,6 +106,30 @@ fn a_record_has_its_pair() {
     assert_eq!(out[11..17], [2, 0, 2, 1, 3, 0]);
     assert_eq!(out[13 + LIST..][..3], [1, 1, 0]);
     assert_eq!(out[RECORD - 1..], [0, 0xA5A5]);
+}
+
+/// The three numbers of a place, and one that stays; 8 comes after 12 and 13, and a refusal leaves all.
+#[test]
+fn a_place_has_its_leaf() {
+    let edged = [&D[..], b"\x11\x00\x08\x02\x01\x01\x01lrtb"].concat();
+    let row = b"\x02\x00\x08\x01\x00\x01a\x01\x00\x01b";
+    let read = |settings: &[u8], line: usize, column: usize, length: usize| {
+        let mut out = [0xA5A5; PLACE + 1];
+        let answer = place(settings, row, line, column, &mut out[..length]);
+        (answer.map_err(Refusal::number), out)
+    };
+    let refused = |number: u8| (Err(number), [0xA5A5; PLACE + 1]);
+    for length in [PLACE, PLACE + 1] {
+        assert_eq!(read(D, 1, 6, length), (Ok(3), [2, 1, 2, 0xA5A5]));
+        assert_eq!(read(&edged, 2, 8, length), (Ok(3), [2, 1, 2, 0xA5A5]));
+    }
+    assert_eq!(read(D, 1, 6, 2), refused(8));
+    assert_eq!(read(&edged, 0, 8, 2), refused(13));
+    for far in [9, 65_536, u32::MAX as usize, 1 << 32, usize::MAX] {
+        assert_eq!(read(D, 1, far, 2), refused(12));
+        assert_eq!(read(&edged, far, 0, 4), refused(12));
+        assert_eq!(read(&edged[..41], far, far, 4), refused(1));
+    }
 }
 
 /// The header: 'Priority 0 is First, 1 Last, 2 and every other number List.'

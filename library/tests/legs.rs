@@ -85,6 +85,18 @@ fn leaf() {
     );
 }
 
+/// A place on each side of the line between two leaves; then with a margin of eight columns and a line.
+#[test]
+fn place() {
+    let a = "node 3: line 0, column 4 of its block\n";
+    answers(&["place", "figure2.legs", "2", "4"], a);
+    let b = "node 4: line 0, column 0 of its block\n";
+    answers(&["place", "figure2.legs", "2", "5"], b);
+    let first = "node 2: line 0, column 0 of its block\n";
+    answers(&["place", "flight.legs", "0", "0"], first);
+    answers(&["place", "binder.legs", "1", "8"], first);
+}
+
 #[test]
 fn check() {
     answers(
@@ -120,16 +132,27 @@ fn refusals_are_messages() {
     fails(&["print", "refused.legs"], narrow, 1);
     let group = "figure2.legs: refused 9: the number names no leaf";
     fails(&["leaf", "figure2.legs", "0"], group, 1);
+    let outside = "figure2.legs: refused 12: the line or column is outside the printed sheet";
+    fails(&["place", "figure2.legs", "5", "0"], outside, 1);
+    let margin = "binder.legs: refused 13: the place is in the sheet's margin";
+    fails(&["place", "binder.legs", "1", "7"], margin, 1);
     let empty = "standard input: refused 1: the settings are not of their form or ranges";
     fails(&["print", "-"], empty, 1);
     fails(&["sizes", "-"], empty, 1);
+    fails(&["place", "-", "0", "0"], empty, 1);
 }
 
 #[test]
 fn help() {
     let (answer, message, status) = said(&["--help"], b"");
     assert_eq!((message.as_str(), status), ("", Some(0)));
-    for command in ["print FILE", "sizes FILE", "leaf FILE NODE", "check FILE"] {
+    for command in [
+        "print FILE",
+        "sizes FILE",
+        "leaf FILE NODE",
+        "place FILE LINE COLUMN",
+        "check FILE",
+    ] {
         assert!(answer.contains(&format!("  legs {command} ")), "{command}");
     }
     assert_eq!(said(&["leaf", "--help"], b""), (answer, message, status));
@@ -151,6 +174,11 @@ fn usage() {
     fails(
         &["leaf", "figure2.legs", "-1"],
         "\"-1\" is no number from 0 on",
+    );
+    fails(&["place", "a", "0"], "legs place FILE LINE COLUMN");
+    fails(
+        &["place", "figure2.legs", "0", "18446744073709551616"],
+        "\"18446744073709551616\" is no number from 0 on",
     );
 }
 

@@ -1,9 +1,9 @@
 //! Settings and trees as values, and what the calls on them answer.
 
 use leg_sheet::{
-    leaf_record, print_leaf, print_sheet, share, short_splits, short_splits3,
-    short_splits3_in_place, sizes, Alignment, CutPair, Input, Priority, Refusal, Settings, Sides,
-    SizeRecord, Tree,
+    leaf_record, place, print_leaf, print_sheet, share, short_splits, short_splits3,
+    short_splits3_in_place, sizes, Alignment, CutPair, Input, LeafPlace, Priority, Refusal,
+    Settings, Sides, SizeRecord, Tree,
 };
 
 /// The record of the defaults.
@@ -225,6 +225,79 @@ fn a_leaf_has_the_pair_of_its_cut() {
     );
 }
 
+/// The set M of the figures, with this margin.
+fn figures_m(margin: Sides) -> Settings {
+    Settings::default()
+        .with_marks(*b"-_()hv123456789")
+        .and_then(|settings| settings.with_margin(margin))
+        .expect("within the ranges")
+        .with_width_priority(Priority::List)
+}
+
+/// Document 02, 5: places of figure F2 without a margin and with one, on both sides of each edge, and far from it.
+#[test]
+fn places_have_their_leaves() {
+    let found = |margin: Sides, line: usize, column: usize| {
+        let found = place(&figures_m(margin), &figure_2(), line, column);
+        found
+            .map(|LeafPlace { node, line, column }| (node, line, column))
+            .map_err(Refusal::number)
+    };
+    let none = Sides::all(0);
+    assert_eq!(found(none, 0, 0), Ok((1, 0, 0)));
+    assert_eq!(found(none, 1, 9), Ok((1, 1, 9)));
+    assert_eq!(found(none, 2, 4), Ok((3, 0, 4)));
+    assert_eq!(found(none, 2, 5), Ok((4, 0, 0)));
+    assert_eq!(found(none, 4, 9), Ok((4, 2, 4)));
+    for (line, column) in [(5, 0), (0, 10), (5, 10), (u32::MAX as usize, 0)] {
+        assert_eq!(found(none, line, column), Err(12));
+    }
+    let edged = Sides {
+        left: 2,
+        ..Sides::all(1)
+    };
+    assert_eq!(found(edged, 1, 2), Ok((1, 0, 0)));
+    assert_eq!(found(edged, 5, 7), Ok((4, 2, 0)));
+    assert_eq!(found(edged, 5, 11), Ok((4, 2, 4)));
+    for (line, column) in [(0, 0), (0, 12), (1, 1), (1, 12), (6, 5)] {
+        assert_eq!(found(edged, line, column), Err(13));
+    }
+    for (line, column) in [(7, 0), (6, 13), (7, 13), (usize::MAX, usize::MAX)] {
+        assert_eq!(found(edged, line, column), Err(12));
+    }
+}
+
+/// Document 02, 5: the sheet's byte at each place is the one of its leaf's block at the place inside; as many places lie in a leaf as its block has bytes.
+#[test]
+fn every_byte_leads_back() {
+    let settings = figures_m(MARGIN);
+    let tree = Tree::row([
+        Tree::column(["a", "b\nc"]),
+        figure_2(),
+        Tree::Column(vec![]),
+    ]);
+    let sheet = print_sheet(&settings, &tree).expect("a sheet");
+    let mut blocks = std::collections::HashMap::new();
+    for (i, line) in sheet.lines().enumerate() {
+        for (j, byte) in line.bytes().enumerate() {
+            match place(&settings, &tree, i, j) {
+                Ok(LeafPlace { node, line, column }) => {
+                    let block = print_leaf(&settings, &tree, node).expect("a leaf");
+                    let there = block.lines().nth(line).map(|line| line.as_bytes()[column]);
+                    assert_eq!(there, Some(byte), "{i} {j}");
+                    let left = blocks
+                        .entry(node)
+                        .or_insert_with(|| block.lines().map(str::len).sum::<usize>());
+                    *left -= 1;
+                }
+                refused => assert_eq!(refused, Err(Refusal::InMargin), "{i} {j}"),
+            }
+        }
+    }
+    assert_eq!(blocks.len(), 6);
+    assert!(blocks.values().all(|&left| left == 0));
+}
+
 /// The margin is around the sheet, and counts for its limits alone.
 #[test]
 fn margins() {
@@ -277,6 +350,12 @@ fn every_call_is_refused() {
     assert_eq!(sizes(&settings, &bad), Err(Refusal::BadText));
     assert_eq!(print_leaf(&settings, &group, 0), Err(Refusal::NoLeaf));
     assert_eq!(leaf_record(&settings, &group, 2), Err(Refusal::NoLeaf));
+    assert_eq!(place(&settings, &bad, 9, 9), Err(Refusal::BadText));
+    let wide = Tree::from("x".repeat(397));
+    assert_eq!(place(&settings, &wide, 9, 9), Err(Refusal::TooLarge));
+    let bare = settings.with_padding(Sides::all(0)).expect("a padding");
+    let empty = Tree::row(["a", ""]);
+    assert_eq!(place(&bare, &empty, 9, 9), Err(Refusal::ZeroWidth));
     assert_eq!(share(7, 0, Priority::List, 0), Err(Refusal::NoChild));
     assert_eq!(short_splits3(&[1; 513], 0), Err(Refusal::TooManyPieces));
     assert_eq!(short_splits(&[1; 513], 0), Err(Refusal::TooManyPieces));

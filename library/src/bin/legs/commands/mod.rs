@@ -2,6 +2,7 @@
 
 mod check;
 mod leaf;
+mod place;
 mod print;
 mod sizes;
 
@@ -15,6 +16,7 @@ pub const COMMANDS: &[Command] = &[
     print::COMMAND,
     sizes::COMMAND,
     leaf::COMMAND,
+    place::COMMAND,
     check::COMMAND,
 ];
 
@@ -54,12 +56,13 @@ impl Answer {
 
 /// What `--help` prints.
 pub fn help() -> String {
-    let line = |command: &Command| format!("  {:<22}{}\n", command.usage(), command.about);
+    let line = |command: &Command| format!("  {:<30}{}\n", command.usage(), command.about);
     let commands: String = COMMANDS.iter().map(line).collect();
     format!(
         "Prints leg sheets: bordered tables of nested rows and columns.\n\n{commands}\n\
          FILE is a settings record, with the margin's field or without, then a tree, as examples/encode.py writes them; - is standard input.\n\
-         Nodes are numbered from 0, a parent before its children, these from left to right.\n\n\
+         Nodes are numbered from 0, a parent before its children, these from left to right.\n\
+         Lines and columns are counted from 0, in the sheet as it is printed.\n\n\
          Exit status: 0, or 1 refused, 2 usage, 3 input or output failed.\n"
     )
 }
