@@ -4,8 +4,8 @@
 use leg_sheet::calls::{self, CUT, LENT_CUT, LIST, MARGIN, PIECES, SETTINGS, SIZES};
 use leg_sheet::List;
 use oracle::calls::{
-    Calls, Counted, CutParts, CutPositions, LeafRecord, ReadMargin, ReadSettings, Shared,
-    SizeRecord, SplitList,
+    Calls, Counted, CutParts, CutPositions, LeafPlace, LeafRecord, ReadMargin, ReadSettings,
+    Shared, SizeRecord, SplitList,
 };
 use oracle::form::{encode_record, encode_settings, CutPair, Flags, Margin, Settings};
 
@@ -154,6 +154,17 @@ impl Calls for Library {
 
     fn sheet(&mut self, settings: &[u8], tree: &[u8], output: &mut [u8]) -> Counted {
         counted(calls::print_sheet(settings, tree, output))
+    }
+
+    fn place(&mut self, settings: &[u8], tree: &[u8], line: usize, column: usize) -> LeafPlace {
+        let (number, out) = lent::record(|out| calls::place(settings, tree, line, column, out));
+        let found = leg_sheet::LeafPlace::from_numbers(out);
+        LeafPlace {
+            number,
+            node: found.node,
+            line: found.line,
+            column: found.column,
+        }
     }
 
     fn short_splits3(&mut self, list: &SplitList, width: u16) -> CutParts {

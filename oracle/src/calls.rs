@@ -89,6 +89,15 @@ pub struct LeafRecord {
     pub pair: CutPair,
 }
 
+/// A number, and the leaf of a place with the line and column inside its block.
+#[derive(Debug, Clone, Copy, Default, PartialEq, Eq)]
+pub struct LeafPlace {
+    pub number: u8,
+    pub node: usize,
+    pub line: usize,
+    pub column: usize,
+}
+
 /// What `short_splits3` answers.
 #[derive(Debug, Clone, PartialEq, Eq)]
 pub struct CutParts {
@@ -146,6 +155,9 @@ pub trait Calls {
 
     /// The sheet printer. Answers the bytes written.
     fn sheet(&mut self, settings: &[u8], tree: &[u8], output: &mut [u8]) -> Counted;
+
+    /// The leaf of a place of the sheet as printed.
+    fn place(&mut self, settings: &[u8], tree: &[u8], line: usize, column: usize) -> LeafPlace;
 
     fn short_splits3(&mut self, list: &SplitList, width: u16) -> CutParts;
 

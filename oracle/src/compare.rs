@@ -47,8 +47,8 @@ impl Counts {
     }
 }
 
-/// The numbers that each call can give, by document 01's table.
-pub const NUMBERS: [(&str, &[u8]); 11] = [
+/// The numbers that each call can give, by the documents' tables.
+pub const NUMBERS: [(&str, &[u8]); 12] = [
     ("settings", &[0, 1]),
     ("margin", &[0, 1]),
     ("tree", &[0, 2, 3, 4, 5]),
@@ -56,6 +56,7 @@ pub const NUMBERS: [(&str, &[u8]); 11] = [
     ("leaf record", &[0, 1, 2, 3, 4, 5, 6, 9]),
     ("leaf", &[0, 1, 2, 3, 4, 5, 6, 8, 9]),
     ("sheet", &[0, 1, 2, 3, 4, 5, 6, 7, 8]),
+    ("place", &[0, 1, 2, 3, 4, 5, 6, 7, 12, 13]),
     ("short_splits3", &[0, 10]),
     ("short_splits3, lent", &[0, 10]),
     ("short_splits", &[0, 10]),
@@ -89,7 +90,7 @@ pub type Part = (
     fn(&mut Comparison, &mut Rng, usize) -> Result<(), Difference>,
 );
 
-pub const PARTS: [Part; 10] = [
+pub const PARTS: [Part; 13] = [
     ("settings records", |c, _, _| c.settings_records()),
     ("short and faulty trees", |c, _, _| c.faulty_trees()),
     ("all trees of up to 5 nodes", |c, _, _| {
@@ -105,6 +106,15 @@ pub const PARTS: [Part; 10] = [
     ("tables", |c, rng, rounds| c.tables(rng, 300 * rounds)),
     ("damaged bytes", |c, rng, rounds| {
         c.cases(rng, 3000 * rounds)
+    }),
+    ("places of all trees of up to 5 nodes", |c, _, _| {
+        c.small_places(5, &gen::few_settings())
+    }),
+    ("places of two groups", |c, _, _| {
+        c.two_groups_places(&gen::few_settings())
+    }),
+    ("places of tables", |c, rng, rounds| {
+        c.tables_places(rng, 30 * rounds)
     }),
 ];
 
@@ -128,6 +138,16 @@ fn junk_sizes(length: usize) -> Vec<SizeRecord> {
             allotted_height: number(4 * at + 3),
         })
         .collect()
+}
+
+/// Every tree of up to `nodes` nodes with a few texts.
+fn small_trees(nodes: usize) -> impl Iterator<Item = Tree> {
+    (1..=nodes).flat_map(|nodes| gen::small_trees(nodes, &["", "a", "bcd", "e\nfg"]))
+}
+
+/// Every pair of small groups.
+fn two_groups() -> impl Iterator<Item = Tree> {
+    gen::two_groups(&["", "a", "bc\nd"]).into_iter()
 }
 
 impl<'a> Comparison<'a> {
@@ -247,6 +267,41 @@ impl<'a> Comparison<'a> {
                 (answer.number, (answer, output))
             },
         )
+    }
+
+    fn place(
+        &mut self,
+        settings: &[u8],
+        tree: &[u8],
+        (line, column): (usize, usize),
+    ) -> Result<(), Difference> {
+        self.call(
+            "place",
+            || {
+                let (settings, tree) = (bytes(settings), bytes(tree));
+                format!("{settings} {tree} line {line} column {column}")
+            },
+            |side| {
+                let answer = side.place(settings, tree, line, column);
+                (answer.number, answer)
+            },
+        )
+    }
+
+    /// Every place of the printed sheet, and those one past it, to the right and below; then far ones. Of a sheet that is refused the far ones, and the first.
+    pub fn places(&mut self, settings: &Settings, tree: &Tree) -> Result<(), Difference> {
+        let [left, _, top, _] = settings.margin.sizes.map(usize::from);
+        let (settings, tree) = (encode_settings(settings), encode_tree(tree));
+        let (w, h) = judge::shown(&settings, &tree).map_or((0, 0), |read| read.rectangle());
+        for line in 0..=h {
+            for column in 0..=w {
+                self.place(&settings, &tree, (line, column))?;
+            }
+        }
+        for place in gen::far_from((top, left)) {
+            self.place(&settings, &tree, place)?;
+        }
+        Ok(())
     }
 
     /// Every call, once.
@@ -405,21 +460,34 @@ impl<'a> Comparison<'a> {
 
     /// Every tree of up to `nodes` nodes with a few texts, under each of the settings.
     pub fn small_tables(&mut self, nodes: usize, settings: &[Settings]) -> Result<(), Difference> {
-        for nodes in 1..=nodes {
-            for tree in gen::small_trees(nodes, &["", "a", "bcd", "e\nfg"]) {
-                for settings in settings {
-                    self.table(settings, &tree)?;
-                }
-            }
-        }
-        Ok(())
+        self.each(small_trees(nodes), settings, Comparison::table)
     }
 
     /// Every pair of small groups, under each of the settings.
     pub fn two_groups(&mut self, settings: &[Settings]) -> Result<(), Difference> {
-        for tree in gen::two_groups(&["", "a", "bc\nd"]) {
+        self.each(two_groups(), settings, Comparison::table)
+    }
+
+    /// The places of the same trees.
+    pub fn small_places(&mut self, nodes: usize, settings: &[Settings]) -> Result<(), Difference> {
+        self.each(small_trees(nodes), settings, Comparison::places)
+    }
+
+    /// The places of the same groups.
+    pub fn two_groups_places(&mut self, settings: &[Settings]) -> Result<(), Difference> {
+        self.each(two_groups(), settings, Comparison::places)
+    }
+
+    /// Each tree under each of the settings.
+    fn each(
+        &mut self,
+        trees: impl Iterator<Item = Tree>,
+        settings: &[Settings],
+        run: fn(&mut Self, &Settings, &Tree) -> Result<(), Difference>,
+    ) -> Result<(), Difference> {
+        for tree in trees {
             for settings in settings {
-                self.table(settings, &tree)?;
+                run(self, settings, &tree)?;
             }
         }
         Ok(())
@@ -441,6 +509,7 @@ impl<'a> Comparison<'a> {
                     for _ in 0..4 {
                         let case = gen::case(rng, settings.clone(), tree.clone());
                         self.case(&case)?;
+                        self.any_place(rng, &case)?;
                     }
                 }
             }
@@ -457,13 +526,29 @@ impl<'a> Comparison<'a> {
         Ok(())
     }
 
+    /// The places of so many.
+    pub fn tables_places(&mut self, rng: &mut Rng, rounds: usize) -> Result<(), Difference> {
+        for _ in 0..rounds {
+            let (settings, tree) = gen::table(rng, Margins::Half);
+            self.places(&settings, &tree)?;
+        }
+        Ok(())
+    }
+
     /// So many cases of any kind, damaged bytes among them.
     pub fn cases(&mut self, rng: &mut Rng, rounds: usize) -> Result<(), Difference> {
         for _ in 0..rounds {
             let case = gen::any_case(rng, Margins::Half);
             self.case(&case)?;
+            self.any_place(rng, &case)?;
         }
         Ok(())
+    }
+
+    /// A random place of a case.
+    fn any_place(&mut self, rng: &mut Rng, case: &Case) -> Result<(), Difference> {
+        let place = gen::place(rng, &case.settings, &case.tree);
+        self.place(&case.settings, &case.tree, place)
     }
 
     /// Every list of up to three pieces of 0 to 4 at widths 0 to 9, lists of 511 and 512 equal pieces, then so many random ones, each also

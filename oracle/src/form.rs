@@ -225,6 +225,17 @@ pub struct Leaf {
     pub block: Vec<u8>,
 }
 
+/// Whose a place is (document 02, 5): 'the leaf's number and the line and column inside its block'.
+#[derive(Debug, Clone, Copy, PartialEq, Eq)]
+pub struct Owner {
+    pub node: usize,
+    pub line: usize,
+    pub column: usize,
+}
+
+/// Whose each place of a printed sheet is, line by line; no one's in the margin.
+pub type Owners = Vec<Vec<Option<Owner>>>;
+
 /// What there is to know of one table.
 #[derive(Debug, Clone, PartialEq, Eq)]
 pub struct Answer {

@@ -707,6 +707,42 @@ pub fn any_case(rng: &mut Rng, margins: Margins) -> Case {
     case(rng, settings, tree)
 }
 
+/// Steps far out of a sheet: 0 in their lower 8, 16 or 32 bits, or 1 in all of 32 or 64.
+const FAR: [usize; 5] = [1 << 8, 1 << 16, u32::MAX as usize, 1 << 32, usize::MAX];
+
+/// Places so far from a place: below it, to the right of it, and both.
+pub fn far_from((line, column): (usize, usize)) -> impl Iterator<Item = (usize, usize)> {
+    FAR.into_iter().flat_map(move |far| {
+        let (below, right) = (line.saturating_add(far), column.saturating_add(far));
+        [(below, column), (line, right), (below, right)]
+    })
+}
+
+/// A line or a column of a sheet that has so many before its inside, inside and in all: mostly any of them, else at an edge, or far outside.
+fn coordinate(rng: &mut Rng, before: usize, inside: usize, all: usize) -> usize {
+    let after = before + inside;
+    match rng.below(8) {
+        0 => rng.pick(&FAR),
+        1 => all + rng.below(2),
+        2 => rng.pick(&[before, after - 1]),
+        3 => rng.pick(&[before.saturating_sub(1), after.min(all - 1)]),
+        _ => rng.below(all),
+    }
+}
+
+/// A place of a sheet, or outside it.
+pub fn place(rng: &mut Rng, settings: &[u8], tree: &[u8]) -> (usize, usize) {
+    let Ok(read) = judge::read(settings, tree) else {
+        return (rng.below(9), rng.below(9));
+    };
+    let [left, right, top, bottom] = read.settings.margin.sizes.map(usize::from);
+    let (w, h) = read.rectangle();
+    (
+        coordinate(rng, top, h - top - bottom, h),
+        coordinate(rng, left, w - left - right, w),
+    )
+}
+
 /// Pieces and a width for the cuts: short lists, full ones, widths around the sums.
 pub fn list(rng: &mut Rng) -> (Vec<usize>, u16) {
     let count = match rng.below(8) {

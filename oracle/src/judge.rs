@@ -157,6 +157,7 @@ pub fn read_tree(bytes: &[u8]) -> Result<Tree, u8> {
 }
 
 /// What every call on sizes, leaves or sheets reads first.
+#[derive(Debug)]
 pub struct Read {
     pub settings: Settings,
     pub tree: Tree,
@@ -176,7 +177,7 @@ pub fn read(settings: &[u8], tree: &[u8]) -> Result<Read, u8> {
 }
 
 /// A leaf of an accepted tree, as far as the refusals need it.
-struct Place {
+struct LeafNode {
     node: usize,
     last_row: bool,
     last_col: bool,
@@ -184,17 +185,23 @@ struct Place {
 
 /// The leaves' node numbers, in order.
 pub fn leaves(tree: &Tree) -> Vec<usize> {
-    places(tree).iter().map(|place| place.node).collect()
+    leaf_nodes(tree).iter().map(|leaf| leaf.node).collect()
 }
 
 /// The leaves in node order, each with the two flags that its block's bytes depend on.
-fn places(tree: &Tree) -> Vec<Place> {
-    fn put(tree: &Tree, node: &mut usize, last_row: bool, last_col: bool, list: &mut Vec<Place>) {
+fn leaf_nodes(tree: &Tree) -> Vec<LeafNode> {
+    fn put(
+        tree: &Tree,
+        node: &mut usize,
+        last_row: bool,
+        last_col: bool,
+        list: &mut Vec<LeafNode>,
+    ) {
         let number = *node;
         *node += 1;
         let children = tree.children();
         if children.is_empty() {
-            list.push(Place {
+            list.push(LeafNode {
                 node: number,
                 last_row,
                 last_col,
@@ -216,30 +223,60 @@ fn places(tree: &Tree) -> Vec<Place> {
 }
 
 impl Read {
+    /// W and H.
+    pub fn rectangle(&self) -> (usize, usize) {
+        paper::rectangle(&self.settings, &self.sizes)
+    }
+
     /// 6.
     fn fits(&self) -> Result<(), u8> {
-        let (w, h) = paper::rectangle(&self.settings, &self.sizes);
+        let (w, h) = self.rectangle();
         if w > SHEET_WIDTH || h > SHEET_HEIGHT {
             return Err(6);
         }
         Ok(())
     }
 
+    /// 6, then 7.
+    fn shows(&self) -> Result<(), u8> {
+        self.fits()?;
+        let mut leaves = leaves(&self.tree).into_iter();
+        if leaves.any(|leaf| self.sizes[leaf].allotted_width == 0) {
+            return Err(7);
+        }
+        Ok(())
+    }
+
+    /// '12 for a line or column outside the printed sheet, 13 for a place in the margin.' Lines and columns 'count from 0 in the sheet as printed, margin included'.
+    pub fn place(&self, line: usize, column: usize) -> Result<(), u8> {
+        let (w, h) = self.rectangle();
+        if line >= h || column >= w {
+            return Err(12);
+        }
+        let [left, right, top, bottom] = self.settings.margin.sizes.map(usize::from);
+        let is_inside = (top..h - bottom).contains(&line) && (left..w - right).contains(&column);
+        if is_inside {
+            Ok(())
+        } else {
+            Err(13)
+        }
+    }
+
     /// The leaf that a number names, or 9.
-    fn leaf(&self, node: usize) -> Result<Place, u8> {
-        let mut places = places(&self.tree).into_iter();
-        places.find(|place| place.node == node).ok_or(9)
+    fn leaf(&self, node: usize) -> Result<LeafNode, u8> {
+        let mut leaves = leaf_nodes(&self.tree).into_iter();
+        leaves.find(|leaf| leaf.node == node).ok_or(9)
     }
 
     /// The bytes of the sheet: '(W + 1) × H − 1'.
     pub fn sheet_bytes(&self) -> usize {
-        let (w, h) = paper::rectangle(&self.settings, &self.sizes);
+        let (w, h) = self.rectangle();
         (w + 1) * h - 1
     }
 
     /// The bytes of a leaf's block: lines of 1 + allotted width columns, one more under last_col; 1 + allotted height of them,
     /// one more under last_row; joined by 0A. None at allotted width 0.
-    fn block_bytes(&self, leaf: &Place) -> usize {
+    fn block_bytes(&self, leaf: &LeafNode) -> usize {
         let size = self.sizes[leaf.node];
         if size.allotted_width == 0 {
             return 0;
@@ -302,17 +339,24 @@ pub fn leaf_bytes(settings: &[u8], tree: &[u8], node: usize) -> Option<usize> {
 
 /// The sheet printer, lent so many bytes.
 pub fn sheet(settings: &[u8], tree: &[u8], output: usize) -> u8 {
-    number(read(settings, tree).and_then(|read| {
-        read.fits()?;
-        let mut leaves = leaves(&read.tree).into_iter();
-        if leaves.any(|leaf| read.sizes[leaf].allotted_width == 0) {
-            return Err(7);
-        }
+    number(shown(settings, tree).and_then(|read| {
         if output < read.sheet_bytes() {
             return Err(8);
         }
         Ok(())
     }))
+}
+
+/// What the calls on places read first: a sheet that can be printed, or 1 to 7.
+pub fn shown(settings: &[u8], tree: &[u8]) -> Result<Read, u8> {
+    let read = read(settings, tree)?;
+    read.shows()?;
+    Ok(read)
+}
+
+/// The leaf of a place: '12 .. 13 .. both after 6 and 7'.
+pub fn place(settings: &[u8], tree: &[u8], line: usize, column: usize) -> u8 {
+    number(shown(settings, tree).and_then(|read| read.place(line, column)))
 }
 
 /// Either cut of a list with so many pieces.

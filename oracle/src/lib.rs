@@ -5,13 +5,15 @@ pub mod compare;
 pub mod form;
 pub mod gen;
 pub mod judge;
+mod lines;
 pub mod original;
 pub mod paper;
+pub mod places;
 pub mod replay;
 pub mod sides;
 
 pub use form::{
-    encode_margin, encode_settings, encode_tree, Answer, CutPair, Flags, Leaf, Margin, Settings,
-    Size, Tree,
+    encode_margin, encode_settings, encode_tree, Answer, CutPair, Flags, Leaf, Margin, Owner,
+    Owners, Settings, Size, Tree,
 };
 pub use original::{answer, cut, cut3};

@@ -6,13 +6,14 @@ use std::process::ExitCode;
 use oracle::calls::Calls;
 use oracle::compare::Comparison;
 use oracle::sides::{Original, Paper};
-use oracle::{judge, original, replay};
+use oracle::{judge, original, places, replay};
 
 const USAGE: &str = "oracle sheet             the sheet, as the sheet program prints it
 oracle leaves            every node's sizes, every leaf's record and block
 oracle agree [SEED [N]]  the crate against documents 01 and 02, on the exhaustive inputs and N rounds of the random ones
 oracle replay SEED       answers of the crate as the input of the program crates/replay
-oracle faults SEED       the same of crates/replay_faults";
+oracle faults SEED       the same of crates/replay_faults
+oracle places SEED       places and their leaves, as lines (src/places.rs says their form)";
 
 fn main() -> ExitCode {
     let arguments: Vec<String> = std::env::args().skip(1).collect();
@@ -20,8 +21,9 @@ fn main() -> ExitCode {
     match arguments[..] {
         ["sheet"] => sheet(),
         ["leaves"] => leaves(),
-        ["replay", seed] => replayed(seed, 0),
-        ["faults", seed] => replayed(seed, 1),
+        ["replay", seed] => replayed(seed, |seed| replay::lines(seed)[0].clone()),
+        ["faults", seed] => replayed(seed, |seed| replay::lines(seed)[1].clone()),
+        ["places", seed] => replayed(seed, places::lines),
         ["agree", ref rest @ ..] if rest.len() <= 2 => {
             let mut numbers = rest.iter().map(|word| word.parse::<u64>());
             let seed = numbers.next().unwrap_or(Ok(1));
@@ -35,11 +37,11 @@ fn main() -> ExitCode {
     }
 }
 
-fn replayed(seed: &str, part: usize) -> ExitCode {
+fn replayed(seed: &str, lines: fn(u64) -> String) -> ExitCode {
     let Ok(seed) = seed.parse() else {
         return usage();
     };
-    print(replay::lines(seed)[part].as_bytes());
+    print(lines(seed).as_bytes());
     ExitCode::SUCCESS
 }
 

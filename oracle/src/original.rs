@@ -1,6 +1,6 @@
 //! The original's answers: the tables of crate `original` (as published) and of crate `traced` (with trace lines).
 
-use crate::form::{Answer, Cut, Cut3, CutPair, Flags, Leaf, Settings, Size, Tree};
+use crate::form::{Answer, Cut, Cut3, CutPair, Flags, Leaf, Owner, Owners, Settings, Size, Tree};
 
 /// The same few lines over the types of each of the two builds.
 macro_rules! build {
@@ -209,6 +209,56 @@ pub fn answer(settings: &Settings, tree: &Tree) -> Answer {
     let is_wide = answer.leaves.iter().all(|leaf| leaf.width > 0);
     assert!(uneven == 0 || !is_wide, "blocks of unequal size are joined");
     answer
+}
+
+/// Whose each place of the sheet is. The original does not say it, but shows it: it joins its blocks' lines side by side in a Row, one under the other in a Column,
+/// and puts the margin around them. So are their places joined here. Panics where the sheet's byte at a place is not that of its owner's block.
+pub fn owners(settings: &Settings, tree: &Tree, answer: &Answer) -> Owners {
+    /// A place with the byte of the block there.
+    type Place = (Owner, u8);
+
+    fn leaf(leaf: &Leaf) -> Vec<Vec<Place>> {
+        let node = leaf.node;
+        let places = |(line, bytes): (usize, &[u8])| {
+            let bytes = bytes.iter().enumerate();
+            let place = |(column, &byte): (usize, &u8)| (Owner { node, line, column }, byte);
+            bytes.map(place).collect()
+        };
+        let lines = leaf.block.split(|&byte| byte == b'\n').enumerate();
+        lines.map(places).collect()
+    }
+
+    fn joined(tree: &Tree, leaves: &mut std::slice::Iter<Leaf>) -> Vec<Vec<Place>> {
+        let mut children = tree.children().iter();
+        let Some(first) = children.next() else {
+            return leaf(leaves.next().expect("each leaf has a block"));
+        };
+        let mut lines = joined(first, leaves);
+        for child in children {
+            let more = joined(child, leaves);
+            match tree {
+                Tree::Row(_) => {
+                    let pairs = lines.iter_mut().zip(more);
+                    pairs.for_each(|(line, more)| line.extend(more));
+                }
+                _ => lines.extend(more),
+            }
+        }
+        lines
+    }
+
+    let lines = joined(tree, &mut answer.leaves.iter());
+    let [left, _, top, _] = settings.margin.sizes.map(usize::from);
+    let printed: Vec<&[u8]> = answer.sheet.split(|&byte| byte == b'\n').collect();
+    let mut owners: Owners = printed.iter().map(|line| vec![None; line.len()]).collect();
+    for (i, line) in lines.into_iter().enumerate() {
+        for (j, (owner, byte)) in line.into_iter().enumerate() {
+            let (line, column) = (top + i, left + j);
+            assert_eq!(printed[line][column], byte, "another byte than the block's");
+            owners[line][column] = Some(owner);
+        }
+    }
+    owners
 }
 
 /// `short_splits3`. It does not say the pair, but shows it: the pieces taken are counted, and where nothing was removed the list left begins with the

@@ -2,7 +2,7 @@
 //! sentences and shares no code with the crate or the port, so that the crate and the documents can be held side by side by running. The headings
 //! are document 01's.
 
-use crate::form::{Answer, Cut, Cut3, CutPair, Flags, Leaf, Settings, Size, Tree};
+use crate::form::{Answer, Cut, Cut3, CutPair, Flags, Leaf, Owner, Owners, Settings, Size, Tree};
 
 /// A tree laid out by node number.
 struct Nodes<'a> {
@@ -485,6 +485,28 @@ fn sheet(settings: &Settings, nodes: &Nodes, sizes: &[Size], leaves: &[Leaf]) ->
         .map(|line| (0..w).map(|column| byte(line, column)).collect())
         .collect();
     lines.join(&0x0A)
+}
+
+/// Whose each place of the printed sheet is. 'Every byte of every block, its line feeds apart, leads back to that leaf and place': so each of them is gone through,
+/// from its leaf's start on, which counts from the rectangle inside the margin. Panics where two lead to one place.
+pub fn owners(settings: &Settings, tree: &Tree, answer: &Answer) -> Owners {
+    let nodes = Nodes::of(tree);
+    let starts = starts(&nodes, &answer.sizes);
+    let [left, _, top, _] = settings.margin.sizes.map(usize::from);
+    let (w, h) = rectangle(settings, &answer.sizes);
+    let mut owners = vec![vec![None; w]; h];
+    for leaf in &answer.leaves {
+        let node = leaf.node;
+        let (first_line, first_column) = starts[node];
+        for (line, bytes) in lines(&leaf.block).iter().enumerate() {
+            for column in 0..bytes.len() {
+                let place = &mut owners[top + first_line + line][left + first_column + column];
+                let before = place.replace(Owner { node, line, column });
+                assert_eq!(before, None, "a place has two owners");
+            }
+        }
+    }
+    owners
 }
 
 /// All that documents 01 and 02 say about a table, the limits put aside. The sheet is empty where a leaf has width 0.

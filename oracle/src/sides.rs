@@ -1,16 +1,18 @@
 //! Two sides of the calls: the crate and the documents. Both refuse as the judge says.
 
 use crate::calls::{
-    Calls, Counted, CutParts, CutPositions, LeafRecord, ReadMargin, ReadSettings, Shared,
-    SizeRecord, SplitList,
+    Calls, Counted, CutParts, CutPositions, LeafPlace, LeafRecord, ReadMargin, ReadSettings,
+    Shared, SizeRecord, SplitList,
 };
-use crate::form::{Answer, Cut, Cut3, CutPair, Flags, Settings, Tree};
+use crate::form::{Answer, Cut, Cut3, CutPair, Flags, Owner, Owners, Settings, Tree};
 use crate::judge;
 use crate::{original, paper};
 
 /// Where the answers of a side come from; the refusals are the judge's.
 pub trait Answers {
     fn answer(&self, settings: &Settings, tree: &Tree) -> Answer;
+    /// Of a sheet without zero-wide leaves, and its answer.
+    fn owners(&self, settings: &Settings, tree: &Tree, answer: &Answer) -> Owners;
     fn cut3(&self, list: &[usize], width: usize) -> Cut3;
     fn cut(&self, list: &[usize], width: usize) -> Cut;
     fn part(&self, spare: usize, n: usize, priority: u8, index: usize) -> usize;
@@ -27,6 +29,10 @@ pub struct Document;
 impl Answers for Crate {
     fn answer(&self, settings: &Settings, tree: &Tree) -> Answer {
         original::answer(settings, tree)
+    }
+
+    fn owners(&self, settings: &Settings, tree: &Tree, answer: &Answer) -> Owners {
+        original::owners(settings, tree, answer)
     }
 
     fn cut3(&self, list: &[usize], width: usize) -> Cut3 {
@@ -51,6 +57,10 @@ impl Answers for Document {
         paper::answer(settings, tree)
     }
 
+    fn owners(&self, settings: &Settings, tree: &Tree, answer: &Answer) -> Owners {
+        paper::owners(settings, tree, answer)
+    }
+
     fn cut3(&self, list: &[usize], width: usize) -> Cut3 {
         paper::cut3(list, width)
     }
@@ -64,11 +74,52 @@ impl Answers for Document {
     }
 }
 
-/// A side made of answers and the judge's refusals. It keeps its last answer: a comparison asks for every node of one table.
+/// What was worked out for the last bytes of settings and tree.
+#[derive(Debug)]
+struct Last<T> {
+    settings: Vec<u8>,
+    tree: Vec<u8>,
+    kept: T,
+}
+
+impl<T> Last<T> {
+    fn new(settings: &[u8], tree: &[u8], kept: T) -> Option<Last<T>> {
+        let (settings, tree) = (settings.to_vec(), tree.to_vec());
+        Some(Last {
+            settings,
+            tree,
+            kept,
+        })
+    }
+
+    fn is_of(last: &Option<Last<T>>, settings: &[u8], tree: &[u8]) -> bool {
+        last.as_ref()
+            .is_some_and(|last| last.settings == settings && last.tree == tree)
+    }
+}
+
+/// A side made of answers and the judge's refusals. It keeps its last answer and its last sheet: a comparison asks for every node of one table, and for every
+/// place.
 #[derive(Debug, Default)]
 pub struct Side<A> {
     answers: A,
-    last: Option<(Vec<u8>, Vec<u8>, Answer)>,
+    last: Option<Last<Answer>>,
+    sheet: Option<Last<Result<Sheet, u8>>>,
+}
+
+/// A sheet that can be printed.
+#[derive(Debug)]
+struct Sheet {
+    read: judge::Read,
+    owners: Owners,
+}
+
+impl Sheet {
+    /// The owner of a place, or 12 or 13.
+    fn place(&self, line: usize, column: usize) -> Result<Owner, u8> {
+        self.read.place(line, column)?;
+        Ok(self.owners[line][column].expect("a place inside has an owner"))
+    }
 }
 
 /// The crate's answers under the documents' refusals.
@@ -80,19 +131,30 @@ pub type Paper = Side<Document>;
 impl<A: Answers> Side<A> {
     /// The answer for bytes that the judge has accepted.
     fn accepted(&mut self, settings: &[u8], tree: &[u8]) -> &Answer {
-        let is_known = self
-            .last
-            .as_ref()
-            .is_some_and(|(s, t, _)| s == settings && t == tree);
-        if !is_known {
+        if !Last::is_of(&self.last, settings, tree) {
             let read = (judge::read_settings(settings), judge::read_tree(tree));
             let (Ok(settings_read), Ok(tree_read)) = read else {
                 panic!("only accepted bytes have an answer");
             };
             let answer = self.answers.answer(&settings_read, &tree_read);
-            self.last = Some((settings.to_vec(), tree.to_vec(), answer));
+            self.last = Last::new(settings, tree, answer);
         }
-        &self.last.as_ref().expect("an answer was kept").2
+        &self.last.as_ref().expect("an answer was kept").kept
+    }
+
+    /// The sheet, or 1 to 7.
+    fn sheet_of(&mut self, settings: &[u8], tree: &[u8]) -> Result<&Sheet, u8> {
+        if !Last::is_of(&self.sheet, settings, tree) {
+            let sheet = judge::shown(settings, tree).map(|read| {
+                self.accepted(settings, tree);
+                let answer = &self.last.as_ref().expect("an answer was kept").kept;
+                let owners = self.answers.owners(&read.settings, &read.tree, answer);
+                Sheet { read, owners }
+            });
+            self.sheet = Last::new(settings, tree, sheet);
+        }
+        let sheet = &self.sheet.as_ref().expect("a sheet was kept").kept;
+        sheet.as_ref().map_err(|&number| number)
     }
 }
 
@@ -209,6 +271,22 @@ impl<A: Answers> Calls for Side<A> {
             return Counted { number, count: 0 };
         }
         write(&self.accepted(settings, tree).sheet, output)
+    }
+
+    fn place(&mut self, settings: &[u8], tree: &[u8], line: usize, column: usize) -> LeafPlace {
+        let sheet = self.sheet_of(settings, tree);
+        match sheet.and_then(|sheet| sheet.place(line, column)) {
+            Ok(Owner { node, line, column }) => LeafPlace {
+                number: 0,
+                node,
+                line,
+                column,
+            },
+            Err(number) => LeafPlace {
+                number,
+                ..LeafPlace::default()
+            },
+        }
     }
 
     fn short_splits3(&mut self, list: &SplitList, width: u16) -> CutParts {

@@ -1,8 +1,8 @@
 //! The crate against documents 01 and 02, and what the oracle itself rests on. `oracle agree` does more of the first.
 
 use oracle::calls::{
-    Calls, Counted, CutParts, CutPositions, LeafRecord, ReadMargin, ReadSettings, Shared,
-    SizeRecord, SplitList,
+    Calls, Counted, CutParts, CutPositions, LeafPlace, LeafRecord, ReadMargin, ReadSettings,
+    Shared, SizeRecord, SplitList,
 };
 use oracle::compare::{Comparison, Difference, NUMBERS};
 use oracle::gen::{self, Margins, Rng};
@@ -51,6 +51,13 @@ fn limits() {
 #[test]
 fn cases() {
     agree(|comparison| comparison.cases(&mut Rng::new(13), 1500));
+}
+
+#[test]
+fn places() {
+    agree(|comparison| comparison.small_places(4, &gen::few_settings()));
+    agree(|comparison| comparison.two_groups_places(&gen::few_settings()[4..6]));
+    agree(|comparison| comparison.tables_places(&mut Rng::new(22), 60));
 }
 
 #[test]
@@ -173,7 +180,7 @@ struct Faulty {
     fault: u8,
 }
 
-const FAULTS: u8 = 28;
+const FAULTS: u8 = 37;
 
 /// The judge's numbers with the margin and without it: whether only the margin makes a sheet too large.
 fn is_large_by_margin(number: u8, settings: &[u8], tree: &[u8]) -> bool {
@@ -278,6 +285,39 @@ impl Calls for Faulty {
         }
     }
 
+    fn place(&mut self, settings: &[u8], tree: &[u8], line: usize, column: usize) -> LeafPlace {
+        let (line, column) = match self.fault {
+            // Exchanged; 32 bits of each.
+            28 => (column, line),
+            29 => (line as u32 as usize, column as u32 as usize),
+            _ => (line, column),
+        };
+        // The margin not taken off.
+        let settings = match self.fault {
+            30 => &settings[..settings.len().min(31)],
+            _ => settings,
+        };
+        let mut answer = self.paper.place(settings, tree, line, column);
+        match self.fault {
+            // 12 before 7; 12 in the margin; 13 past the sheet's last line, in the margin's columns; a refusal with a leaf.
+            31 if answer.number == 7 && line > judge::SHEET_HEIGHT => answer.number = 12,
+            32 if answer.number == 13 => answer.number = 12,
+            33 if answer.number == 12 && column == 0 => answer.number = 13,
+            34 if answer.number == 12 => answer.node = 1,
+            // Counted from 1; the first column given to the leaf on the left.
+            35 if answer.number == 0 => answer.line += 1,
+            36 if answer.number == 0 && answer.column == 0 && column > 0 => {
+                let left = self.paper.place(settings, tree, line, column - 1);
+                if left.number == 0 {
+                    answer = left;
+                    answer.column += 1;
+                }
+            }
+            _ => {}
+        }
+        answer
+    }
+
     fn short_splits3(&mut self, list: &SplitList, width: u16) -> CutParts {
         let mut answer = self.paper.short_splits3(list, width);
         match self.fault {
@@ -332,7 +372,8 @@ fn faults_are_found() {
             .and_then(|()| comparison.cases(&mut Rng::new(18), 300))
             .and_then(|()| comparison.lists(&mut Rng::new(18), 100))
             .and_then(|()| comparison.shares(&mut Rng::new(18), 4))
-            .and_then(|()| comparison.limits(&mut Rng::new(18), 1));
+            .and_then(|()| comparison.limits(&mut Rng::new(18), 1))
+            .and_then(|()| comparison.small_places(3, &gen::few_settings()));
         assert_eq!(run.is_err(), fault < FAULTS, "fault {fault}");
     }
 }

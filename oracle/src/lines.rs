@@ -1,0 +1,162 @@
+//! Lines for a test program: what they give, and the crate's answers.
+
+use crate::calls::{Calls, LeafRecord, SizeRecord, SplitList};
+use crate::judge;
+use crate::sides::Original;
+
+/// The lines so far, and what the last of them gave.
+#[derive(Default)]
+pub struct Lines {
+    pub text: String,
+    settings: Vec<u8>,
+    tree: Vec<u8>,
+    pub original: Original,
+}
+
+/// Bytes as they stand, all but `\` and those that are not printable, which are `\` and two hex digits.
+fn escaped(bytes: &[u8]) -> String {
+    bytes
+        .iter()
+        .map(|&byte| match byte {
+            b'\\' => format!("\\{byte:02x}"),
+            0x20..=0x7E => char::from(byte).to_string(),
+            _ => format!("\\{byte:02x}"),
+        })
+        .collect()
+}
+
+/// Numbers with a space between them.
+fn words(numbers: &[usize]) -> String {
+    let words: Vec<String> = numbers.iter().map(usize::to_string).collect();
+    words.join(" ")
+}
+
+fn list(list: &SplitList) -> String {
+    if list.count == 0 {
+        return " none".to_string();
+    }
+    list.list()
+        .iter()
+        .map(|piece| format!(" {piece}"))
+        .collect()
+}
+
+fn record(record: &LeafRecord) -> String {
+    let f = &record.flags;
+    let flags = [
+        f.first_row,
+        f.last_row,
+        f.first_col,
+        f.last_col,
+        f.no_right,
+        f.lean_top,
+        f.top_left,
+        f.top_intersection,
+    ];
+    let flags = flags.map(|yes| if yes { 'y' } else { 'n' });
+    let (across, down) = (list(&record.horizontal), list(&record.vertical));
+    let flags: String = flags.iter().collect();
+    format!(
+        "{} by {}, across{across}, down{down}, {flags}, pair {} {}",
+        record.width, record.height, record.pair.taken, record.pair.rest
+    )
+}
+
+impl Lines {
+    fn line(&mut self, kind: char, contents: &str) {
+        self.text += &format!("{kind} {contents}\n");
+    }
+
+    pub fn title(&mut self, title: &str) {
+        self.line('#', title);
+    }
+
+    /// The bytes that the lines after this one are about.
+    pub fn given(&mut self, settings: &[u8], tree: &[u8]) {
+        if self.settings != settings {
+            self.settings = settings.to_vec();
+            self.line('=', &escaped(settings));
+        }
+        if self.tree != tree {
+            self.tree = tree.to_vec();
+            self.line(':', &escaped(tree));
+        }
+    }
+
+    /// A tree whose last bytes are `item`, `n` times.
+    pub fn repeated(&mut self, settings: &[u8], head: &[u8], n: usize, item: &[u8]) {
+        self.given(settings, head);
+        self.line('+', &format!("{n} {}", escaped(item)));
+        self.tree.extend(item.repeat(n));
+    }
+
+    pub fn readers(&mut self) {
+        let settings = self.original.read_settings(&self.settings);
+        let tree = self.original.read_tree(&self.tree);
+        self.line('r', &settings.number.to_string());
+        self.line('t', &format!("{} {}", tree.number, tree.count));
+    }
+
+    pub fn sheet(&mut self) {
+        let mut output = vec![0; (judge::SHEET_WIDTH + 1) * judge::SHEET_HEIGHT];
+        let answer = self.original.sheet(&self.settings, &self.tree, &mut output);
+        match answer.number {
+            0 => self.line('$', &escaped(&output[..answer.count])),
+            number => self.line('%', &number.to_string()),
+        }
+    }
+
+    pub fn leaf(&mut self, node: usize) {
+        self.line('@', &node.to_string());
+        let answer = self.original.leaf_record(&self.settings, &self.tree, node);
+        if answer.number != 0 {
+            return self.line('!', &answer.number.to_string());
+        }
+        let mut output = vec![0; (judge::SHEET_WIDTH + 1) * judge::SHEET_HEIGHT];
+        let block = self
+            .original
+            .leaf(&self.settings, &self.tree, node, &mut output);
+        self.line('?', &record(&answer));
+        self.line('>', &escaped(&output[..block.count]));
+    }
+
+    pub fn sizes(&mut self, node: usize) {
+        let mut list = vec![SizeRecord::default(); judge::NODES];
+        let answer = self.original.sizes(&self.settings, &self.tree, &mut list);
+        assert!(
+            answer.number == 0 && node < answer.count,
+            "sizes of node {node}: {answer:?}"
+        );
+        let z = &list[node];
+        let (natural, allotted) = (
+            (z.natural_width, z.natural_height),
+            (z.allotted_width, z.allotted_height),
+        );
+        self.line('@', &node.to_string());
+        self.line(
+            's',
+            &format!(
+                "{} by {}, {} by {}",
+                natural.0, natural.1, allotted.0, allotted.1
+            ),
+        );
+    }
+
+    /// A place, then the number, the leaf, and the line and column inside its block.
+    pub fn place(&mut self, (line, column): (usize, usize)) {
+        let place = self
+            .original
+            .place(&self.settings, &self.tree, line, column);
+        let answer = [place.number.into(), place.node, place.line, place.column];
+        self.line('p', &format!("{line} {column}, {}", words(&answer)));
+    }
+
+    pub fn places(&mut self, places: &[(usize, usize)]) {
+        places.iter().for_each(|&place| self.place(place));
+    }
+
+    pub fn both(&mut self, node: usize) {
+        self.leaf(node);
+        self.sheet();
+    }
+}
