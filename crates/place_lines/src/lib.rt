@@ -9,7 +9,7 @@ fn is_nth(name: &[u8], found: usize, want: &[u8], k: usize) -> bool {
     found == contents::nth(want, k)
 }
 
-// The place that the line's first two numbers say, and its answer, which is the other four.
+// The place that the first two numbers say, and its answer, which is the other four.
 pub fn place(settings: &[u8], tree: &[u8], want: &[u8]) {
     let line = contents::nth(want, 0);
     let column = contents::nth(want, 1);

@@ -9,7 +9,7 @@
 //   s the node's natural and allotted size
 //   r the settings reader's number      f its 28 fields as bytes    d the default settings' 28 fields as bytes
 //   t the tree reader's number, and the node count
-//   p LINE COLUMN, of a place; the number, the leaf's node, the line and the column inside its block
+//   p LINE COLUMN, then the number, the leaf's node, the line and the column inside its block, for that place of the printed sheet
 mod fields;
 mod kinds;
 mod leaves;
