@@ -15,7 +15,7 @@
  *   4   node 513 met                                         11   share: n = 0 or index >= n
  *   5   depth 17 met                                         12   a line or column outside the printed sheet
  *   6   over 400 columns or 160 lines, the margin included   13   a place in the margin
- *   7   a leaf of the sheet is allotted width 0
+ *   7   a leaf of the sheet is allotted width 0              14   over 256 places
  *
  * Settings and trees are bytes (hex below). docs/FORMS.md has them with pictures, examples and the meaning of each; examples/build.c builds a tree.
  *
@@ -59,6 +59,15 @@ extern "C" {
 #define LEG_LENT_CUT (4 + LEG_LIST)
 #define LEG_PLACE 3
 
+/* leg_places takes up to LEG_PLACES places, each a number that LEG_AT makes of a line and a column, and writes as many answers, of which LEG_NODE, LEG_LINE and
+ * LEG_COLUMN are the parts. A line or column past 32 bits counts as the greatest of 32 bits: both are outside every sheet. */
+#define LEG_PLACES 256
+#define LEG_32(n) ((uint64_t)(n) < 0xFFFFFFFFu ? (uint64_t)(n) : 0xFFFFFFFFu)
+#define LEG_AT(line, column) (LEG_32(line) << 32 | LEG_32(column))
+#define LEG_NODE(answer) ((size_t)((answer) >> 32))
+#define LEG_LINE(answer) ((size_t)((answer) >> 16 & 0xFFFFu))
+#define LEG_COLUMN(answer) ((size_t)((answer) & 0xFFFFu))
+
 /* Reads settings of 31 or 42 bytes. 1, 8. Writes the 28 numbers after the first tag and length: 15 marks; padding left, right, top, bottom;
  * their fills; horizontal and vertical alignment; line mode; width and height priority. Counts 28. */
 uint64_t leg_read_settings(const uint8_t *bytes, size_t bytes_len, uint16_t *out, size_t out_len);
@@ -89,6 +98,11 @@ uint64_t leg_print_sheet(const uint8_t *settings, size_t settings_len, const uin
 /* From a place to its leaf: line `line`, column `column` of the sheet as printed, both counted from 0, the margin included. 1 to 7, 12, 13; 8 last, where `out`
  * has under LEG_PLACE numbers. Writes the leaf's node, and the line and the column inside its block. Counts LEG_PLACE. */
 uint64_t leg_place(const uint8_t *settings, size_t settings_len, const uint8_t *tree, size_t tree_len, size_t line, size_t column, uint16_t *out, size_t out_len);
+
+/* The leaves of many places, in one walk over the tree, each as leg_place answers it alone; in any order, repeats allowed. 1 to 7; 14 by the count alone; the 12 or
+ * 13 of the first place that has one; 8 last, where `answers` has fewer numbers than `places`. Writes an answer for each place, in the order of the places, and to
+ * `read` how many elements the walk read: the tree's nodes, even for no places. Counts the answers. */
+uint64_t leg_places(const uint8_t *settings, size_t settings_len, const uint8_t *tree, size_t tree_len, const uint64_t *places, size_t places_len, uint64_t *answers, size_t answers_len, uint64_t *read);
 
 /* Cuts the list of the first `count` of `pieces` at `w`; numbers past them are not looked at. 10; 8 where `pieces` has under `count` numbers or `out` under
  * LEG_CUT. Writes yes or no (1 or 0); the cut's pair: how many pieces it took, and the length left of the first piece not taken, 0 if there is none or it

@@ -2,12 +2,12 @@
 //! whatever a refusal writes, or a result past its end, shows. What was written is read by the library's own records.
 
 use leg_sheet::calls::{self, CUT, LENT_CUT, LIST, MARGIN, PIECES, SETTINGS, SIZES};
-use leg_sheet::List;
+use leg_sheet::{List, Place};
 use oracle::calls::{
-    Calls, Counted, CutParts, CutPositions, LeafPlace, LeafRecord, ReadMargin, ReadSettings,
-    Shared, SizeRecord, SplitList,
+    Calls, Counted, CutParts, CutPositions, LeafPlace, LeafRecord, Marked, ReadMargin,
+    ReadSettings, Shared, SizeRecord, SplitList,
 };
-use oracle::form::{encode_record, encode_settings, CutPair, Flags, Margin, Settings};
+use oracle::form::{encode_record, encode_settings, CutPair, Flags, Margin, Owner, Settings};
 
 use crate::lent::{self, canary, number, sound, Answer, Lent, Writes, MORE};
 
@@ -77,6 +77,19 @@ fn pair_of(pair: leg_sheet::CutPair) -> CutPair {
     CutPair {
         taken: pair.taken,
         rest: pair.rest.into(),
+    }
+}
+
+/// An answer for a place, by the header's form.
+fn number_of(owner: &Owner) -> u64 {
+    (owner.node as u64) * (1 << 32) + (owner.line as u64) * (1 << 16) + owner.column as u64
+}
+
+fn owner_of(leaf: leg_sheet::LeafPlace) -> Owner {
+    Owner {
+        node: leaf.node,
+        line: leaf.line,
+        column: leaf.column,
     }
 }
 
@@ -158,12 +171,40 @@ impl Calls for Library {
 
     fn place(&mut self, settings: &[u8], tree: &[u8], line: usize, column: usize) -> LeafPlace {
         let (number, out) = lent::record(|out| calls::place(settings, tree, line, column, out));
-        let found = leg_sheet::LeafPlace::from_numbers(out);
+        let Owner { node, line, column } = owner_of(leg_sheet::LeafPlace::from_numbers(out));
         LeafPlace {
             number,
-            node: found.node,
-            line: found.line,
-            column: found.column,
+            node,
+            line,
+            column,
+        }
+    }
+
+    /// Three numbers more than the answers lent stand behind them, and must stay.
+    fn places(
+        &mut self,
+        settings: &[u8],
+        tree: &[u8],
+        places: &[(usize, usize)],
+        answers: &mut [Owner],
+    ) -> Marked {
+        let place = |&(line, column): &(usize, usize)| Place { line, column }.to_number();
+        let places: Vec<u64> = places.iter().map(place).collect();
+        let numbers: Vec<u64> = answers.iter().map(number_of).collect();
+        let mut lent = Lent::new(&numbers, numbers.len() + MORE);
+        let before = canary(0);
+        let mut read = before;
+        let list = &mut lent.list[..numbers.len()];
+        let answer = calls::places(settings, tree, &places, list, &mut read);
+        for (owner, &number) in answers.iter_mut().zip(list.iter()) {
+            *owner = owner_of(leg_sheet::LeafPlace::from_number(number));
+        }
+        let Counted { number, count } = counted(answer);
+        let is_kept = lent.kept(numbers.len()) && (number == 0 || read == before);
+        Marked {
+            number: sound(number, is_kept),
+            count,
+            read: if number == 0 { read as usize } else { 0 },
         }
     }
 

@@ -36,6 +36,8 @@ pub const CUT: usize = 3 + 2 * LIST;
 pub const LENT_CUT: usize = 4 + LIST;
 /// The leaf of a place: its node, the line and the column inside its block.
 pub const PLACE: usize = 3;
+/// The places of one call at the most.
+pub const PLACES: usize = 256;
 /// The largest sheet or block: 160 lines of 400 columns, the margin included, with a line feed between them.
 pub const SHEET: usize = 401 * 160 - 1;
 /// The nodes of a tree at the most.
@@ -185,6 +187,35 @@ pub fn place(
             column,
             out.as_mut_ptr(),
             out.len(),
+        )
+    })
+}
+
+/// Writes an answer for each of up to [`PLACES`] places, in their order, each as [`place`] answers it alone, and to `read` how many elements the one walk over the
+/// tree read. Counts the answers. [`Place::to_number`](crate::Place::to_number) puts a place into a number, and [`LeafPlace::from_number`](crate::LeafPlace::from_number)
+/// reads an answer.
+///
+/// # Errors
+/// 1 to 7, 14, the 12 or 13 of the first place that has one, 8.
+pub fn places(
+    settings: &[u8],
+    tree: &[u8],
+    places: &[u64],
+    answers: &mut [u64],
+    read: &mut u64,
+) -> Result<usize, Refusal> {
+    // SAFETY: pointers and lengths of slices, and a pointer to a number, that are borrowed here.
+    answer(unsafe {
+        raw::leg_places(
+            settings.as_ptr(),
+            settings.len(),
+            tree.as_ptr(),
+            tree.len(),
+            places.as_ptr(),
+            places.len(),
+            answers.as_mut_ptr(),
+            answers.len(),
+            read,
         )
     })
 }

@@ -1,7 +1,7 @@
 //! Settings and tree together, as bytes.
 
 use crate::calls;
-use crate::records::{LeafPlace, LeafRecord, SizeRecord};
+use crate::records::{LeafPlace, LeafRecord, Marked, Place, SizeRecord};
 use crate::refusal::Refusal;
 use crate::tree;
 
@@ -91,6 +91,23 @@ impl<'a> Input<'a> {
         let mut out = [0; calls::PLACE];
         calls::place(self.settings, self.tree, line, column, &mut out)?;
         Ok(LeafPlace::from_numbers(out))
+    }
+
+    /// The leaves of up to 256 places, in their order, each as [`place`](Input::place) answers it alone.
+    ///
+    /// # Errors
+    /// 1 to 7, 14, then the 12 or 13 of the first place that has one.
+    pub fn places(self, places: &[Place]) -> Result<Marked, Refusal> {
+        // One too many is refused as all of them are.
+        let list = places.iter().take(calls::PLACES + 1);
+        let numbers: Vec<u64> = list.map(|place| place.to_number()).collect();
+        let (mut answers, mut read) = ([0; calls::PLACES], 0);
+        let count = calls::places(self.settings, self.tree, &numbers, &mut answers, &mut read)?;
+        let written = answers.into_iter().take(count);
+        Ok(Marked {
+            answers: written.map(LeafPlace::from_number).collect(),
+            read: read as usize,
+        })
     }
 }
 

@@ -36,14 +36,14 @@ mod values;
 
 pub use input::Input;
 pub use records::{
-    CutAnswer, CutPair, CutParts, Flags, LeafPlace, LeafRecord, List, Positions, ShortParts,
-    SizeRecord, SplitList,
+    CutAnswer, CutPair, CutParts, Flags, LeafPlace, LeafRecord, List, Marked, Place, Positions,
+    ShortParts, SizeRecord, SplitList,
 };
 pub use refusal::Refusal;
 pub use settings::{Alignment, Priority, Settings, Sides};
 pub use tree::Tree;
 pub use values::{
-    leaf_record, place, print_leaf, print_sheet, share, short_splits, short_splits3,
+    leaf_record, place, places, print_leaf, print_sheet, share, short_splits, short_splits3,
     short_splits3_in_place, sizes,
 };
 

@@ -66,6 +66,18 @@ extern "C" {
         out_len: usize,
     ) -> u64;
 
+    pub fn leg_places(
+        settings: *const u8,
+        settings_len: usize,
+        tree: *const u8,
+        tree_len: usize,
+        places: *const u64,
+        places_len: usize,
+        answers: *mut u64,
+        answers_len: usize,
+        read: *mut u64,
+    ) -> u64;
+
     pub fn leg_short_splits3(
         pieces: *const u16,
         pieces_len: usize,

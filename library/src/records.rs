@@ -171,6 +171,24 @@ impl LeafRecord {
     }
 }
 
+/// A place of the printed sheet, its margin included: a line and a column, counted from 0.
+#[derive(Debug, Clone, Copy, Default, PartialEq, Eq, Hash)]
+#[allow(missing_docs)]
+pub struct Place {
+    pub line: usize,
+    pub column: usize,
+}
+
+impl Place {
+    /// The place as [`calls::places`](crate::calls::places) takes it: the line above 32 bits, the column below. One that does not fit is put as the greatest that
+    /// does, which is outside every sheet, too.
+    #[must_use]
+    pub fn to_number(self) -> u64 {
+        let [line, column] = [self.line, self.column].map(|n| u32::try_from(n).unwrap_or(u32::MAX));
+        u64::from(line) << 32 | u64::from(column)
+    }
+}
+
 /// The leaf of a place: each place of a sheet inside its margin lies in the block of one leaf.
 ///
 /// The first line and column of a block are 0 and 0: its top-left mark.
@@ -191,6 +209,25 @@ impl LeafPlace {
         let [node, line, column] = numbers.map(usize::from);
         LeafPlace { node, line, column }
     }
+
+    /// An answer of [`calls::places`](crate::calls::places): the node above 32 bits, then the line, and the column in the lowest 16.
+    #[must_use]
+    pub const fn from_number(answer: u64) -> LeafPlace {
+        LeafPlace {
+            node: (answer >> 32) as usize,
+            line: (answer >> 16) as u16 as usize,
+            column: answer as u16 as usize,
+        }
+    }
+}
+
+/// The leaves of many places.
+#[derive(Debug, Clone, PartialEq, Eq, Hash)]
+pub struct Marked {
+    /// The leaf of each place, in the order of the places.
+    pub answers: Vec<LeafPlace>,
+    /// The elements that the one walk over the tree read: as many as it has nodes.
+    pub read: usize,
 }
 
 /// What `short_splits3` answers.

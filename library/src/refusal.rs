@@ -67,6 +67,7 @@ refusals! {
     11 NoChild "there are no children to share among, or the index is past them",
     12 OutsideSheet "the line or column is outside the printed sheet",
     13 InMargin "the place is in the sheet's margin",
+    14 TooManyPlaces "there are over 256 places",
 }
 
 impl Refusal {

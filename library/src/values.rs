@@ -2,7 +2,9 @@
 
 use crate::calls::{self, CUT, LENT_CUT, LIST};
 use crate::input::Input;
-use crate::records::{CutAnswer, CutParts, LeafPlace, LeafRecord, List, ShortParts, SizeRecord};
+use crate::records::{
+    CutAnswer, CutParts, LeafPlace, LeafRecord, List, Marked, Place, ShortParts, SizeRecord,
+};
 use crate::refusal::Refusal;
 use crate::settings::{Priority, Settings};
 use crate::tree::Tree;
@@ -114,6 +116,29 @@ pub fn place(
     column: usize,
 ) -> Result<LeafPlace, Refusal> {
     on_bytes(settings, tree, |input| input.place(line, column))
+}
+
+/// The leaves of up to 256 places, answered in one walk over the tree: in the order given, repeats allowed, each as [`place`] answers it alone.
+///
+/// ```
+/// use leg_sheet::{place, places, Place, Refusal, Settings, Tree};
+///
+/// let (settings, tree) = (Settings::default(), Tree::row(["1", "Home pad"]));
+/// let [pad, one] = [Place { line: 1, column: 6 }, Place { line: 1, column: 2 }];
+/// let marked = places(&settings, &tree, &[pad, one, pad])?;
+/// let nodes: Vec<usize> = marked.answers.iter().map(|leaf| leaf.node).collect();
+/// assert_eq!((nodes, marked.read), (vec![2, 1, 2], 3));
+/// assert_eq!(marked.answers[0], place(&settings, &tree, 1, 6)?);
+///
+/// let far = Place { line: usize::MAX, column: 0 };
+/// assert_eq!(places(&settings, &tree, &[pad, far]), Err(Refusal::OutsideSheet));
+/// # Ok::<(), Refusal>(())
+/// ```
+///
+/// # Errors
+/// 2 to 7, 14, then the 12 or 13 of the first place that has one.
+pub fn places(settings: &Settings, tree: &Tree, places: &[Place]) -> Result<Marked, Refusal> {
+    on_bytes(settings, tree, |input| input.places(places))
 }
 
 /// Cuts a list of pieces at a width, a line between neighbours.

@@ -1,11 +1,11 @@
-//! The calls on lent buffers by themselves: figure F1 of document 01, refusals, what they leave of a lent output, where the pair of a cut stands, the leaf of a
-//! place, and priorities that no settings have.
+//! The calls on lent buffers by themselves: figure F1 of document 01, refusals, what they leave of a lent output, where the pair of a cut stands, the leaves of
+//! places, and priorities that no settings have.
 
 use leg_sheet::calls::{
-    leaf_record, place, print_sheet, read_margin, read_settings, share, short_splits3,
+    leaf_record, place, places, print_sheet, read_margin, read_settings, share, short_splits3,
     short_splits3_lent, CUT, LENT_CUT, LIST, MARGIN, PLACE, RECORD, SETTINGS,
 };
-use leg_sheet::Refusal;
+use leg_sheet::{Place, Refusal};
 
 /// The figures' set D: the default marks, List stated.
 const D: &[u8; 31] = b"\x10\x00\x1C--||-|+++++++++\x01\x01\x00\x00    \x00\x00\x00\x02\x02";
@@ -130,6 +130,42 @@ fn a_place_has_its_leaf() {
         assert_eq!(read(&edged, far, 0, 4), refused(12));
         assert_eq!(read(&edged[..41], far, far, 4), refused(1));
     }
+}
+
+/// The forms of the header: a place is its line × 2^32 + its column, an answer node × 2^32 + line × 2^16 + column. What is past the answers stays; a refusal leaves
+/// the answers and the elements read. 8 comes last.
+#[test]
+fn places_have_their_leaves() {
+    const LENT: u64 = 0xA5A5_A5A5_A5A5_A5A5;
+    let row = b"\x02\x00\x08\x01\x00\x01a\x01\x00\x01b";
+    let read = |list: &[u64], length: usize| {
+        let (mut answers, mut read) = ([LENT; 4], LENT);
+        let answer = places(D, row, list, &mut answers[..length], &mut read);
+        (answer.map_err(Refusal::number), answers, read)
+    };
+    let refused = |number: u8| (Err(number), [LENT; 4], LENT);
+    let (b, a) = ((1 << 32) + 6, 2 << 32);
+    let (in_b, in_a) = ((2 << 32) + (1 << 16) + 2, (1 << 32) + (2 << 16));
+    assert_eq!(read(&[b, a, b], 4), (Ok(3), [in_b, in_a, in_b, LENT], 3));
+    assert_eq!(read(&[b, a, b], 3), (Ok(3), [in_b, in_a, in_b, LENT], 3));
+    assert_eq!(read(&[], 0), (Ok(0), [LENT; 4], 3));
+    assert_eq!(read(&[b, a], 1), refused(8));
+    assert_eq!(read(&[b, 3 << 32], 0), refused(12));
+    assert_eq!(read(&[u64::MAX], 4), refused(12));
+    assert_eq!(read(&[u64::MAX; 257], 0), refused(14));
+}
+
+/// A line or column past 32 bits is put as the greatest number of them, and not as what is left of it there.
+#[test]
+fn a_place_is_one_number() {
+    let number = |line: usize, column: usize| Place { line, column }.to_number();
+    const MOST: u64 = u32::MAX as u64;
+    assert_eq!(number(0, 0), 0);
+    assert_eq!(number(5, 7), 5 * (1 << 32) + 7);
+    assert_eq!(number(u32::MAX as usize, 1), (MOST << 32) + 1);
+    assert_eq!(number(1 << 32, 1), (MOST << 32) + 1);
+    assert_eq!(number(1, (1 << 32) + 1), (1 << 32) + MOST);
+    assert_eq!(number(usize::MAX, usize::MAX), u64::MAX);
 }
 
 /// The header: 'Priority 0 is First, 1 Last, 2 and every other number List.'

@@ -1,9 +1,9 @@
 //! Settings and trees as values, and what the calls on them answer.
 
 use leg_sheet::{
-    leaf_record, place, print_leaf, print_sheet, share, short_splits, short_splits3,
-    short_splits3_in_place, sizes, Alignment, CutPair, Input, LeafPlace, Priority, Refusal,
-    Settings, Sides, SizeRecord, Tree,
+    leaf_record, place, places, print_leaf, print_sheet, share, short_splits, short_splits3,
+    short_splits3_in_place, sizes, Alignment, CutPair, Input, LeafPlace, Marked, Place, Priority,
+    Refusal, Settings, Sides, SizeRecord, Tree,
 };
 
 /// The record of the defaults.
@@ -298,6 +298,53 @@ fn every_byte_leads_back() {
     assert!(blocks.values().all(|&left| left == 0));
 }
 
+/// Document 02, 6: places of figure F2 with a margin, answered together.
+#[test]
+fn places_are_marked_together() {
+    let edged = figures_m(Sides {
+        left: 2,
+        ..Sides::all(1)
+    });
+    let marked = |list: &[(usize, usize)]| {
+        let list: Vec<Place> = list
+            .iter()
+            .map(|&(line, column)| Place { line, column })
+            .collect();
+        places(&edged, &figure_2(), &list).map_err(Refusal::number)
+    };
+    let leaf = |node: usize, line: usize, column: usize| LeafPlace { node, line, column };
+    let all = |answers: Vec<LeafPlace>| Ok(Marked { answers, read: 5 });
+    assert_eq!(marked(&[]), all(vec![]));
+    let (b, first) = (leaf(4, 2, 0), leaf(1, 0, 0));
+    assert_eq!(marked(&[(5, 7), (1, 2), (5, 7)]), all(vec![b, first, b]));
+    assert_eq!(marked(&[(5, 7), (0, 0), (9, 9)]), Err(13));
+    assert_eq!(marked(&[(5, 7), (9, 9), (0, 0)]), Err(12));
+    assert_eq!(marked(&[(1, 2); 256]), all(vec![first; 256]));
+    assert_eq!(marked(&[(1, 2); 257]), Err(14));
+    assert_eq!(marked(&[(9, 9); 1000]), Err(14));
+
+    // As many lines or columns further as 32 bits count are outside all the same.
+    for (line, column) in [(1 << 32, 0), (0, 1 << 32), (1 << 32, 1 << 32)] {
+        assert_eq!(marked(&[(1, 2), (1 + line, 2 + column)]), Err(12));
+    }
+}
+
+/// Document 02, 6: 'each exactly as if it had been put alone'.
+#[test]
+fn places_are_answered_as_alone() {
+    let (settings, tree) = (figures_m(Sides::all(0)), figure_2());
+    let list: Vec<Place> = (0..50)
+        .map(|at| Place {
+            line: at * 3 % 5,
+            column: at * 7 % 10,
+        })
+        .collect();
+    let marked = places(&settings, &tree, &list).expect("places of the sheet");
+    let alone = |&Place { line, column }: &Place| place(&settings, &tree, line, column);
+    let alone: Result<Vec<LeafPlace>, Refusal> = list.iter().map(alone).collect();
+    assert_eq!(Ok(marked.answers), alone);
+}
+
 /// The margin is around the sheet, and counts for its limits alone.
 #[test]
 fn margins() {
@@ -356,6 +403,10 @@ fn every_call_is_refused() {
     let bare = settings.with_padding(Sides::all(0)).expect("a padding");
     let empty = Tree::row(["a", ""]);
     assert_eq!(place(&bare, &empty, 9, 9), Err(Refusal::ZeroWidth));
+    let many = [Place::default(); 257];
+    assert_eq!(places(&settings, &bad, &many), Err(Refusal::BadText));
+    assert_eq!(places(&settings, &wide, &many), Err(Refusal::TooLarge));
+    assert_eq!(places(&bare, &empty, &many), Err(Refusal::ZeroWidth));
     assert_eq!(share(7, 0, Priority::List, 0), Err(Refusal::NoChild));
     assert_eq!(short_splits3(&[1; 513], 0), Err(Refusal::TooManyPieces));
     assert_eq!(short_splits(&[1; 513], 0), Err(Refusal::TooManyPieces));

@@ -3,7 +3,7 @@
 //!
 //! On a refusal every field beside the number is 0 or no, and no lent list or output is written.
 
-use crate::form::{CutPair, Flags, Margin, Settings};
+use crate::form::{CutPair, Flags, Margin, Owner, Settings};
 use crate::judge;
 
 /// A number and the settings.
@@ -98,6 +98,14 @@ pub struct LeafPlace {
     pub column: usize,
 }
 
+/// A number, the count of answers written and the elements read.
+#[derive(Debug, Clone, Copy, Default, PartialEq, Eq)]
+pub struct Marked {
+    pub number: u8,
+    pub count: usize,
+    pub read: usize,
+}
+
 /// What `short_splits3` answers.
 #[derive(Debug, Clone, PartialEq, Eq)]
 pub struct CutParts {
@@ -158,6 +166,15 @@ pub trait Calls {
 
     /// The leaf of a place of the sheet as printed.
     fn place(&mut self, settings: &[u8], tree: &[u8], line: usize, column: usize) -> LeafPlace;
+
+    /// The leaves of many places, in their order.
+    fn places(
+        &mut self,
+        settings: &[u8],
+        tree: &[u8],
+        places: &[(usize, usize)],
+        answers: &mut [Owner],
+    ) -> Marked;
 
     fn short_splits3(&mut self, list: &SplitList, width: u16) -> CutParts;
 

@@ -4,7 +4,7 @@ use std::collections::BTreeMap;
 use std::fmt;
 
 use crate::calls::{Calls, SizeRecord, SplitList};
-use crate::form::{encode_margin, encode_settings, encode_tree, Margin, Settings, Tree};
+use crate::form::{encode_margin, encode_settings, encode_tree, Margin, Owner, Settings, Tree};
 use crate::gen::{self, Case, Margins, Rng};
 use crate::judge;
 
@@ -48,7 +48,7 @@ impl Counts {
 }
 
 /// The numbers that each call can give, by the documents' tables.
-pub const NUMBERS: [(&str, &[u8]); 12] = [
+pub const NUMBERS: [(&str, &[u8]); 13] = [
     ("settings", &[0, 1]),
     ("margin", &[0, 1]),
     ("tree", &[0, 2, 3, 4, 5]),
@@ -57,6 +57,7 @@ pub const NUMBERS: [(&str, &[u8]); 12] = [
     ("leaf", &[0, 1, 2, 3, 4, 5, 6, 8, 9]),
     ("sheet", &[0, 1, 2, 3, 4, 5, 6, 7, 8]),
     ("place", &[0, 1, 2, 3, 4, 5, 6, 7, 12, 13]),
+    ("places", &[0, 1, 2, 3, 4, 5, 6, 7, 8, 12, 13, 14]),
     ("short_splits3", &[0, 10]),
     ("short_splits3, lent", &[0, 10]),
     ("short_splits", &[0, 10]),
@@ -136,6 +137,17 @@ fn junk_sizes(length: usize) -> Vec<SizeRecord> {
             natural_height: number(4 * at + 1),
             allotted_width: number(4 * at + 2),
             allotted_height: number(4 * at + 3),
+        })
+        .collect()
+}
+
+/// What a lent list of answers holds before a call.
+fn junk_owners(length: usize) -> Vec<Owner> {
+    (0..length)
+        .map(|at| Owner {
+            node: at ^ 0xA5A5_A5A5,
+            line: at ^ 0xA5A5,
+            column: at ^ 0x5A5A,
         })
         .collect()
 }
@@ -288,20 +300,67 @@ impl<'a> Comparison<'a> {
         )
     }
 
-    /// Every place of the printed sheet, and those one past it, to the right and below; then far ones. Of a sheet that is refused the far ones, and the first.
+    /// Many places, with so many answers lent.
+    fn mark(
+        &mut self,
+        settings: &[u8],
+        tree: &[u8],
+        places: &[(usize, usize)],
+        length: usize,
+    ) -> Result<(), Difference> {
+        self.call(
+            "places",
+            || {
+                let (settings, tree) = (bytes(settings), bytes(tree));
+                format!("{settings} {tree} places {places:?} lent {length}")
+            },
+            |side| {
+                let mut answers = junk_owners(length);
+                let answer = side.places(settings, tree, places, &mut answers);
+                (answer.number, (answer, answers))
+            },
+        )
+    }
+
+    /// Every place of the printed sheet, and those one past it, to the right and below; then far ones; then those inside the margin together, last to first, as
+    /// many as a list may have. Of a sheet that is refused the far ones, and the first.
     pub fn places(&mut self, settings: &Settings, tree: &Tree) -> Result<(), Difference> {
         let [left, _, top, _] = settings.margin.sizes.map(usize::from);
         let (settings, tree) = (encode_settings(settings), encode_tree(tree));
-        let (w, h) = judge::shown(&settings, &tree).map_or((0, 0), |read| read.rectangle());
-        for line in 0..=h {
-            for column in 0..=w {
+        let sheet = judge::shown(&settings, &tree);
+        let (w, h) = sheet.as_ref().map_or((0, 0), judge::Read::rectangle);
+        let mut inside = Vec::new();
+        for line in (0..=h).rev() {
+            for column in (0..=w).rev() {
                 self.place(&settings, &tree, (line, column))?;
+                if (sheet.as_ref()).is_ok_and(|sheet| sheet.place(line, column).is_ok()) {
+                    inside.push((line, column));
+                }
             }
         }
         for place in gen::far_from((top, left)) {
             self.place(&settings, &tree, place)?;
         }
+        for places in inside.chunks(judge::PLACES) {
+            self.mark(&settings, &tree, places, places.len() + 3)?;
+        }
         Ok(())
+    }
+
+    /// Lists of no place, of one, and of as many as a list may have, one less and one more, of a sheet that can be printed; with three answers more than are
+    /// needed, as many, and one less. Last too many that are outside.
+    fn marks(&mut self, rng: &mut Rng, settings: &[u8], tree: &[u8]) -> Result<(), Difference> {
+        let Ok(read) = judge::shown(settings, tree) else {
+            return Ok(());
+        };
+        for count in [0, 1, judge::PLACES - 1, judge::PLACES, judge::PLACES + 1] {
+            let places = gen::insides(rng, &read, count);
+            for length in [count + 3, count, count.saturating_sub(1)] {
+                self.mark(settings, tree, &places, length)?;
+            }
+        }
+        let outside = [(usize::MAX, 0); judge::PLACES + 1];
+        self.mark(settings, tree, &outside, 0)
     }
 
     /// Every call, once.
@@ -509,7 +568,7 @@ impl<'a> Comparison<'a> {
                     for _ in 0..4 {
                         let case = gen::case(rng, settings.clone(), tree.clone());
                         self.case(&case)?;
-                        self.any_place(rng, &case)?;
+                        self.any_places(rng, &case)?;
                     }
                 }
             }
@@ -531,6 +590,7 @@ impl<'a> Comparison<'a> {
         for _ in 0..rounds {
             let (settings, tree) = gen::table(rng, Margins::Half);
             self.places(&settings, &tree)?;
+            self.marks(rng, &encode_settings(&settings), &encode_tree(&tree))?;
         }
         Ok(())
     }
@@ -540,15 +600,20 @@ impl<'a> Comparison<'a> {
         for _ in 0..rounds {
             let case = gen::any_case(rng, Margins::Half);
             self.case(&case)?;
-            self.any_place(rng, &case)?;
+            self.any_places(rng, &case)?;
         }
         Ok(())
     }
 
-    /// A random place of a case.
-    fn any_place(&mut self, rng: &mut Rng, case: &Case) -> Result<(), Difference> {
-        let place = gen::place(rng, &case.settings, &case.tree);
-        self.place(&case.settings, &case.tree, place)
+    /// A random place of a case, and a random list of them, with a length around theirs.
+    fn any_places(&mut self, rng: &mut Rng, case: &Case) -> Result<(), Difference> {
+        let (settings, tree) = (&case.settings, &case.tree);
+        let (place, places) = match judge::read(settings, tree) {
+            Ok(read) => (gen::place(rng, &read), gen::places(rng, &read)),
+            Err(_) => ((0, 9), vec![(9, 0); rng.pick(&[0, 1, 257])]),
+        };
+        self.place(settings, tree, place)?;
+        self.mark(settings, tree, &places, gen::around(rng, places.len()))
     }
 
     /// Every list of up to three pieces of 0 to 4 at widths 0 to 9, lists of 511 and 512 equal pieces, then so many random ones, each also

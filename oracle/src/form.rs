@@ -226,7 +226,7 @@ pub struct Leaf {
 }
 
 /// Whose a place is (document 02, 5): 'the leaf's number and the line and column inside its block'.
-#[derive(Debug, Clone, Copy, PartialEq, Eq)]
+#[derive(Debug, Clone, Copy, Default, PartialEq, Eq)]
 pub struct Owner {
     pub node: usize,
     pub line: usize,

@@ -646,7 +646,7 @@ pub struct Case {
 }
 
 /// A length around what is needed: exact, one short, none, more, or any.
-fn around(rng: &mut Rng, needed: usize) -> usize {
+pub fn around(rng: &mut Rng, needed: usize) -> usize {
     match rng.below(6) {
         0 => needed.saturating_sub(1),
         1 => 0,
@@ -731,16 +731,51 @@ fn coordinate(rng: &mut Rng, before: usize, inside: usize, all: usize) -> usize 
 }
 
 /// A place of a sheet, or outside it.
-pub fn place(rng: &mut Rng, settings: &[u8], tree: &[u8]) -> (usize, usize) {
-    let Ok(read) = judge::read(settings, tree) else {
-        return (rng.below(9), rng.below(9));
-    };
+pub fn place(rng: &mut Rng, read: &judge::Read) -> (usize, usize) {
     let [left, right, top, bottom] = read.settings.margin.sizes.map(usize::from);
     let (w, h) = read.rectangle();
     (
         coordinate(rng, top, h - top - bottom, h),
         coordinate(rng, left, w - left - right, w),
     )
+}
+
+/// A place of a sheet inside its margin.
+fn inside(rng: &mut Rng, read: &judge::Read) -> (usize, usize) {
+    let [left, right, top, bottom] = read.settings.margin.sizes.map(usize::from);
+    let (w, h) = read.rectangle();
+    (
+        rng.between(top, h - bottom - 1),
+        rng.between(left, w - right - 1),
+    )
+}
+
+/// So many places of a sheet inside its margin, each third one a repeat.
+pub fn insides(rng: &mut Rng, read: &judge::Read, count: usize) -> Vec<(usize, usize)> {
+    let mut list = Vec::new();
+    while list.len() < count {
+        let place = if list.is_empty() || !rng.one_in(3) {
+            inside(rng, read)
+        } else {
+            rng.pick(&list)
+        };
+        list.push(place);
+    }
+    list
+}
+
+/// Places of a sheet, a few or about 256, mostly inside its margin; in half of the lists one to three are any.
+pub fn places(rng: &mut Rng, read: &judge::Read) -> Vec<(usize, usize)> {
+    let few = rng.between(0, 20);
+    let count = rng.pick(&[0, 1, few, few, few, 255, 256, 257]);
+    let mut list = insides(rng, read, count);
+    if count > 0 && rng.one_in(2) {
+        for _ in 0..rng.between(1, 3) {
+            let at = rng.below(count);
+            list[at] = place(rng, read);
+        }
+    }
+    list
 }
 
 /// Pieces and a width for the cuts: short lists, full ones, widths around the sums.

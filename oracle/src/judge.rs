@@ -10,6 +10,7 @@ pub const DEPTH: usize = 16;
 pub const SHEET_WIDTH: usize = 400;
 pub const SHEET_HEIGHT: usize = 160;
 pub const PIECES: usize = 512;
+pub const PLACES: usize = 256;
 
 /// 'Each is hex 20 to 7E.'
 fn is_mark(byte: u8) -> bool {
@@ -262,6 +263,21 @@ impl Read {
         }
     }
 
+    /// '14 for a list over 256, .. before any place is looked at'; 'the first place that would be refused alone refuses the list'; 'a short answer list is 8, after
+    /// the places'.
+    pub fn places(&self, places: &[(usize, usize)], list: usize) -> Result<(), u8> {
+        if places.len() > PLACES {
+            return Err(14);
+        }
+        for &(line, column) in places {
+            self.place(line, column)?;
+        }
+        if list < places.len() {
+            return Err(8);
+        }
+        Ok(())
+    }
+
     /// The leaf that a number names, or 9.
     fn leaf(&self, node: usize) -> Result<LeafNode, u8> {
         let mut leaves = leaf_nodes(&self.tree).into_iter();
@@ -357,6 +373,11 @@ pub fn shown(settings: &[u8], tree: &[u8]) -> Result<Read, u8> {
 /// The leaf of a place: '12 .. 13 .. both after 6 and 7'.
 pub fn place(settings: &[u8], tree: &[u8], line: usize, column: usize) -> u8 {
     number(shown(settings, tree).and_then(|read| read.place(line, column)))
+}
+
+/// The leaves of many places, lent a list of so many answers: '14 .. after 7'.
+pub fn places(settings: &[u8], tree: &[u8], places: &[(usize, usize)], list: usize) -> u8 {
+    number(shown(settings, tree).and_then(|read| read.places(places, list)))
 }
 
 /// Either cut of a list with so many pieces.

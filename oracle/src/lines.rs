@@ -1,6 +1,7 @@
 //! Lines for a test program: what they give, and the crate's answers.
 
-use crate::calls::{Calls, LeafRecord, SizeRecord, SplitList};
+use crate::calls::{Calls, LeafRecord, Marked, SizeRecord, SplitList};
+use crate::form::Owner;
 use crate::judge;
 use crate::sides::Original;
 
@@ -27,6 +28,9 @@ fn escaped(bytes: &[u8]) -> String {
 
 /// Numbers with a space between them.
 fn words(numbers: &[usize]) -> String {
+    if numbers.is_empty() {
+        return "none".to_string();
+    }
     let words: Vec<String> = numbers.iter().map(usize::to_string).collect();
     words.join(" ")
 }
@@ -153,6 +157,30 @@ impl Lines {
 
     pub fn places(&mut self, places: &[(usize, usize)]) {
         places.iter().for_each(|&place| self.place(place));
+    }
+
+    /// So many places together, those given over and over, with room for so many answers; then the number and the elements read, the places given, and their
+    /// answers.
+    pub fn marks(&mut self, room: usize, count: usize, given: &[(usize, usize)]) {
+        let places: Vec<(usize, usize)> = given.iter().copied().cycle().take(count).collect();
+        let mut answers = vec![Owner::default(); room];
+        let (settings, tree) = (&self.settings, &self.tree);
+        let Marked {
+            number,
+            count: written,
+            read,
+        } = self.original.places(settings, tree, &places, &mut answers);
+        answers.truncate(written.min(given.len()));
+        let given: Vec<usize> = given.iter().flat_map(|&(l, c)| [l, c]).collect();
+        let found: Vec<usize> = answers
+            .iter()
+            .flat_map(|a| [a.node, a.line, a.column])
+            .collect();
+        let (given, found) = (words(&given), words(&found));
+        self.line(
+            'm',
+            &format!("{room} {count}, {number} {read}, {given}, {found}"),
+        );
     }
 
     pub fn both(&mut self, node: usize) {

@@ -1,7 +1,10 @@
-//! Places and their leaves as lines (document 02, 5), by the crate's blocks. Settings and trees are given as in the replays:
+//! Places and their leaves as lines (document 02, 5 and 6), by the crate's blocks. Settings and trees are given as in the replays:
 //!   = the settings' bytes      : the tree's bytes      + N, bytes: these go on the tree N times
-//! Then a place of the printed sheet, and the number that it is answered with, the leaf, and the line and column inside its block, zeros beside a refusal:
+//! A place of the printed sheet, and the number that it is answered with, the leaf, and the line and column inside its block, zeros beside a refusal:
 //!   p LINE COLUMN, NUMBER NODE LINE COLUMN
+//! COUNT places together, with room for ROOM answers; the number, and the elements read; the places, over and over until there are COUNT; the answers of these, as
+//! many as there are places listed, or `none`, also beside a refusal:
+//!   m ROOM COUNT, NUMBER READ, LINE COLUMN LINE COLUMN .., NODE LINE COLUMN NODE LINE COLUMN ..
 
 use crate::form::{encode_settings, encode_tree, Margin, Settings, Tree};
 use crate::gen::{self, Margins, Rng};
@@ -17,6 +20,14 @@ const EDGED: Settings = Settings {
     ..Settings::M
 };
 
+fn a_b() -> Vec<Tree> {
+    ["a", "b"].map(Tree::cell).to_vec()
+}
+
+fn figure_2() -> Tree {
+    Tree::Column(vec![Tree::cell("abcdef"), Tree::Row(a_b())])
+}
+
 /// Places outside every sheet: the greatest numbers of 32 and of 64 bits, and those whose lower 16 or 32 bits are of a place inside.
 const FAR: [(usize, usize); 5] = [
     (u32::MAX as usize, 2),
@@ -28,10 +39,8 @@ const FAR: [(usize, usize); 5] = [
 
 /// Sheets by hand, with places at their edges and where leaves meet: document 02's examples, one Cell, the widest and the highest sheet, one of 512 nodes.
 fn edges(lines: &mut Lines) {
-    let texts = |texts: [&str; 2]| texts.map(Tree::cell).to_vec();
-    let figure_2 = Tree::Column(vec![Tree::cell("abcdef"), Tree::Row(texts(["a", "b"]))]);
-    let beside = Tree::Row(vec![Tree::Column(texts(["a", "b"])), Tree::cell("c")]);
-    let (m, figure_2) = (encode_settings(&Settings::M), encode_tree(&figure_2));
+    let beside = Tree::Row(vec![Tree::Column(a_b()), Tree::cell("c")]);
+    let (m, figure_2) = (encode_settings(&Settings::M), encode_tree(&figure_2()));
     lines.title("Edges of sheets, and where leaves meet");
     lines.given(&m, &figure_2);
     lines.places(&[(0, 0), (1, 9), (2, 0), (2, 4), (2, 5), (3, 5), (4, 4)]);
@@ -57,13 +66,18 @@ fn edges(lines: &mut Lines) {
     lines.places(&[(0, 16), (2, 399), (0, 15), (3, 399), (2, 400), (18, 399)]);
     lines.repeated(&large, &[1, 0x00, 0x8E], 142, b"\n");
     lines.places(&[(0, 16), (144, 19), (145, 19), (159, 0), (160, 0), (144, 20)]);
-    let row = [&[2, 0x00, 0xD8][..], &[1, 0, 0].repeat(72)].concat();
-    lines.repeated(&m, &[3, 0x05, 0xFD], 7, &row);
+    nodes_512(lines);
     lines.places(&[(0, 0), (14, 216), (13, 215), (7, 108), (6, 107), (15, 0)]);
 }
 
-/// Sheets that are refused: their number for every place.
-fn refused_sheets(lines: &mut Lines) {
+/// A Column of 7 Rows of 72 empty Cells, 15 lines of 217 columns.
+fn nodes_512(lines: &mut Lines) {
+    let row = [&[2, 0x00, 0xD8][..], &[1, 0, 0].repeat(72)].concat();
+    lines.repeated(&encode_settings(&Settings::M), &[3, 0x05, 0xFD], 7, &row);
+}
+
+/// Sheets that are refused with 1 to 7, and what is asked of each.
+fn refused_sheets(lines: &mut Lines, ask: fn(&mut Lines)) {
     lines.title("Refused sheets");
     let m = encode_settings(&Settings::M);
     let bare = encode_settings(&Settings {
@@ -81,7 +95,7 @@ fn refused_sheets(lines: &mut Lines) {
     ];
     for (settings, tree) in given {
         lines.given(settings, tree);
-        lines.places(&[(0, 0), (9, 9), FAR[1]]);
+        ask(lines);
     }
     let repeated: [(&[u8], usize, &[u8]); 2] = [
         (&[2, 0x06, 0x00], 512, &[1, 0, 0]),
@@ -89,35 +103,79 @@ fn refused_sheets(lines: &mut Lines) {
     ];
     for (head, n, item) in repeated {
         lines.repeated(&m, head, n, item);
-        lines.places(&[(0, 0), (9, 9), FAR[1]]);
+        ask(lines);
     }
 }
 
-/// Random tables of a few bytes, and so many random places of each.
-fn random_places(lines: &mut Lines, rng: &mut Rng, tables: usize, each: usize) {
+/// So many random tables of a few bytes, and what is asked of each.
+fn random_tables(
+    lines: &mut Lines,
+    rng: &mut Rng,
+    tables: usize,
+    ask: fn(&mut Lines, &mut Rng, &judge::Read),
+) {
     lines.title("Random tables");
     let mut left = tables;
     while left > 0 {
         let (settings, tree) = gen::table(rng, Margins::Half);
         let (settings, bytes) = (encode_settings(&settings), encode_tree(&tree));
-        if tree.nodes() < 5 || bytes.len() > 200 || judge::shown(&settings, &bytes).is_err() {
-            continue;
+        let sheet = judge::shown(&settings, &bytes);
+        if let (Ok(read), true) = (sheet, tree.nodes() >= 5 && bytes.len() <= 200) {
+            lines.given(&settings, &bytes);
+            ask(lines, rng, &read);
+            left -= 1;
         }
-        lines.given(&settings, &bytes);
-        for _ in 0..each {
-            lines.place(gen::place(rng, &settings, &bytes));
-        }
-        left -= 1;
     }
 }
 
-/// The lines, about 150 places.
+/// Lists by hand: document 02's examples, about as many places as a list may have, and some of 512 nodes.
+fn lists(lines: &mut Lines) {
+    lines.title("Places together");
+    lines.given(&encode_settings(&EDGED), &encode_tree(&figure_2()));
+    lines.marks(0, 0, &[]);
+    lines.marks(3, 3, &[(5, 7), (1, 2), (5, 7)]);
+    lines.marks(9, 3, &[(5, 7), (1, 2), (5, 7)]);
+    lines.marks(1, 2, &[(5, 7), (1, 2)]);
+    lines.marks(0, 3, &[(5, 7), (0, 0), (9, 9)]);
+    lines.marks(3, 3, &[(5, 7), (9, 9), (0, 0)]);
+    lines.marks(1, 1, &[(FAR[0].0, FAR[0].0)]);
+    for count in [255, 256, 257] {
+        lines.marks(count, count, &[(1, 2)]);
+        lines.marks(count - 1, count, &[(5, 11), (1, 2)]);
+        lines.marks(0, count, &[(1, 2), (9, 9)]);
+    }
+    nodes_512(lines);
+    let spread: Vec<(usize, usize)> = (0..40).map(|i| (4 * i % 15, 37 * i % 217)).collect();
+    lines.marks(260, 256, &spread);
+}
+
+/// A list of places inside the margin, and one in which a place is any, its numbers of 32 bits.
+fn random_lists(lines: &mut Lines, rng: &mut Rng, read: &judge::Read) {
+    for is_any in [false, true] {
+        let count = rng.between(1, 12);
+        let mut places = gen::insides(rng, read, count);
+        if is_any {
+            let (line, column) = gen::place(rng, read);
+            places[rng.below(count)] = (line.min(FAR[0].0), column.min(FAR[0].0));
+        }
+        lines.marks(gen::around(rng, count), count, &places);
+    }
+}
+
+/// The lines, about 150 places and 40 lists.
 pub fn lines(seed: u64) -> String {
     let mut rng = Rng::new(seed);
     let mut lines = Lines::default();
     edges(&mut lines);
-    refused_sheets(&mut lines);
-    random_places(&mut lines, &mut rng, 10, 6);
+    refused_sheets(&mut lines, |lines| {
+        lines.places(&[(0, 0), (9, 9), FAR[1]]);
+    });
+    random_tables(&mut lines, &mut rng, 10, |lines, rng, read| {
+        (0..6).for_each(|_| lines.place(gen::place(rng, read)));
+    });
+    lists(&mut lines);
+    refused_sheets(&mut lines, |lines| lines.marks(0, 257, &[(9, 9)]));
+    random_tables(&mut lines, &mut rng, 10, random_lists);
     assert!(lines.text.len() < 60_000, "{} bytes", lines.text.len());
     lines.text
 }

@@ -1,8 +1,8 @@
 //! Two sides of the calls: the crate and the documents. Both refuse as the judge says.
 
 use crate::calls::{
-    Calls, Counted, CutParts, CutPositions, LeafPlace, LeafRecord, ReadMargin, ReadSettings,
-    Shared, SizeRecord, SplitList,
+    Calls, Counted, CutParts, CutPositions, LeafPlace, LeafRecord, Marked, ReadMargin,
+    ReadSettings, Shared, SizeRecord, SplitList,
 };
 use crate::form::{Answer, Cut, Cut3, CutPair, Flags, Owner, Owners, Settings, Tree};
 use crate::judge;
@@ -119,6 +119,19 @@ impl Sheet {
     fn place(&self, line: usize, column: usize) -> Result<Owner, u8> {
         self.read.place(line, column)?;
         Ok(self.owners[line][column].expect("a place inside has an owner"))
+    }
+
+    /// The owner of each place, 'each exactly as if it had been put alone', and the elements read: they 'equal the node count .. even for no places'.
+    fn places(
+        &self,
+        places: &[(usize, usize)],
+        answers: &mut [Owner],
+    ) -> Result<(usize, usize), u8> {
+        self.read.places(places, answers.len())?;
+        for (answer, &(line, column)) in answers.iter_mut().zip(places) {
+            *answer = self.place(line, column)?;
+        }
+        Ok((places.len(), self.read.sizes.len()))
     }
 }
 
@@ -285,6 +298,27 @@ impl<A: Answers> Calls for Side<A> {
             Err(number) => LeafPlace {
                 number,
                 ..LeafPlace::default()
+            },
+        }
+    }
+
+    fn places(
+        &mut self,
+        settings: &[u8],
+        tree: &[u8],
+        places: &[(usize, usize)],
+        answers: &mut [Owner],
+    ) -> Marked {
+        let sheet = self.sheet_of(settings, tree);
+        match sheet.and_then(|sheet| sheet.places(places, answers)) {
+            Ok((count, read)) => Marked {
+                number: 0,
+                count,
+                read,
+            },
+            Err(number) => Marked {
+                number,
+                ..Marked::default()
             },
         }
     }

@@ -1,13 +1,13 @@
 //! The crate against documents 01 and 02, and what the oracle itself rests on. `oracle agree` does more of the first.
 
 use oracle::calls::{
-    Calls, Counted, CutParts, CutPositions, LeafPlace, LeafRecord, ReadMargin, ReadSettings,
-    Shared, SizeRecord, SplitList,
+    Calls, Counted, CutParts, CutPositions, LeafPlace, LeafRecord, Marked, ReadMargin,
+    ReadSettings, Shared, SizeRecord, SplitList,
 };
 use oracle::compare::{Comparison, Difference, NUMBERS};
 use oracle::gen::{self, Margins, Rng};
 use oracle::sides::{Original, Paper};
-use oracle::{judge, original, paper, CutPair, Margin, Settings, Tree};
+use oracle::{judge, original, paper, CutPair, Margin, Owner, Settings, Tree};
 
 fn agree(run: impl Fn(&mut Comparison) -> Result<(), Difference>) {
     let (mut one, mut other) = (Original::default(), Paper::default());
@@ -180,7 +180,7 @@ struct Faulty {
     fault: u8,
 }
 
-const FAULTS: u8 = 37;
+const FAULTS: u8 = 49;
 
 /// The judge's numbers with the margin and without it: whether only the margin makes a sheet too large.
 fn is_large_by_margin(number: u8, settings: &[u8], tree: &[u8]) -> bool {
@@ -318,6 +318,58 @@ impl Calls for Faulty {
         answer
     }
 
+    fn places(
+        &mut self,
+        settings: &[u8],
+        tree: &[u8],
+        places: &[(usize, usize)],
+        answers: &mut [Owner],
+    ) -> Marked {
+        let refused = |number: u8| Marked {
+            number,
+            ..Marked::default()
+        };
+        let mut answer = self.paper.places(settings, tree, places, answers);
+        let Marked { number, count, .. } = answer;
+        let alone = |&(line, column): &(usize, usize)| {
+            let place = self.paper.place(settings, tree, line, column);
+            place.number
+        };
+        let numbers: Vec<u8> = places.iter().map(alone).collect();
+        match self.fault {
+            // In tree order; a repeat without its answer; the answers past the places cleared; all of the lent ones counted.
+            37 => answers[..count].sort_by_key(|owner| owner.node),
+            38 => {
+                for at in 1..count {
+                    if places[..at].contains(&places[at]) {
+                        answers[at] = Owner::default();
+                    }
+                }
+            }
+            39 => answers[count..].fill(Owner::default()),
+            40 if number == 0 => answer.count = answers.len(),
+            // An answer, or the elements read, beside a refusal.
+            41 if number == 12 && !answers.is_empty() => answers[0] = Owner::default(),
+            42 if number == 8 => answer.read = 1,
+            // No walk for no places; the answers counted in the place of the elements.
+            43 if count == 0 => answer.read = 0,
+            44 => answer.read = count,
+            // The last place's refusal; 14 after the places; 14 for 256 of them; 8 before the places.
+            45 if number == 12 || number == 13 => {
+                let last = numbers.into_iter().rfind(|&number| number != 0);
+                answer = refused(last.unwrap_or(0));
+            }
+            46 if number == 14 => {
+                let first = numbers.into_iter().find(|&number| number != 0);
+                answer = refused(first.unwrap_or(14));
+            }
+            47 if count == judge::PLACES => answer = refused(14),
+            48 if matches!(number, 12 | 13) && answers.len() < places.len() => answer = refused(8),
+            _ => {}
+        }
+        answer
+    }
+
     fn short_splits3(&mut self, list: &SplitList, width: u16) -> CutParts {
         let mut answer = self.paper.short_splits3(list, width);
         match self.fault {
@@ -373,7 +425,8 @@ fn faults_are_found() {
             .and_then(|()| comparison.lists(&mut Rng::new(18), 100))
             .and_then(|()| comparison.shares(&mut Rng::new(18), 4))
             .and_then(|()| comparison.limits(&mut Rng::new(18), 1))
-            .and_then(|()| comparison.small_places(3, &gen::few_settings()));
+            .and_then(|()| comparison.small_places(3, &gen::few_settings()))
+            .and_then(|()| comparison.tables_places(&mut Rng::new(18), 3));
         assert_eq!(run.is_err(), fault < FAULTS, "fault {fault}");
     }
 }

@@ -1,8 +1,9 @@
-//! Document 02, 5: from a place of the printed sheet to its leaf, as the crate's joined blocks show it and as the document's words give it.
+//! Document 02, 5 and 6: from a place of the printed sheet to its leaf, as the crate's joined blocks show it and as the document's words give it; and many places
+//! together.
 
 use std::collections::HashMap;
 
-use oracle::calls::{Calls, LeafPlace};
+use oracle::calls::{Calls, LeafPlace, Marked};
 use oracle::gen::{self, Margins, Rng};
 use oracle::sides::{Original, Paper};
 use oracle::{encode_settings, encode_tree, judge, original, paper, Margin, Owner, Settings, Tree};
@@ -35,12 +36,11 @@ fn edged() -> Settings {
     }
 }
 
-/// The leaf of a place with the line and column inside its block, on both sides; or the number, which is the judge's, with zeros beside it.
-fn found(
-    settings: &[u8],
-    tree: &[u8],
-    (line, column): (usize, usize),
-) -> Result<(usize, usize, usize), u8> {
+/// A leaf, and the line and column inside its block.
+type Leaf = (usize, usize, usize);
+
+/// The leaf of a place, on both sides; or the number, which is the judge's, with zeros beside it.
+fn found(settings: &[u8], tree: &[u8], (line, column): (usize, usize)) -> Result<Leaf, u8> {
     let answer = Original::default().place(settings, tree, line, column);
     assert_eq!(Paper::default().place(settings, tree, line, column), answer);
     assert_eq!(judge::place(settings, tree, line, column), answer.number);
@@ -58,7 +58,7 @@ fn found(
     Err(number)
 }
 
-type Cases<'a> = &'a [((usize, usize), Result<(usize, usize, usize), u8>)];
+type Cases<'a> = &'a [((usize, usize), Result<Leaf, u8>)];
 
 fn holds(settings: &Settings, tree: &Tree, cases: Cases) {
     let (settings, tree) = (encode_settings(settings), encode_tree(tree));
@@ -228,5 +228,107 @@ fn back_and_forward() {
         }
         assert_eq!(left.len(), answer.leaves.len());
         assert!(left.values().all(|&left| left == 0));
+    }
+}
+
+/// What a lent list holds before a call.
+const LENT: Owner = Owner {
+    node: 77,
+    line: 88,
+    column: 99,
+};
+
+/// The leaves of places, lent a list of so many answers, on both sides: the entries written and the elements read. Those past them stay; a refusal, which is the
+/// judge's, writes none, counts none and has read none.
+fn marked(
+    settings: &[u8],
+    tree: &[u8],
+    places: &[(usize, usize)],
+    length: usize,
+) -> Result<(Vec<Leaf>, usize), u8> {
+    let mark = |side: &mut dyn Calls| {
+        let mut answers = vec![LENT; length];
+        let marked = side.places(settings, tree, places, &mut answers);
+        (marked, answers)
+    };
+    let (answer, answers) = mark(&mut Original::default());
+    assert_eq!(mark(&mut Paper::default()), (answer, answers.clone()));
+    let Marked {
+        number,
+        count,
+        read,
+    } = answer;
+    assert_eq!(judge::places(settings, tree, places, length), number);
+    let (written, rest) = answers.split_at(count);
+    assert!(rest.iter().all(|&answer| answer == LENT));
+    if number != 0 {
+        assert_eq!((count, read), (0, 0));
+        return Err(number);
+    }
+    let entries = written.iter().map(|a| (a.node, a.line, a.column));
+    Ok((entries.collect(), read))
+}
+
+#[test]
+fn together() {
+    let (edged, tree) = (encode_settings(&edged()), encode_tree(&figure_2()));
+    let marked = |places: &[(usize, usize)], length: usize| marked(&edged, &tree, places, length);
+    let (b, first) = ((4, 2, 0), (1, 0, 0));
+    assert_eq!(marked(&[], 0), Ok((vec![], 5)));
+    assert_eq!(marked(&[], 3), Ok((vec![], 5)));
+    let three = [(5, 7), (1, 2), (5, 7)];
+    assert_eq!(marked(&three, 3), Ok((vec![b, first, b], 5)));
+    assert_eq!(marked(&three, 9), Ok((vec![b, first, b], 5)));
+    assert_eq!(marked(&[(5, 7), (1, 2)], 1), Err(8));
+    assert_eq!(marked(&[(5, 7), (0, 0), (9, 9)], 0), Err(13));
+    assert_eq!(marked(&[(5, 7), (9, 9), (0, 0)], 3), Err(12));
+    assert_eq!(marked(&[(1, 2); 256], 256), Ok((vec![first; 256], 5)));
+    assert_eq!(marked(&[(1, 2); 257], 257), Err(14));
+    assert_eq!(marked(&[(9, 9); 257], 0), Err(14));
+    assert_eq!(marked(&[(1, 2); 256], 255), Err(8));
+    assert_eq!(marked(&[(FAR, FAR)], 0), Err(12));
+}
+
+/// 1 to 7 come before 14.
+#[test]
+fn together_on_refused_sheets() {
+    let d = encode_settings(&Settings::D);
+    let bare = encode_settings(&Settings {
+        padding: [0; 4],
+        ..Settings::D
+    });
+    let wide = encode_tree(&Tree::Cell(vec![b'a'; 397]));
+    let narrow = encode_tree(&row([cell("a"), cell("")]));
+    let mut bad = d.clone();
+    bad[3] = 0;
+    for places in [&[][..], &[(0, 0)], &[(9, 9); 257]] {
+        assert_eq!(marked(&bad, &wide, places, 0), Err(1));
+        assert_eq!(marked(&d, b"\x04\x00\x00", places, 0), Err(2));
+        assert_eq!(marked(&d, &wide, places, 0), Err(6));
+        assert_eq!(marked(&bare, &narrow, places, 0), Err(7));
+    }
+}
+
+/// 'In the order given, repeats allowed, each exactly as if it had been put alone.' Random lists: the first place that is refused alone refuses the list.
+#[test]
+fn each_as_alone() {
+    let mut rng = Rng::new(23);
+    let (mut answered, mut refused) = (0, 0);
+    while answered < 100 || refused < 100 {
+        let (settings, tree) = gen::table(&mut rng, Margins::Half);
+        let (settings, bytes) = (encode_settings(&settings), encode_tree(&tree));
+        let Ok(read) = judge::shown(&settings, &bytes) else {
+            continue;
+        };
+        let mut places = gen::places(&mut rng, &read);
+        places.truncate(20);
+        let alone = |&place: &(usize, usize)| found(&settings, &bytes, place);
+        let alone: Result<Vec<_>, u8> = places.iter().map(alone).collect();
+        let together = marked(&settings, &bytes, &places, places.len());
+        assert_eq!(together, alone.map(|list| (list, tree.nodes())));
+        match together {
+            Ok(_) => answered += 1,
+            Err(_) => refused += 1,
+        }
     }
 }

@@ -8,7 +8,7 @@ use splits::lent::list_at;
 ghost use mathlib.Core.Path.{_≡_};
 ghost use Rattle.numbers.specs.Words.{packed, partAfter};
 ghost use Rattle.numbers.specs.Numbers.{settingsGiven, marginGiven, sizesGiven, recordGiven};
-ghost use Rattle.numbers.specs.Places.{placeGiven};
+ghost use Rattle.numbers.specs.Places.{placeGiven, readAfter};
 ghost use Rattle.numbers.specs.Cuts.{splits3Given, lentGiven, splitsGiven};
 ghost use Rattle.settings.specs.Reading.{priorityOf, readSettings};
 ghost use Rattle.sizes.specs.Sharing.{shareOf};
@@ -17,6 +17,7 @@ ghost use Rattle.sizes.specs.Input.{inputOf};
 ghost use Rattle.leaf.specs.Answers.{leafRecordOf, leafPrintOf};
 ghost use Rattle.sheet.specs.Answers.{sheetOf};
 ghost use Rattle.places.specs.Places.{leafPlaceOf};
+ghost use Rattle.places.specs.Together.{findsOf};
 
 #[no_mangle]
 pub extern "C" fn leg_read_settings(bytes: &[u8], out: &mut [u16]) -> u64
@@ -131,6 +132,26 @@ pub extern "C" fn leg_place(
     }
     fields::put_place(p, out);
     pack(0, 3)
+}
+
+#[no_mangle]
+pub extern "C" fn leg_places(
+    settings: &[u8],
+    tree: &[u8],
+    places: &[u64],
+    answers: &mut [u64],
+    read: &mut u64,
+) -> u64
+    ensures { λ r. ⌜ r ≡ packed (findsOf (inputOf (now (settings .entry)) (now (tree .entry))) (now (places .entry)) (now (answers .entry)) .answer .number) (findsOf (inputOf (now (settings .entry)) (now (tree .entry))) (now (places .entry)) (now (answers .entry)) .answer .count) ⌝ }
+    ensures listed { λ _. ⌜ now (answers .exit) ≡ findsOf (inputOf (now (settings .entry)) (now (tree .entry))) (now (places .entry)) (now (answers .entry)) .list ⌝ }
+    ensures told { λ _. ⌜ now (read .exit) ≡ readAfter (findsOf (inputOf (now (settings .entry)) (now (tree .entry))) (now (places .entry)) (now (answers .entry)) .answer) (now (read .entry)) ⌝ }
+{
+    let r = places::find_places(settings, tree, places, answers);
+    if r.number != 0 {
+        return pack(r.number, r.count);
+    }
+    *read = r.steps as u64;
+    pack(r.number, r.count)
 }
 
 #[no_mangle]

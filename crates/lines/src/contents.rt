@@ -164,3 +164,24 @@ pub fn nth(s: &[u8], k: usize) -> usize {
 pub fn second(s: &[u8]) -> usize {
     nth(s, 1)
 }
+
+// Where the next field starts, or the end; a comma and a space part fields.
+fn next_field(s: &[u8]) -> usize
+    ensures { λ r. do ⌜ r ≤ (← ⟦s.len()⟧ .entry) ⌝ }
+{
+    let i = find(s, b',');
+    if s.len() - i < 2 { s.len() } else { i + 2 }
+}
+
+// Where field `k`, counted from 0, starts.
+pub fn field(s: &[u8], k: usize) -> usize
+    ensures { λ r. do ⌜ r ≤ (← ⟦s.len()⟧ .entry) ⌝ }
+{
+    let mut at: usize = 0;
+    let mut i: usize = 0;
+    while i < k {
+        at = at + next_field(&s[at..]);
+        i = i + 1;
+    }
+    at
+}

@@ -1,4 +1,6 @@
-// Test lines about places of the printed sheet (document 02, 5).
+// Test lines about places of the printed sheet (document 02, 5 and 6).
+pub mod marks;
+
 use lines::contents;
 use lines::tell;
 

@@ -42,7 +42,7 @@ pub record Admitted (x : Input) (s : Settings) (t : Tree) : Type 0 where
   pub large : tooLarge s t ≡ false
   pub wide : narrow (leaves s t) ≡ false
 
-admitted-place : {x : Input} {s : Settings} {t : Tree} → Admitted x s t → (l k : ℕ) → leafPlaceOf x l k ≡ leafPlaceIn s t l k
+pub admitted-place : {x : Input} {s : Settings} {t : Tree} → Admitted x s t → (l k : ℕ) → leafPlaceOf x l k ≡ leafPlaceIn s t l k
 unfolding leafPlaceOf
 admitted-place a l k = rw (a .input, a .large, a .wide)
 

@@ -1,5 +1,7 @@
 // What is refused before a place is answered.
 use crate::area::among;
+use crate::words::column_of;
+use crate::words::line_of;
 use frame::Frame;
 use settings::Margin;
 use sizes::Measured;
@@ -9,6 +11,7 @@ ghost use Rattle.tree.specs.Tree.{Tree};
 ghost use Rattle.sizes.specs.Input.{inputOf};
 ghost use Rattle.places.specs.Places.{faultOf};
 ghost use Rattle.places.specs.Contracts.{checkedOf, Frames};
+ghost use Rattle.places.specs.Together.{firstFault};
 
 // 1, 2 to 5, then 6 and 7 as the sheet printer, lent enough; or the settings and the sizes.
 pub fn check_sheet(settings: &[u8], tree: &[u8]) -> Measured
@@ -45,4 +48,20 @@ pub fn fault_of(m: Margin, f: Frame, line: usize, column: usize) -> u8
         return 0;
     }
     13
+}
+
+// The number of the first place that would be refused alone, or 0.
+pub fn first_fault(m: Margin, f: Frame, places: &[u64]) -> u8
+    ensures { λ r. ⌜ ((s : Settings) (t : Tree) → Frames m f s t → r ≡ firstFault s t (now (places .entry))) ⌝ }
+{
+    let mut i: usize = 0;
+    while i < places.len() {
+        let p = places[i];
+        let n = fault_of(m, f, line_of(p), column_of(p));
+        if n != 0 {
+            return n;
+        }
+        i += 1;
+    }
+    0
 }

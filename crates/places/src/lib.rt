@@ -1,4 +1,4 @@
-// From places of the printed sheet to their leaves (document 02, 5).
+// From places of the printed sheet to their leaves (document 02, 5 and 6).
 mod anchor;
 mod area;
 mod faults;
@@ -16,6 +16,7 @@ ghost use Rattle.sizes.specs.Sizes.{sep};
 ghost use Rattle.places.specs.Places.{noLeafPlace, leafPlaceOf};
 ghost use Rattle.places.specs.Locating.{locate, rootAnchor};
 ghost use Rattle.places.specs.Contracts.{TreeAsks, Locates};
+ghost use Rattle.places.specs.Together.{noPlaces, findsOf};
 
 // The answer for one place: the leaf's node, and the line and the column inside its block; or a refusal, with 0 elsewhere.
 pub struct LeafPlace {
@@ -23,6 +24,13 @@ pub struct LeafPlace {
     pub node: usize,
     pub line: usize,
     pub column: usize,
+}
+
+// The answer for a list of places: how many answers were written, and the elements that the walk read; or a refusal, with 0 elsewhere.
+pub struct FoundPlaces {
+    pub number: u8,
+    pub count: usize,
+    pub steps: usize,
 }
 
 fn no_leaf_place(number: u8) -> LeafPlace
@@ -80,4 +88,47 @@ pub fn leaf_at(settings: &[u8], tree: &[u8], line: usize, column: usize) -> Leaf
     let mut answers = [0u64; 1];
     locate_tree(tree, s, core, &places, &mut answers);
     words::unpack(answers[0])
+}
+
+fn no_places(number: u8) -> FoundPlaces
+    ensures { λ r. ⌜ r ≡ noPlaces number ⌝ }
+{
+    FoundPlaces {
+        number: number,
+        count: 0,
+        steps: 0,
+    }
+}
+
+// The leaves of up to 256 places, in one walk over the tree.
+// A place is its line × 2^32 + its column; an answer is the leaf's node × 2^32 + the line × 2^16 + the column inside its block.
+pub fn find_places(settings: &[u8], tree: &[u8], places: &[u64], answers: &mut [u64]) -> FoundPlaces
+    ensures { λ r. ⌜ r ≡ findsOf (inputOf (now (settings .entry)) (now (tree .entry))) (now (places .entry)) (now (answers .entry)) .answer ⌝ }
+    ensures listed { λ _. ⌜ now (answers .exit) ≡ findsOf (inputOf (now (settings .entry)) (now (tree .entry))) (now (places .entry)) (now (answers .entry)) .list ⌝ }
+{
+    let m = faults::check_sheet(settings, tree);
+    if m.number != 0 {
+        return no_places(m.number);
+    }
+    let n = places.len();
+    if 256 < n {
+        return no_places(14);
+    }
+    let s = m.settings;
+    let core = m.core;
+    let f = frame::frame_of(s, core);
+    let margin = s.margin;
+    let k = faults::first_fault(margin, f, places);
+    if k != 0 {
+        return no_places(k);
+    }
+    if answers.len() < n {
+        return no_places(8);
+    }
+    let steps = locate_tree(tree, s, core, places, &mut answers[..n]);
+    FoundPlaces {
+        number: 0,
+        count: n,
+        steps: steps,
+    }
 }

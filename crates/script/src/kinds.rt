@@ -23,6 +23,7 @@ fn ask(kind: u8, settings: &[u8], tree: &[u8], node: usize, want: &[u8]) {
         b'd' => readers::defaults(want),
         b't' => readers::tree(tree, want),
         b'p' => place_lines::place(settings, tree, want),
+        b'm' => place_lines::marks::marked(settings, tree, want),
         _ => tell::failed(b"unknown kind of line"),
     }
 }

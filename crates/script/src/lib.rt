@@ -10,6 +10,7 @@
 //   r the settings reader's number      f its 28 fields as bytes    d the default settings' 28 fields as bytes
 //   t the tree reader's number, and the node count
 //   p LINE COLUMN, then the number, the leaf's node, the line and the column inside its block, for that place of the printed sheet
+//   m many places and their answers together (place_lines/src/marks.rt)
 mod fields;
 mod kinds;
 mod leaves;

@@ -1,10 +1,10 @@
-//! The operands of a command: files and numbers.
+//! The operands of a command: files, numbers, and places on standard input.
 
 use std::ffi::OsStr;
 use std::fs;
-use std::io::{self, Read};
+use std::io::{self, BufRead, Read};
 
-use leg_sheet::{Input, Refusal};
+use leg_sheet::{calls, Input, Place, Refusal};
 
 use crate::fault::Fault;
 
@@ -46,4 +46,42 @@ impl File {
 pub fn number(word: &OsStr) -> Result<usize, Fault> {
     let digits = word.to_str().and_then(|word| word.parse().ok());
     digits.ok_or_else(|| Fault::Usage(format!("{word:?} is no number from 0 on")))
+}
+
+/// A place's line has fewer bytes.
+const LINE: usize = 64;
+
+/// The places on standard input, a line each; no more of them than can make a difference.
+pub fn places() -> Result<Vec<Place>, Fault> {
+    let mut input = io::stdin().lock();
+    let mut list = Vec::new();
+    while list.len() <= calls::PLACES {
+        let mut line = Vec::new();
+        input
+            .by_ref()
+            .take(LINE as u64)
+            .read_until(b'\n', &mut line)
+            .map_err(|error| Fault::Failed("standard input".into(), error))?;
+        if line.is_empty() {
+            break;
+        }
+        let fault = || {
+            let number = list.len() + 1;
+            Fault::Usage(format!(
+                "line {number} of standard input is no line and column"
+            ))
+        };
+        list.push(place(&line).ok_or_else(fault)?);
+    }
+    Ok(list)
+}
+
+/// A line and a column, numbers from 0 on.
+fn place(line: &[u8]) -> Option<Place> {
+    let text = std::str::from_utf8(line).ok()?;
+    let numbers: Result<Vec<usize>, _> = text.split_ascii_whitespace().map(str::parse).collect();
+    match numbers.as_deref() {
+        Ok(&[line, column]) if text.len() < LINE => Some(Place { line, column }),
+        _ => None,
+    }
 }

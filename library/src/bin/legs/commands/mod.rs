@@ -2,12 +2,15 @@
 
 mod check;
 mod leaf;
+mod mark;
 mod place;
 mod print;
 mod sizes;
 
 use std::ffi::OsString;
 use std::fmt::Display;
+
+use leg_sheet::LeafPlace;
 
 use crate::fault::{Fault, REFUSED};
 
@@ -17,6 +20,7 @@ pub const COMMANDS: &[Command] = &[
     sizes::COMMAND,
     leaf::COMMAND,
     place::COMMAND,
+    mark::COMMAND,
     check::COMMAND,
 ];
 
@@ -65,6 +69,11 @@ pub fn help() -> String {
          Lines and columns are counted from 0, in the sheet as it is printed.\n\n\
          Exit status: 0, or 1 refused, 2 usage, 3 input or output failed.\n"
     )
+}
+
+/// A leaf and a place in its block, as a line.
+fn found(LeafPlace { node, line, column }: LeafPlace) -> String {
+    format!("node {node}: line {line}, column {column} of its block\n")
 }
 
 /// Items in a line.

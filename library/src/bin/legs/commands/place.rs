@@ -1,8 +1,6 @@
 use std::ffi::OsString;
 
-use leg_sheet::LeafPlace;
-
-use super::{Answer, Command};
+use super::{found, Answer, Command};
 use crate::fault::Fault;
 use crate::operands::{number, File};
 
@@ -15,10 +13,6 @@ pub const COMMAND: Command = Command {
 
 fn run(words: &[OsString]) -> Result<Answer, Fault> {
     let (line, column) = (number(&words[1])?, number(&words[2])?);
-    let found = File::read(&words[0])?.call(|input| input.place(line, column))?;
-    Ok(Answer::accepted(told(found)))
-}
-
-fn told(LeafPlace { node, line, column }: LeafPlace) -> String {
-    format!("node {node}: line {line}, column {column} of its block\n")
+    let leaf = File::read(&words[0])?.call(|input| input.place(line, column))?;
+    Ok(Answer::accepted(found(leaf)))
 }

@@ -1,8 +1,8 @@
 use borrow.Author.Needs.{needs}
 use Prim.Native.Nat.{_-_, _≤_}
 use lib.ListN.{length}
-use Rattle.splits_tests.proofs.fields.start.Statement.{statement}
-use Rattle.splits_tests.proofs.fields.start.Tie as tie
+use Rattle.lines.proofs.contents.field.Statement.{statement}
+use Rattle.lines.proofs.contents.field.Tie as tie
 
 abbrev Inv-loop : tie.InvT-loop
 Inv-loop s k at₀ i₀ at i = (i ≤ k) × (at ≤ length s)
@@ -10,8 +10,8 @@ Inv-loop s k at₀ i₀ at i = (i ≤ k) × (at ≤ length s)
 abbrev μ-loop : tie.MeasureT-loop
 μ-loop s k at₀ i₀ at i = k - i
 
-pub start-spec : {M : Type 1} → statement M
-start-spec =
+pub field-spec : {M : Type 1} → statement M
+field-spec =
     tie.close
     (tie.spec
     Inv-loop
