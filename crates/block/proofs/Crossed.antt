@@ -13,11 +13,12 @@ use borrow.Author.Tests.{lt-ltb, le-ltb, eq-eqb, ne-eqb}
 use Rattle.common.specs.Choice.{pick}
 use Rattle.splits.proofs.Named.{namedFrom}
 use Rattle.sizes.proofs.Either.{either}
+use Rattle.sizes.proofs.Stores.{sets-append}
 use Rattle.splits.specs.Splits.{isNamed}
 use Rattle.block.specs.Content.{ruled, column}
 use Rattle.block.specs.Paint.{pasted}
 use Rattle.block.specs.Parts.{crossed}
-use Rattle.block.proofs.Stores.{sets-append, sets-sets}
+use Rattle.block.proofs.Stores.{sets-sets}
 use Rattle.block.proofs.Pasted.{sets-pasted}
 use Rattle.block.proofs.Dims.{length-ruled}
 

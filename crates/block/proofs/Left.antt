@@ -5,8 +5,8 @@ use native.Mathlib.Omega.{arith}
 use mathlib.Core.List.{List, [], _∷_, _++_}
 use lib.ListN.{length, replicate}
 use lib.Seq.{sets, length-sets}
+use Rattle.sizes.proofs.Stores.{sets-append}
 use Rattle.block.specs.Paint.{pasted, Room, Wrote}
-use Rattle.block.proofs.Stores.{sets-append}
 use Rattle.block.proofs.Pasted.{pasted-append}
 use Rattle.block.proofs.Room.{room-head, room-next, room-tail}
 

@@ -6,11 +6,12 @@ use mathlib.Core.List.{List, [], _∷_, _++_}
 use lib.ListN.{length, getD}
 use lib.Seq.{sets, length-sets}
 use Rattle.sizes.proofs.Either.{either}
+use Rattle.sizes.proofs.Stores.{sets-append}
 use Rattle.block.specs.Content.{paired}
 use Rattle.block.specs.Paint.{pasted}
 use Rattle.block.specs.Every.{Every}
 use Rattle.block.proofs.Every.{Dims, byteAt}
-use Rattle.block.proofs.Stores.{sets-append, sets-sets, getD-before, getD-after, getD-in}
+use Rattle.block.proofs.Stores.{sets-sets, getD-before, getD-after, getD-in}
 
 pub length-pasted : (x : List (List ℕ)) (o : List ℕ) (at stride : ℕ) → length (pasted o at stride x) ≡ length o
 unfolding pasted

@@ -1,21 +1,13 @@
 -- Stores in a row (`sets`): their order, and what each place holds afterwards. Assumes nothing.
-use mathlib.Core.Path.{_≡_, refl, ap, _∙_}
+use mathlib.Core.Path.{_≡_, refl, _∙_}
 use Prim.Native.Nat.{ℕ, zero, suc, _+_, _≤_, _<_}
-use native.Mathlib.Nat.{add-zero}
 use native.Mathlib.Omega.{arith}
-use mathlib.Core.List.{List, [], _∷_, _++_}
+use mathlib.Core.List.{List, [], _∷_}
 use lib.ListN.{length, getD, set, length-set}
-use lib.Seq.{sets, set-comm, getD-set-same, getD-set-other}
+use lib.Seq.{sets, getD-set-same, getD-set-other}
+use Rattle.sizes.proofs.Stores.{set-sets}
 
 -- ---- their order
-
-set-sets : (vs l : List ℕ) (i j v : ℕ) → i < j → set (sets l j vs) i v ≡ sets (set l i v) j vs
-set-sets [] l i j v h = refl
-set-sets (a ∷ vs) l i j v h = set-sets vs (set l j a) i (suc j) v (omega arith) ∙ ap (λ (k : List ℕ). sets k (suc j) vs) (set-comm l j i a v (λ e. omega arith))
-
-pub sets-append : (us vs l : List ℕ) (i : ℕ) → sets l i (us ++ vs) ≡ sets (sets l i us) (i + length us) vs
-sets-append [] vs l i = rw (add-zero i)
-sets-append (a ∷ us) vs l i = sets-append us vs (set l i a) (suc i) ∙ ap (λ (k : ℕ). sets (sets (set l i a) (suc i) us) k vs) (omega arith)
 
 -- stores before others may come after them
 pub sets-sets : (us vs l : List ℕ) (i j : ℕ) → i + length us ≤ j → sets (sets l j vs) i us ≡ sets (sets l i us) j vs

@@ -1,13 +1,13 @@
--- The list of size records as it is written, and what the plan says of it. Assumes nothing.
+-- The array of size records as it is filled, and what the plan says of it. Assumes nothing.
 use mathlib.Core.Path.{_≡_, refl, sym, ap, _∙_}
-use mathlib.Core.List.{List, [], _∷_, _++_, map, map-append, append-assoc}
-use Prim.Native.Nat.{ℕ, zero, suc, _+_, _-_, _≤_, _<_}
+use mathlib.Core.List.{List, _++_, map, append-assoc}
+use Prim.Native.Nat.{ℕ, suc, _+_, _≤_, _<_}
 use native.Mathlib.Numerals.{add-one}
 use native.Mathlib.Omega.{arith}
 use mathlib.Core.Bool.{Bool, true, false}
 use lib.Dec.{ltb}
-use lib.ListN.{length, drop-of-length-le, getD, take, drop, set, replicate, length-append, length-drop, length-map, List·getD-map, List·getD-append}
-use lib.Seq.{drop-cons, set-at, take-suc, take-at, take-all, take-length, length-take-le}
+use lib.ListN.{length, drop-of-length-le, getD, take, drop, set, length-append, length-drop, length-map, length-replicate, List·getD-map, List·getD-append}
+use lib.Seq.{drop-cons, set-at, take-suc, take-at, take-all, length-take-le}
 use borrow.Author.Tests.{lt-ltb, le-ltb, ltb-false}
 use Rattle.common.specs.Choice.{pick}
 use Rattle.common.specs.Arrays.{padded}
@@ -20,34 +20,16 @@ use Rattle.collector.specs.declared.Plan.{Plan}
 use Rattle.sizes.specs.Sizes.{Sizes, treeSizes}
 use Rattle.sizes.specs.Input.{Input, refused, given, inputOf}
 use Rattle.sizes.specs.Core.{coreOf, measuredOf}
-use Rattle.collector.specs.Records.{recordOf, Outcome, refusal, collectOf, noRecord, recordAt, records, recordsOf, refusedPlan, planOf, lentOf}
+use Rattle.collector.specs.Below.{belows, ReadyBranch}
+use Rattle.collector.specs.Records.{Outcome, refusal, recordsOf, collectOf, noRecord, noRecords, recordArray, refusedPlan, planOf, lentOf}
 use Rattle.sizes.proofs.Within.{tree-sizes-length}
 use Rattle.sizes.proofs.Given.{takes, Accepts, accepts, refuses}
+use Rattle.collector.proofs.Branches.{belows-length}
+use Rattle.collector.proofs.Zipped.{noSizes, records-length, record-at}
 
--- ---- the array of records
+-- ---- a list of records
 
-records-length : (c : Core) (i : ℕ) → length (records c i) ≡ i
-unfolding records
-records-length c zero = refl
-records-length c (suc i) = simp (length-append, records-length c i) (omega arith)
-
--- i records are in it
-abbrev pub kept : Core → ℕ → List SizeRecord
-kept c i = records c i ++ replicate (512 - i) noRecord
-
-pub kept-none : (c : Core) → kept c 0 ≡ replicate 512 noRecord
-unfolding records
-kept-none c = refl
-
-pub kept-more : (c : Core) (i : ℕ) → i < 512 → set (kept c i) i (recordAt c i) ≡ kept c (i + 1)
-unfolding records
-kept-more c i h =
-    let e : 512 - i ≡ suc (512 - (i + 1)) = omega arith in
-    rw (e, add-one, append-assoc) (set-at (records c i) _ (replicate (512 - suc i) noRecord) (recordAt c i) i (records-length c i))
-
--- ---- the lent list
-
--- i records are written
+-- i of them are written over it
 module _ (rs ys : List SizeRecord) where
   abbrev pub filled : ℕ → List SizeRecord
   filled i = take i rs ++ drop i ys
@@ -62,66 +44,61 @@ module _ (rs ys : List SizeRecord) where
   filled-more i h k =
       rw (drop-cons ys i noRecord k, add-one, take-suc rs i noRecord h, append-assoc) (set-at (take i rs) _ (drop (suc i) ys) (getD rs i noRecord) i (length-take-le i rs (omega arith)))
 
--- ---- the array's records are the definition's
+-- ---- the array
 
-no-sizes : Sizes
-no-sizes = record { natural = record { width = 0; height = 0 }; allotted = record { width = 0; height = 0 } }
+-- the record that the code makes of node i
+abbrev recordAt : Core → List ℕ → ℕ → SizeRecord
+recordAt c b i = record { «natural_width» = getD (c .«natural_widths») i 0; «natural_height» = getD (c .«natural_heights») i 0; width = getD (c .widths) i 0; height = getD (c .heights) i 0; below = getD b i 0 }
 
--- the numbers f of the sizes, at i
-number-at : (zs : List Sizes) (i : ℕ) → i < length zs → (f : Sizes → ℕ) → f no-sizes ≡ 0 → getD (padded (map f zs)) i 0 ≡ f (getD zs i no-sizes)
-number-at zs i h f e =
-    let l : i < length (map f zs) = omega (arith, length-map zs f) in
-    List·getD-append (map f zs) _ 0 i l ∙ ap (λ (d : ℕ). getD (map f zs) i d) (sym e) ∙ List·getD-map f zs i no-sizes
+module _ (s : Settings) (t : Tree) (c : Core) (ce : c ≡ coreOf s t) where
+  -- the numbers f of the nodes' sizes, at i
+  number-at : (f : Sizes → ℕ) → f noSizes ≡ 0 → (i : ℕ) → i < nodes t → getD (padded (map f (treeSizes s t))) i 0 ≡ f (getD (treeSizes s t) i noSizes)
+  number-at f e i h =
+      let l : i < length (map f (treeSizes s t)) = omega (arith, length-map (treeSizes s t) f, tree-sizes-length s t) in
+      List·getD-append (map f (treeSizes s t)) _ 0 i l ∙ ap (λ (d : ℕ). getD (map f (treeSizes s t)) i d) (sym e) ∙ List·getD-map f (treeSizes s t) i noSizes
 
-module _ (s : Settings) (t : Tree) where
-  abbrev all : List Sizes
-  all = treeSizes s t
-
-  record-is : (i : ℕ) → i < length all → recordAt (coreOf s t) i ≡ recordOf (getD all i no-sizes)
-  unfolding coreOf no-sizes
-  record-is i h =
-      rw (number-at all i h (λ z. z .natural .width) refl, number-at all i h (λ z. z .natural .height) refl, number-at all i h (λ z. z .allotted .width) refl, number-at all i h (λ z. z .allotted .height) refl)
-
-  records-to : (i : ℕ) → i ≤ length all → records (coreOf s t) i ≡ map recordOf (take i all)
-  unfolding records
-  records-to zero h = refl
-  records-to (suc i) h =
-      rw (take-suc all i no-sizes (omega arith), map-append recordOf (take i all) (getD all i no-sizes ∷ []), records-to i (omega arith), record-is i (omega arith))
-
-  count-of : coreOf s t .count ≡ nodes t
+  pub count-of : c .count ≡ nodes t
   unfolding coreOf
-  count-of = refl
+  count-of = ap (λ (k : Core). k .count) ce
 
-  records-are : take (nodes t) (recordsOf (coreOf s t)) ≡ map recordOf all
-  records-are =
-      ap (λ (m : ℕ). take m (recordsOf (coreOf s t))) (sym count-of)
-      ∙ take-at (records (coreOf s t) (coreOf s t .count)) _ (coreOf s t .count) (records-length (coreOf s t) (coreOf s t .count))
-      ∙ ap (records (coreOf s t)) (count-of ∙ sym (tree-sizes-length s t)) ∙ records-to (length all) (omega arith) ∙ ap (map recordOf) (take-length all)
+  module _ (b : List ℕ) (be : b ≡ padded (belows t)) (i : ℕ) (h : i < nodes t) where
+    count-at : getD b i 0 ≡ getD (belows t) i 0
+    count-at = rw be (List·getD-append (belows t) _ 0 i (omega (arith, belows-length t)))
+
+    record-is : recordAt c b i ≡ getD (recordsOf s t) i noRecord
+    unfolding coreOf
+    record-is =
+        rw (ce, count-at, record-at s t i, number-at (λ z. z .natural .width) refl i h, number-at (λ z. z .natural .height) refl i h, number-at (λ z. z .allotted .width) refl i h, number-at (λ z. z .allotted .height) refl i h)
+
+    pub array-more : nodes t ≤ 512 → (l : List SizeRecord) → l ≡ filled (recordsOf s t) noRecords i → set l i (recordAt c b i) ≡ filled (recordsOf s t) noRecords (i + 1)
+    array-more few l e = rw (e, record-is) (filled-more (recordsOf s t) noRecords i (omega (arith, records-length s t)) (omega (arith, length-replicate {A = SizeRecord} 512 noRecord)))
+
+  pub array-full : filled (recordsOf s t) noRecords (c .count) ≡ recordArray s t
+  array-full = rw (count-of, take-all (nodes t) (recordsOf s t) (omega (arith, records-length s t)))
 
 -- ---- the plan
 
 -- what is answered and written by a plan
 abbrev pub outcome : Plan → List SizeRecord → Outcome
-outcome p l = record { answer = p .answer; list = take (p .answer .count) (recordsOf (p .core)) ++ drop (p .answer .count) l }
+outcome p l = record { answer = p .answer; list = filled (p .records) l (p .answer .count) }
 
--- a plan fits the arrays and the lent list
+-- a plan fits the array and the lent list
 pub record Fitting (len : ℕ) (p : Plan) : Type 0 where
   pub few : p .answer .count ≤ 512
   pub short : p .answer .count ≤ len
-  pub core-few : p .core .count ≤ 512
 
 module _ (s : Settings) (t : Tree) where
   abbrev planned : Bool → Plan
-  planned b = pick b (refusedPlan 8) (record { answer = record { number = 0; count = nodes t }; core = coreOf s t })
+  planned b = pick b (refusedPlan 8) (record { answer = record { number = 0; count = nodes t }; records = recordArray s t })
 
   picked : (l : List SizeRecord) (b : Bool)
-      → outcome (planned b) l ≡ pick b (record { answer = refusal 8; list = l }) (record { answer = record { number = 0; count = nodes t }; list = map recordOf (treeSizes s t) ++ drop (nodes t) l })
+      → outcome (planned b) l ≡ pick b (record { answer = refusal 8; list = l }) (record { answer = record { number = 0; count = nodes t }; list = recordsOf s t ++ drop (nodes t) l })
   picked l true = refl
-  picked l false = ap (λ (x : List SizeRecord). record { answer = record { number = 0; count = nodes t }; list = x ++ drop (nodes t) l }) (records-are s t)
+  picked l false = ap (λ (x : List SizeRecord). record { answer = record { number = 0; count = nodes t }; list = x ++ drop (nodes t) l }) (take-at (recordsOf s t) _ (nodes t) (records-length s t))
 
   picked-fits : (len : ℕ) (b : Bool) → ltb len (nodes t) ≡ b → nodes t ≤ 512 → Fitting len (planned b)
-  picked-fits len true e h = record { few = omega arith; short = omega arith; core-few = omega arith }
-  picked-fits len false e h = record { few = h; short = ltb-false len (nodes t) e; core-few = omega (arith, count-of s t) }
+  picked-fits len true e h = record { few = omega arith; short = omega arith }
+  picked-fits len false e h = record { few = h; short = ltb-false len (nodes t) e }
 
 pub outcome-is : (x : Input) (l : List SizeRecord) → outcome (planOf x (length l)) l ≡ collectOf x l
 unfolding planOf collectOf
@@ -130,7 +107,7 @@ outcome-is (given s t) l = picked s t l (ltb (length l) (nodes t))
 
 fits-case : (x : Input) (len : ℕ) → ((s : Settings) (t : Tree) → x ≡ given s t → nodes t ≤ 512) → Fitting len (planOf x len)
 unfolding planOf
-fits-case (refused k) len f = record { few = omega arith; short = omega arith; core-few = omega arith }
+fits-case (refused k) len f = record { few = omega arith; short = omega arith }
 fits-case (given s t) len f = picked-fits s t len (ltb len (nodes t)) refl (f s t refl)
 
 pub plan-fits : (bs ts : List ℕ) (len : ℕ) → Fitting len (planOf (inputOf bs ts) len)
@@ -138,28 +115,45 @@ plan-fits bs ts len = fits-case (inputOf bs ts) len (λ s t e. takes bs ts s t e
 
 -- ---- the plan from the sizes that were measured
 
-made : (s : Settings) (t : Tree) (c : Core) (len : ℕ) → c ≡ coreOf s t → nodes t ≤ len → record { answer = record { number = 0; count = c .count }; core = c } ≡ planOf (given s t) len
+made : (s : Settings) (t : Tree) (n len : ℕ) (rs : List SizeRecord) → n ≡ nodes t → rs ≡ recordArray s t → nodes t ≤ len → record { answer = record { number = 0; count = n }; records = rs } ≡ planOf (given s t) len
 unfolding planOf
-made s t c len e h = rw (le-ltb len (nodes t) h, e, count-of s t)
+made s t n len rs e k h = rw (le-ltb len (nodes t) h, e, k)
 
-module _ (bs ts : List ℕ) (m : Measured) (e : m ≡ measuredOf (inputOf bs ts)) (len : ℕ) where
-  pub plan-refused : (m .number ≡ 0 → ⊥) → refusedPlan (m .number) ≡ planOf (inputOf bs ts) len
+module _ (bs ts : List ℕ) (m : Measured) (e : m ≡ measuredOf (inputOf bs ts)) where
+  pub plan-refused : (len : ℕ) → (m .number ≡ 0 → ⊥) → refusedPlan (m .number) ≡ planOf (inputOf bs ts) len
   unfolding planOf
-  plan-refused h = rw (refuses bs ts m e h)
+  plan-refused len h = rw (refuses bs ts m e h)
 
   module _ (h : m .number ≡ 0) where
     known : Accepts bs ts m
     known = accepts bs ts m e h
 
+    few : nodes (known .tree) ≤ 512
+    few = takes bs ts (m .settings) (known .tree) (known .input) .got .few
+
     count-is : m .core .count ≡ nodes (known .tree)
-    count-is = ap (λ (c : Core). c .count) (known .core) ∙ count-of (m .settings) (known .tree)
+    count-is = count-of (m .settings) (known .tree) (m .core) (known .core)
 
-    pub plan-short : len < m .core .count → refusedPlan 8 ≡ planOf (inputOf bs ts) len
+    pub few-nodes : m .core .count ≤ 512
+    few-nodes = omega (arith, count-is, few)
+
+    -- the tree's nodes below can be counted
+    pub tree-ready : ReadyBranch ts 0 512
+    tree-ready = record { tree = known .tree; is = takes bs ts (m .settings) (known .tree) (known .input) .got .is; room = omega (arith, few); few = omega (arith, few) }
+
+    pub ready-tree : tree-ready .tree ≡ accepts bs ts m e h .tree
+    unfolding tree-ready known
+    ready-tree = refl
+
+    pub plan-short : (len : ℕ) → len < m .core .count → refusedPlan 8 ≡ planOf (inputOf bs ts) len
     unfolding planOf
-    plan-short k = rw (known .input, lt-ltb len (nodes (known .tree)) (omega (arith, count-is)))
+    plan-short len k = rw (known .input, lt-ltb len (nodes (known .tree)) (omega (arith, count-is)))
 
-    pub plan-made : m .core .count ≤ len → record { answer = record { number = 0; count = m .core .count }; core = m .core } ≡ planOf (inputOf bs ts) len
-    plan-made k = made (m .settings) (known .tree) (m .core) len (known .core) (omega (arith, count-is)) ∙ ap (λ (x : Input). planOf x len) (sym (known .input))
+    pub plan-made : (len : ℕ) → m .core .count ≤ len → (b : List ℕ) → b ≡ padded (belows (tree-ready .tree)) → (rs : List SizeRecord)
+        → ((s : Settings) (t : Tree) → m .core ≡ coreOf s t → b ≡ padded (belows t) → rs ≡ recordArray s t) → record { answer = record { number = 0; count = m .core .count }; records = rs } ≡ planOf (inputOf bs ts) len
+    unfolding tree-ready
+    plan-made len k b be rs f =
+        made (m .settings) (known .tree) (m .core .count) len rs count-is (f (m .settings) (known .tree) (known .core) be) (omega (arith, count-is)) ∙ ap (λ (x : Input). planOf x len) (sym (known .input))
 
 -- ---- all of a list lent
 

@@ -1,19 +1,28 @@
 // The size collector: the size records in a list that the caller lends.
+pub mod below;
+
+use below::count_below;
 use sizes::Core;
 use sizes::measure_tree;
 ghost use mathlib.Core.Path.{_≡_};
 ghost use Prim.Native.Nat.{_≤_};
 ghost use mathlib.Core.List.{_++_};
-ghost use lib.ListN.{length, take, drop, replicate};
+ghost use lib.ListN.{length, take, drop};
+ghost use Rattle.common.specs.Arrays.{padded};
+ghost use Rattle.settings.specs.declared.Settings.{Settings};
+ghost use Rattle.tree.specs.Tree.{Tree};
 ghost use Rattle.sizes.specs.Input.{inputOf};
-ghost use Rattle.collector.specs.Records.{collectOf, noRecord, recordsOf, planOf, refusedPlan, lentOf};
+ghost use Rattle.sizes.specs.Core.{coreOf};
+ghost use Rattle.collector.specs.Below.{belows};
+ghost use Rattle.collector.specs.Records.{collectOf, noRecords, recordArray, planOf, refusedPlan, lentOf};
 
-// A node's natural and allotted size.
+// A node's natural and allotted size, and the number of nodes below it.
 pub struct SizeRecord {
     pub natural_width: u16,
     pub natural_height: u16,
     pub width: u16,
     pub height: u16,
+    pub below: u16,
 }
 
 // Number 0 and the node count, or a refusal.
@@ -28,28 +37,29 @@ pub struct Lent {
     pub list: [SizeRecord; 512],
 }
 
-// What is to be answered, and the sizes to write: none after a refusal.
+// What is to be answered, and the records to write, with zeros after them: none after a refusal.
 pub struct Plan {
     pub answer: Collected,
-    pub core: Core,
+    pub records: [SizeRecord; 512],
 }
 
 fn no_records() -> [SizeRecord; 512]
-    ensures { λ r. ⌜ r ≡ replicate 512 noRecord ⌝ }
+    ensures { λ r. ⌜ r ≡ noRecords ⌝ }
 {
     let none = SizeRecord {
         natural_width: 0,
         natural_height: 0,
         width: 0,
         height: 0,
+        below: 0,
     };
     [none; 512]
 }
 
-// The records of the core's nodes, and zeros after them.
-fn records_of(core: Core) -> [SizeRecord; 512]
+// The records of the core's nodes with their counts, and zeros after them.
+fn records_of(core: Core, below: [u16; 512]) -> [SizeRecord; 512]
     requires { ⌜ core .count ≤ 512 ⌝ }
-    ensures { λ r. ⌜ r ≡ recordsOf core ⌝ }
+    ensures { λ r. ⌜ ((s : Settings) (t : Tree) → core ≡ coreOf s t → below ≡ padded (belows t) → r ≡ recordArray s t) ⌝ }
 {
     let a = core.natural_widths;
     let b = core.natural_heights;
@@ -63,6 +73,7 @@ fn records_of(core: Core) -> [SizeRecord; 512]
             natural_height: b[i],
             width: c[i],
             height: d[i],
+            below: below[i],
         };
         i = i + 1;
     }
@@ -73,13 +84,13 @@ fn records_of(core: Core) -> [SizeRecord; 512]
 fn refused_plan(number: u8) -> Plan
     ensures { λ r. ⌜ r ≡ refusedPlan number ⌝ }
 {
-    let core = sizes::no_sizes();
+    let records = no_records();
     Plan {
         answer: Collected {
             number: number,
             count: 0,
         },
-        core: core,
+        records: records,
     }
 }
 
@@ -95,12 +106,14 @@ fn plan_sizes(settings: &[u8], tree: &[u8], len: usize) -> Plan
     if len < core.count {
         return refused_plan(8);
     }
+    let below = count_below(tree);
+    let records = records_of(core, below);
     Plan {
         answer: Collected {
             number: 0,
             count: core.count,
         },
-        core: core,
+        records: records,
     }
 }
 
@@ -121,8 +134,7 @@ pub fn collect_sizes(settings: &[u8], tree: &[u8], list: &mut [SizeRecord]) -> C
     ensures { λ r. ⌜ record { answer = r; list = now (list .exit) } ≡ collectOf (inputOf (now (settings .entry)) (now (tree .entry))) (now (list .entry)) ⌝ }
 {
     let p = plan_sizes(settings, tree, list.len());
-    let records = records_of(p.core);
-    write_sizes(list, records, p.answer.count);
+    write_sizes(list, p.records, p.answer.count);
     p.answer
 }
 

@@ -1,5 +1,6 @@
 // The public calls as C functions on bytes and numbers; include/leg_sheet.h says what each takes and gives.
 // None of them asks anything of the caller beyond what a C slice is: a pointer to as many items as its length says.
+use collector::below::count_below;
 use numbers::cuts;
 use numbers::fields;
 use numbers::lists;
@@ -71,10 +72,11 @@ pub extern "C" fn leg_sizes(settings: &[u8], tree: &[u8], list: &mut [u16]) -> u
         return pack(m.number, 0);
     }
     let core = m.core;
-    if list.len() / 4 < core.count {
+    if list.len() / 5 < core.count {
         return pack(8, 0);
     }
-    fields::put_sizes(core, list);
+    let below = count_below(tree);
+    fields::put_sizes(core, below, list);
     pack(0, core.count)
 }
 

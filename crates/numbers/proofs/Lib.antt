@@ -2,7 +2,7 @@
 mod Copies
 pub mod Parts
 pub mod Given
-mod Fours
+mod Fives
 pub mod Read
 pub mod Measured
 pub mod Counts

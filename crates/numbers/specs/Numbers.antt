@@ -10,8 +10,9 @@ use Rattle.settings.specs.Reading.{Parsed}
 use Rattle.settings.specs.Defaults.{recordOf, marginBytes, alignmentNumber, priorityNumber}
 use Rattle.tree.specs.Tree.{nodes}
 use Rattle.sizes.specs.declared.Core.{Core}
-use Rattle.sizes.specs.Sizes.{Sizes, treeSizes}
 use Rattle.sizes.specs.Input.{Input, refused, given}
+use Rattle.collector.specs.declared.SizeRecord.{SizeRecord}
+use Rattle.collector.specs.Records.{recordsOf}
 use Rattle.splits.specs.declared.SplitList.{SplitList}
 use Rattle.splits.specs.declared.Positions.{Positions}
 use Rattle.splits.specs.declared.cut.CutPair.{CutPair}
@@ -69,23 +70,23 @@ marginGiven p o = readGiven 8 marginNumbers p o
 
 -- ---- sizes
 
--- natural width and height, allotted width and height, node by node
-unfoldable pub sizeNumbers : List Sizes → List ℕ
+-- natural width and height, allotted width and height, nodes below, node by node
+unfoldable pub sizeNumbers : List SizeRecord → List ℕ
 sizeNumbers [] = []
-sizeNumbers (z ∷ zs) = z .natural .width ∷ z .natural .height ∷ z .allotted .width ∷ z .allotted .height ∷ sizeNumbers zs
+sizeNumbers (z ∷ zs) = z .«natural_width» ∷ z .«natural_height» ∷ z .width ∷ z .height ∷ z .below ∷ sizeNumbers zs
 
 unfoldable pub sizesGiven : Input → List ℕ → Gives
-unfolding refusal offered sizeNumbers treeSizes nodes
+unfolding refusal offered
 sizesGiven (refused k) o = refusal k o
-sizesGiven (given s t) o = offered (nodes t) (sizeNumbers (treeSizes s t)) o
+sizesGiven (given s t) o = offered (nodes t) (sizeNumbers (recordsOf s t)) o
 
--- the first n numbers of four lists, by turns
-unfoldable pub fours : ℕ → List ℕ → List ℕ → List ℕ → List ℕ → List ℕ
-fours zero j k l m = []
-fours (suc n) j k l m = getD j 0 0 ∷ getD k 0 0 ∷ getD l 0 0 ∷ getD m 0 0 ∷ fours n (drop 1 j) (drop 1 k) (drop 1 l) (drop 1 m)
+-- the first n numbers of five lists, by turns
+unfoldable pub fives : ℕ → List ℕ → List ℕ → List ℕ → List ℕ → List ℕ → List ℕ
+fives zero i j k l m = []
+fives (suc n) i j k l m = getD i 0 0 ∷ getD j 0 0 ∷ getD k 0 0 ∷ getD l 0 0 ∷ getD m 0 0 ∷ fives n (drop 1 i) (drop 1 j) (drop 1 k) (drop 1 l) (drop 1 m)
 
-abbrev pub coreNumbers : Core → List ℕ
-coreNumbers c = fours (c .count) (c .«natural_widths») (c .«natural_heights») (c .widths) (c .heights)
+abbrev pub coreNumbers : Core → List ℕ → List ℕ
+coreNumbers c below = fives (c .count) (c .«natural_widths») (c .«natural_heights») (c .widths) (c .heights) below
 
 -- ---- lists
 

@@ -91,10 +91,10 @@ pub fn put_margin(s: Settings, out: &mut [u16])
     lists::copy_bytes(&fills, out, 4);
 }
 
-// Four numbers a node.
-pub fn put_sizes(core: Core, out: &mut [u16])
-    requires { ⌜ (core .count ≤ 512) × (4 * core .count ≤ length (now out)) ⌝ }
-    ensures { λ _. ⌜ now (out .exit) ≡ sets (now (out .entry)) 0 (coreNumbers core) ⌝ }
+// Five numbers a node: its sizes in the core, and its count of nodes below.
+pub fn put_sizes(core: Core, below: [u16; 512], out: &mut [u16])
+    requires { ⌜ (core .count ≤ 512) × (5 * core .count ≤ length (now out)) ⌝ }
+    ensures { λ _. ⌜ now (out .exit) ≡ sets (now (out .entry)) 0 (coreNumbers core below) ⌝ }
 {
     let natural_widths = core.natural_widths;
     let natural_heights = core.natural_heights;
@@ -103,8 +103,14 @@ pub fn put_sizes(core: Core, out: &mut [u16])
     let n = core.count;
     let mut i = 0;
     while i < n {
-        let four = [natural_widths[i], natural_heights[i], widths[i], heights[i]];
-        lists::copy(&four, out, 4 * i);
+        let five = [
+            natural_widths[i],
+            natural_heights[i],
+            widths[i],
+            heights[i],
+            below[i],
+        ];
+        lists::copy(&five, out, 5 * i);
         i += 1;
     }
 }

@@ -109,9 +109,11 @@ fn extent(out: &mut [u8], from: usize, width: u16, height: u16) -> usize {
     decimal(out, at, common::wide16(height))
 }
 
-// A node's sizes: the natural one, the allotted one.
+// A node's sizes, the natural one and the allotted one, and the number of nodes below it.
 pub fn measured(out: &mut [u8], z: SizeRecord) -> usize {
     let mut at = extent(out, 0, z.natural_width, z.natural_height);
     at = bytes(out, at, b", ");
-    extent(out, at, z.width, z.height)
+    at = extent(out, at, z.width, z.height);
+    at = bytes(out, at, b", below ");
+    decimal(out, at, common::wide16(z.below))
 }

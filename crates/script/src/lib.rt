@@ -6,7 +6,7 @@
 // Lines that ask for something (`kinds`), with what is wanted; # is a title, which is echoed:
 //   ? the leaf's record                 > the leaf's block          ! the refusal of both leaf calls
 //   $ the sheet                         % the sheet printer's refusal
-//   s the node's natural and allotted size
+//   s the node's natural and allotted size, and the number of nodes below it
 //   r the settings reader's number      f its 28 fields as bytes    d the default settings' 28 fields as bytes
 //   t the tree reader's number, and the node count
 //   p LINE COLUMN, then the number, the leaf's node, the line and the column inside its block, for that place of the printed sheet

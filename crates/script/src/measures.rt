@@ -1,10 +1,10 @@
-// A node's natural and allotted size, as text, from the list that the size collector writes.
+// A node's natural and allotted size, and the number of nodes below it, as text, from the list that the size collector writes.
 use collector::SizeRecord;
 use lines::compare;
 use lines::tell;
 
-// The longest text of four numbers.
-const LONGEST: usize = 40;
+// The longest text of five numbers.
+const LONGEST: usize = 50;
 
 // The node's entry; past the list, zeros.
 fn entry(settings: &[u8], tree: &[u8], node: usize) -> SizeRecord {
@@ -13,6 +13,7 @@ fn entry(settings: &[u8], tree: &[u8], node: usize) -> SizeRecord {
         natural_height: 0,
         width: 0,
         height: 0,
+        below: 0,
     };
     let r = collector::collect_in(settings, tree, [none; 512], 512);
     if 512 <= node {

@@ -9,11 +9,11 @@ use lib.Seq.{sets, set-comm}
 use Rattle.sizes.specs.declared.Size.{Size}
 
 -- a place before the others may be stored to last
-set-sets : (vs l : List ℕ) (i j v : ℕ) → i < j → set (sets l j vs) i v ≡ sets (set l i v) j vs
+pub set-sets : (vs l : List ℕ) (i j v : ℕ) → i < j → set (sets l j vs) i v ≡ sets (set l i v) j vs
 set-sets [] l i j v h = refl
 set-sets (a ∷ vs) l i j v h = set-sets vs (set l j a) i (suc j) v (omega arith) ∙ ap (λ (k : List ℕ). sets k (suc j) vs) (set-comm l j i a v (λ e. omega arith))
 
-sets-append : (us vs l : List ℕ) (i : ℕ) → sets l i (us ++ vs) ≡ sets (sets l i us) (i + length us) vs
+pub sets-append : (us vs l : List ℕ) (i : ℕ) → sets l i (us ++ vs) ≡ sets (sets l i us) (i + length us) vs
 sets-append [] vs l i = rw (add-zero i)
 sets-append (a ∷ us) vs l i = sets-append us vs (set l i a) (suc i) ∙ ap (λ (k : ℕ). sets (sets (set l i a) (suc i) us) k vs) (omega arith)
 

@@ -9,6 +9,7 @@ fn made_of() -> SizeRecord {
         natural_height: 9,
         width: 9,
         height: 9,
+        below: 9,
     }
 }
 
@@ -22,7 +23,10 @@ fn same(a: SizeRecord, b: SizeRecord) -> bool {
     if a.width != b.width {
         return false;
     }
-    a.height == b.height
+    if a.height != b.height {
+        return false;
+    }
+    a.below == b.below
 }
 
 // A number and a space.
@@ -31,7 +35,7 @@ fn next(n: u16) {
     tell::text(b" ");
 }
 
-// Entries `first` to `last`: natural width and height, allotted width and height.
+// Entries `first` to `last`: natural width and height, allotted width and height, nodes below.
 fn show(first: usize, last: usize, z: SizeRecord) {
     tell::number(first);
     if first < last {
@@ -42,7 +46,8 @@ fn show(first: usize, last: usize, z: SizeRecord) {
     next(z.natural_width);
     next(z.natural_height);
     next(z.width);
-    tell::number(common::wide16(z.height));
+    next(z.height);
+    tell::number(common::wide16(z.below));
     tell::end();
 }
 

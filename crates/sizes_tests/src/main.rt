@@ -1,6 +1,6 @@
-// The size collector and the sharing helper against document 01. The cases are the lines of standard input (the file `stdin`); after each call of the collector its whole list is
-// shown, so that the file `stdout` has the numbers that document 01 gives. A line is a letter, a space and its contents:
-//   # a title, which is echoed     - how the numbers follow from document 01
+// The size collector and the sharing helper against documents 01 and 02. The cases are the lines of standard input (the file `stdin`); after each call of the collector its whole list is
+// shown, so that the file `stdout` has the numbers that they give. A line is a letter, a space and its contents:
+//   # a title, which is echoed     - how the numbers follow
 //   = the settings' bytes          : the tree's bytes          + N, a space, bytes: these go on the tree N times
 //   l N: the collector is called with the first N entries of a list lent
 //   s SPARE N: the sharing helper is called for the indices 0 to N, with the width priority of the settings given

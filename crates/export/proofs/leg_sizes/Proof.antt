@@ -1,47 +1,41 @@
 use borrow.Author.Needs.{needs}
 use native.Mathlib.Omega.{arith}
-use mathlib.Core.List.{[]}
-use Rattle.numbers.proofs.Measured.{sizes-refused, few-nodes, sizes-short, sizes-written}
+use Rattle.collector.proofs.Recorded.{few-nodes, tree-ready}
+use Rattle.numbers.proofs.Measured.{sizes-refused, sizes-short, sizes-written}
 use Rattle.export.proofs.leg_sizes.Statement.{statement}
 use Rattle.export.proofs.leg_sizes.Tie as tie
-
-measure-tree-requires : tie.Need-measure-tree-requires
-measure-tree-requires c κs = search needs
-
-pack-requires : tie.Need-pack-requires
-pack-requires c κs = search needs
 
 returns : tie.Need-returns
 returns c = sizes-refused _ _ _ _ (c .before .before .before .measure-tree .ensures) _ (c .before .if1 .taken) (c .pack .ensures)
 
-pack-requires-2 : tie.Need-pack-requires-2
-pack-requires-2 c κs = search needs
-
 returns-2 : tie.Need-returns-2
 returns-2 c = sizes-short _ _ _ _ (c .before .before .before .before .before .before .measure-tree .ensures) (c .before .before .before .before .if1 .left) _ (omega arith) (c .pack2 .ensures)
 
+count-below-requires : tie.Need-count-below-requires
+count-below-requires c κs = tree-ready _ _ _ (c .before .before .before .before .before .measure-tree .ensures) (c .before .before .before .if1 .left)
+
 put-sizes-requires : tie.Need-put-sizes-requires
-put-sizes-requires c κs = (few-nodes _ _ [] _ (c .before .before .before .before .before .before .measure-tree .ensures) (c .before .before .before .before .if1 .left), omega arith)
-
-pack-requires-3 : tie.Need-pack-requires-3
-pack-requires-3 c κs = search needs
-
-same-length : tie.Need-same-length
-same-length c = search needs
+put-sizes-requires c κs = (few-nodes _ _ _ (c .before .before .before .before .before .before .before .measure-tree .ensures) (c .before .before .before .before .before .if1 .left), omega arith)
 
 returns-3 : tie.Need-returns-3
-returns-3 c = sizes-written _ _ _ _ (c .before .before .before .before .before .before .before .before .before .before .measure-tree .ensures) (c .before .before .before .before .before .before .before .before .if1 .left) _ _ (omega arith) (c .pack3 .ensures) (c .before .before .before .put-sizes .ensures)
+returns-3 c =
+    let d = c .before .before .before in
+    let e = d .before .before in
+    let m = e .before .before .before .before .before .before .measure-tree .ensures in
+    let h = e .before .before .before .before .if1 .left in
+    sizes-written _ _ _ _ m h _ (e .count-below .ensures (tree-ready _ _ _ m h)) _ _ (omega arith) (c .pack3 .ensures) (d .put-sizes .ensures)
 
 pub leg-sizes-spec : {M : Type 1} → statement M
 leg-sizes-spec =
     tie.close
     (tie.spec
-    measure-tree-requires
-    pack-requires
+    (λ c κs. search needs)
+    (λ c κs. search needs)
     returns
-    pack-requires-2
+    (λ c κs. search needs)
     returns-2
+    count-below-requires
     put-sizes-requires
-    pack-requires-3
-    same-length
+    (λ c κs. search needs)
+    (λ c. search needs)
     returns-3)
