@@ -79,8 +79,9 @@ uint64_t leg_read_margin(const uint8_t *bytes, size_t bytes_len, uint16_t *out, 
 /* Reads a tree. 2 to 5. Counts its nodes. */
 uint64_t leg_read_tree(const uint8_t *tree, size_t tree_len);
 
-/* The sizes of a tree's nodes. 1 to 5, and 8 where the list has under 4 numbers a node. Writes for each node, in node order: natural
- * width, natural height, allotted width, allotted height. Counts nodes. */
+/* The sizes of a tree's nodes. 1 to 5, and 8 where the list has under 5 numbers a node. Writes for each node, in node order: natural width, natural height,
+ * allotted width, allotted height, and how many nodes are below it, 0 for a leaf. Node n's next sibling is n + 1 + the nodes below n exactly where this is no more
+ * than its parent's number + the nodes below its parent; elsewhere, as for the root, it has none. Counts nodes. */
 uint64_t leg_sizes(const uint8_t *settings, size_t settings_len, const uint8_t *tree, size_t tree_len, uint16_t *list, size_t list_len);
 
 /* A leaf's record. 1 to 6, 9; 8 last, where `out` has under LEG_RECORD numbers. Writes node, width, height; first_row, last_row, first_col, last_col,

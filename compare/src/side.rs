@@ -48,6 +48,7 @@ fn size_of(size: leg_sheet::SizeRecord) -> SizeRecord {
         natural_height: size.natural_height,
         allotted_width: size.allotted_width,
         allotted_height: size.allotted_height,
+        below: size.below,
     }
 }
 
@@ -57,6 +58,7 @@ fn numbers_of(size: &SizeRecord) -> [u16; SIZES] {
         size.natural_height,
         size.allotted_width,
         size.allotted_height,
+        size.below,
     ]
 }
 
@@ -133,14 +135,14 @@ impl Calls for Library {
         counted(calls::read_tree(tree))
     }
 
-    /// Three numbers more than the list's: one less than a further record needs.
+    /// Some numbers more than the list's: one less than a further record needs.
     fn sizes(&mut self, settings: &[u8], tree: &[u8], list: &mut [SizeRecord]) -> Counted {
         let numbers: Vec<u16> = list.iter().flat_map(numbers_of).collect();
-        let mut lent = Lent::new(&numbers, numbers.len() + MORE);
+        let mut lent = Lent::new(&numbers, numbers.len() + SIZES - 1);
         let Counted { number, count } = counted(calls::sizes(settings, tree, &mut lent.list));
-        for (record, four) in list.iter_mut().zip(lent.list.chunks_exact(SIZES)) {
-            let four = four.try_into().expect("four numbers");
-            *record = size_of(leg_sheet::SizeRecord::from_numbers(four));
+        for (record, five) in list.iter_mut().zip(lent.list.chunks_exact(SIZES)) {
+            let five = five.try_into().expect("five numbers");
+            *record = size_of(leg_sheet::SizeRecord::from_numbers(five));
         }
         let number = sound(number, lent.kept(numbers.len()));
         Counted { number, count }

@@ -23,7 +23,7 @@ pub const SETTINGS: usize = 28;
 /// The numbers of the margin: left, right, top, bottom, and their fills.
 pub const MARGIN: usize = 8;
 /// The numbers of a size record.
-pub const SIZES: usize = 4;
+pub const SIZES: usize = 5;
 /// A list's entries at the most.
 pub const PIECES: usize = 512;
 /// A list that is written: its count, then its entries with 0 past the count.
@@ -81,7 +81,7 @@ pub fn read_tree(tree: &[u8]) -> Result<usize, Refusal> {
     answer(unsafe { raw::leg_read_tree(tree.as_ptr(), tree.len()) })
 }
 
-/// Writes [`SIZES`] numbers for each node: natural width and height, allotted width and height. Counts the nodes.
+/// Writes [`SIZES`] numbers for each node: natural width and height, allotted width and height, and the number of nodes below it. Counts the nodes.
 ///
 /// # Errors
 /// 1 to 5, 8.

@@ -62,7 +62,7 @@ impl<'a> Input<'a> {
         printed(|out| calls::print_leaf(self.settings, self.tree, node, out))
     }
 
-    /// The size of each node, by its number.
+    /// The size of each node, by its number, and how many nodes are below it.
     ///
     /// # Errors
     /// 1 to 5.

@@ -36,8 +36,8 @@ mod values;
 
 pub use input::Input;
 pub use records::{
-    CutAnswer, CutPair, CutParts, Flags, LeafPlace, LeafRecord, List, Marked, Place, Positions,
-    ShortParts, SizeRecord, SplitList,
+    next_sibling, CutAnswer, CutPair, CutParts, Flags, LeafPlace, LeafRecord, List, Marked, Place,
+    Positions, ShortParts, SizeRecord, SplitList,
 };
 pub use refusal::Refusal;
 pub use settings::{Alignment, Priority, Settings, Sides};

@@ -5,7 +5,7 @@ use std::ops::Deref;
 
 use crate::calls::{CUT, LENT_CUT, LIST, PIECES, PLACE, RECORD, SIZES};
 
-/// A node's size.
+/// A node's size, and how many nodes are below it.
 #[derive(Debug, Clone, Copy, Default, PartialEq, Eq, Hash)]
 pub struct SizeRecord {
     /// What its own contents need, padding included.
@@ -16,18 +16,24 @@ pub struct SizeRecord {
     pub allotted_width: u16,
     /// The lines it gets.
     pub allotted_height: u16,
+    /// The number of nodes below it, its children and all below them; 0 for a leaf.
+    ///
+    /// By document 02's rule, 'a node's own number plus 1 plus that count is its next sibling exactly where this is no more than its parent's number plus its parent's
+    /// count; elsewhere, as for the root, it has none': [`next_sibling`].
+    pub below: u16,
 }
 
 impl SizeRecord {
     /// A record of [`calls::sizes`](crate::calls::sizes).
     #[must_use]
     pub const fn from_numbers(numbers: [u16; SIZES]) -> SizeRecord {
-        let [natural_width, natural_height, allotted_width, allotted_height] = numbers;
+        let [natural_width, natural_height, allotted_width, allotted_height, below] = numbers;
         SizeRecord {
             natural_width,
             natural_height,
             allotted_width,
             allotted_height,
+            below,
         }
     }
 
@@ -39,8 +45,27 @@ impl SizeRecord {
             self.natural_height,
             self.allotted_width,
             self.allotted_height,
+            self.below,
         ]
     }
+}
+
+/// The next sibling of `node`, a child of `parent`, by the sizes of their tree: no node between is looked at.
+///
+/// ```
+/// use leg_sheet::{next_sibling, sizes, Settings, Tree};
+///
+/// let tree = Tree::column(["a".into(), Tree::row(["b", "c"]), "d".into()]);
+/// let sizes = sizes(&Settings::default(), &tree)?;
+/// assert_eq!(next_sibling(&sizes, 0, 2), Some(5));
+/// assert_eq!(next_sibling(&sizes, 2, 4), None);
+/// # Ok::<(), leg_sheet::Refusal>(())
+/// ```
+#[must_use]
+pub fn next_sibling(sizes: &[SizeRecord], parent: usize, node: usize) -> Option<usize> {
+    let last = |node: usize| Some(node + usize::from(sizes.get(node)?.below));
+    let next = last(node)? + 1;
+    (next <= last(parent)?).then_some(next)
 }
 
 /// Up to 512 numbers; it is a slice of them.

@@ -50,7 +50,7 @@ pub fn print_leaf(settings: &Settings, tree: &Tree, node: usize) -> Result<Strin
     on_bytes(settings, tree, |input| input.print_leaf(node))
 }
 
-/// The size of each node, by its number.
+/// The size of each node, by its number, and how many nodes are below it.
 ///
 /// ```
 /// use leg_sheet::{sizes, Settings, Tree};
@@ -58,6 +58,7 @@ pub fn print_leaf(settings: &Settings, tree: &Tree, node: usize) -> Result<Strin
 /// let sizes = sizes(&Settings::default(), &Tree::row(["1", "Home pad"]))?;
 /// let widths: Vec<u16> = sizes.iter().map(|size| size.allotted_width).collect();
 /// assert_eq!(widths, [14, 3, 10]);
+/// assert_eq!(sizes[0].below, 2);
 /// # Ok::<(), leg_sheet::Refusal>(())
 /// ```
 ///

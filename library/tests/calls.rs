@@ -3,7 +3,7 @@
 
 use leg_sheet::calls::{
     leaf_record, place, places, print_sheet, read_margin, read_settings, share, short_splits3,
-    short_splits3_lent, CUT, LENT_CUT, LIST, MARGIN, PLACE, RECORD, SETTINGS,
+    short_splits3_lent, sizes, CUT, LENT_CUT, LIST, MARGIN, PLACE, RECORD, SETTINGS, SIZES,
 };
 use leg_sheet::{Place, Refusal};
 
@@ -75,6 +75,22 @@ fn reads_the_margin() {
     assert_eq!(read_settings(&with, &mut one), Ok(SETTINGS));
     assert_eq!(read_settings(D, &mut other), Ok(SETTINGS));
     assert_eq!(one, other);
+}
+
+/// Five numbers a node, the last of them the nodes below it; a number less than that is refused and leaves all.
+#[test]
+fn sizes_have_the_nodes_below() {
+    let row = b"\x02\x00\x08\x01\x00\x01a\x01\x00\x01b";
+    let read = |length: usize| {
+        let mut list = [0xA5A5; 3 * SIZES + 1];
+        let answer = sizes(D, row, &mut list[..length]);
+        (answer.map_err(Refusal::number), list)
+    };
+    let written = [7, 1, 7, 1, 2, 3, 1, 3, 1, 0, 3, 1, 3, 1, 0, 0xA5A5];
+    assert_eq!(read(16), (Ok(3), written));
+    assert_eq!(read(15), (Ok(3), written));
+    assert_eq!(read(14), (Err(8), [0xA5A5; 16]));
+    assert_eq!(read(12), (Err(8), [0xA5A5; 16]));
 }
 
 /// The pair, 3 taken and 8 left, behind yes or no; then the lists, or the count left and the list taken.

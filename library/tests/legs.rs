@@ -62,12 +62,12 @@ fn reads_standard_input() {
 fn sizes() {
     answers(
         &["sizes", "figure2.legs"],
-        "node  natural width  natural height  allotted width  allotted height\n   \
-            0              8               3               8                3\n   \
-            1              8               1               8                1\n   \
-            2              7               1               8                1\n   \
-            3              3               1               4                1\n   \
-            4              3               1               3                1\n",
+        "node  natural width  natural height  allotted width  allotted height  nodes below\n   \
+            0              8               3               8                3            4\n   \
+            1              8               1               8                1            0\n   \
+            2              7               1               8                1            2\n   \
+            3              3               1               4                1            0\n   \
+            4              3               1               3                1            0\n",
     );
 }
 

@@ -1,9 +1,9 @@
 //! Settings and trees as values, and what the calls on them answer.
 
 use leg_sheet::{
-    leaf_record, place, places, print_leaf, print_sheet, share, short_splits, short_splits3,
-    short_splits3_in_place, sizes, Alignment, CutPair, Input, LeafPlace, Marked, Place, Priority,
-    Refusal, Settings, Sides, SizeRecord, Tree,
+    leaf_record, next_sibling, place, places, print_leaf, print_sheet, share, short_splits,
+    short_splits3, short_splits3_in_place, sizes, Alignment, CutPair, Input, LeafPlace, Marked,
+    Place, Priority, Refusal, Settings, Sides, SizeRecord, Tree,
 };
 
 /// The record of the defaults.
@@ -184,7 +184,8 @@ fn figure_2_by_every_call() {
     );
     let sizes = sizes(&settings, &tree).expect("sizes");
     assert_eq!(sizes.len(), 5);
-    assert_eq!(sizes[3], SizeRecord::from_numbers([3, 1, 4, 1]));
+    assert_eq!(sizes[3], SizeRecord::from_numbers([3, 1, 4, 1, 0]));
+    assert_eq!(sizes[2], SizeRecord::from_numbers([7, 1, 8, 1, 2]));
     let leaf = leaf_record(&settings, &tree, 3).expect("a leaf");
     assert_eq!((leaf.node, leaf.width, leaf.height), (3, 4, 1));
     let set = leaf.flags.named().into_iter().filter(|flag| flag.1);
@@ -223,6 +224,65 @@ fn a_leaf_has_the_pair_of_its_cut() {
         [5, 6, 7].map(|node| pair(&columns, node)),
         [(0, 0), (1, 1), (0, 0)]
     );
+}
+
+/// The next sibling of each node, by the tree.
+fn siblings(tree: &Tree, parent: Option<usize>, list: &mut Vec<(Option<usize>, Option<usize>)>) {
+    let node = list.len();
+    list.push((parent, None));
+    let (Tree::Row(children) | Tree::Column(children)) = tree else {
+        return;
+    };
+    let mut before = None;
+    for child in children {
+        let number = list.len();
+        if let Some(before) = before.replace(number) {
+            list[before].1 = Some(number);
+        }
+        siblings(child, Some(node), list);
+    }
+}
+
+/// Document 02, 7: the rule finds the next sibling where there is one, and none elsewhere.
+#[test]
+fn counts_lead_to_the_next_sibling() {
+    let inner = Tree::row(["b".into(), Tree::column(["c", "d"])]);
+    let trees = [
+        "ab".into(),
+        Tree::Row(vec![]),
+        Tree::column(["a".into(), inner, "e".into()]),
+        Tree::row([Tree::row([Tree::Row(vec![])])]),
+        Tree::column([Tree::Row(vec![]), Tree::row(["x"]), Tree::Column(vec![])]),
+        Tree::row([figure_2(), "c".into(), figure_2(), figure_2()]),
+        nested(16),
+        Tree::row(vec![""; 511]),
+    ];
+    for tree in trees {
+        let sizes = sizes(&Settings::default(), &tree).expect("sizes");
+        let mut list = Vec::new();
+        siblings(&tree, None, &mut list);
+        assert_eq!(usize::from(sizes[0].below), list.len() - 1);
+        for (node, (parent, next)) in list.into_iter().enumerate() {
+            let found = parent.and_then(|parent| next_sibling(&sizes, parent, node));
+            assert_eq!(found, next, "{tree:?} {node}");
+        }
+    }
+}
+
+/// Document 02, 7: the counts of the second tree there, of a chain and of one group.
+#[test]
+fn nodes_below() {
+    let below = |tree: Tree| {
+        let sizes = sizes(&Settings::default(), &tree).expect("sizes");
+        sizes.iter().map(|size| size.below).collect::<Vec<u16>>()
+    };
+    let inner = Tree::row(["b".into(), Tree::column(["c", "d"])]);
+    let tree = Tree::column(["a".into(), inner, "e".into()]);
+    assert_eq!(below(tree), [7, 0, 4, 0, 2, 0, 0, 0]);
+    assert_eq!(below(nested(16)), (0..16).rev().collect::<Vec<u16>>());
+    let flat = below(Tree::row(vec![""; 511]));
+    assert_eq!((flat[0], flat[1..].to_vec()), (511, vec![0; 511]));
+    assert_eq!(next_sibling(&[], 0, 0), None);
 }
 
 /// The set M of the figures, with this margin.

@@ -33,6 +33,7 @@ pub struct SizeRecord {
     pub natural_height: u16,
     pub allotted_width: u16,
     pub allotted_height: u16,
+    pub below: u16,
 }
 
 /// Pieces, and 0 past their count.

@@ -133,10 +133,11 @@ fn junk_sizes(length: usize) -> Vec<SizeRecord> {
     let number = |at: usize| (at as u16) ^ 0xA5A5;
     (0..length)
         .map(|at| SizeRecord {
-            natural_width: number(4 * at),
-            natural_height: number(4 * at + 1),
-            allotted_width: number(4 * at + 2),
-            allotted_height: number(4 * at + 3),
+            natural_width: number(5 * at),
+            natural_height: number(5 * at + 1),
+            allotted_width: number(5 * at + 2),
+            allotted_height: number(5 * at + 3),
+            below: number(5 * at + 4),
         })
         .collect()
 }

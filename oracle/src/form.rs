@@ -178,13 +178,15 @@ pub fn encode_tree(tree: &Tree) -> Vec<u8> {
     bytes
 }
 
-/// The four numbers of a node.
+/// The five numbers of a node.
 #[derive(Debug, Clone, Copy, Default, PartialEq, Eq)]
 pub struct Size {
     pub natural_width: usize,
     pub natural_height: usize,
     pub allotted_width: usize,
     pub allotted_height: usize,
+    /// 'The number of nodes below its node' (document 02, 7).
+    pub below: usize,
 }
 
 /// The eight flags of document 01.

@@ -91,8 +91,12 @@ fn leaves() -> ExitCode {
     let answer = original::answer(&read.settings, &read.tree);
     for (node, size) in answer.sizes.iter().enumerate() {
         println!(
-            "node {node}: natural {} by {}, allotted {} by {}",
-            size.natural_width, size.natural_height, size.allotted_width, size.allotted_height
+            "node {node}: natural {} by {}, allotted {} by {}, {} below",
+            size.natural_width,
+            size.natural_height,
+            size.allotted_width,
+            size.allotted_height,
+            size.below
         );
     }
     for leaf in answer.leaves {

@@ -119,6 +119,12 @@ pub struct Seen {
     pub uneven: usize,
 }
 
+/// The nodes below each node, which the original does not say: those of its branch in the tree, but for itself.
+fn below(tree: &Tree) -> Vec<usize> {
+    let children = tree.children().iter().flat_map(below);
+    std::iter::once(tree.nodes() - 1).chain(children).collect()
+}
+
 /// All that the original says about a table. Panics where the two builds print different sheets, where the trace contradicts document 01 on
 /// which nodes there are and which flags are always false, and where a child is not given what was taken for it.
 pub fn seen(settings: &Settings, tree: &Tree) -> Seen {
@@ -142,6 +148,7 @@ pub fn seen(settings: &Settings, tree: &Tree) -> Seen {
         cuts[pos] = Some((cut.is_row, cut3(&cut.splits, cut.width)));
     }
 
+    let below = below(tree);
     let mut sizes = vec![None; count];
     for node in &trace.nodes {
         let (natural_width, natural_height) = naturals[node.pos].expect("a node is measured");
@@ -160,6 +167,7 @@ pub fn seen(settings: &Settings, tree: &Tree) -> Seen {
             natural_height,
             allotted_width: node.width,
             allotted_height: node.height,
+            below: below[node.pos],
         });
     }
 

@@ -82,7 +82,7 @@ pub fn share(spare: usize, n: usize, priority: u8, index: usize) -> usize {
     }
 }
 
-/// The four numbers of each node.
+/// The five numbers of each node.
 pub fn sizes(settings: &Settings, tree: &Tree) -> Vec<Size> {
     sizes_of(settings, &Nodes::of(tree))
 }
@@ -113,6 +113,19 @@ fn sizes_of(settings: &Settings, nodes: &Nodes) -> Vec<Size> {
         };
         sizes[node].natural_width = width;
         sizes[node].natural_height = height;
+    }
+
+    // Each node is one below its parent, its parent's parent, and so on up to the root.
+    let mut parents = vec![None; sizes.len()];
+    for node in 0..sizes.len() {
+        for &child in &nodes.children[node] {
+            parents[child] = Some(node);
+        }
+        let mut above = parents[node];
+        while let Some(parent) = above {
+            sizes[parent].below += 1;
+            above = parents[parent];
+        }
     }
 
     // 'The root is allotted its natural size.'

@@ -228,6 +228,7 @@ impl<A: Answers> Calls for Side<A> {
                 natural_height: narrow(size.natural_height),
                 allotted_width: narrow(size.allotted_width),
                 allotted_height: narrow(size.allotted_height),
+                below: narrow(size.below),
             };
         }
         Counted {

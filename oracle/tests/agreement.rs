@@ -180,7 +180,7 @@ struct Faulty {
     fault: u8,
 }
 
-const FAULTS: u8 = 49;
+const FAULTS: u8 = 53;
 
 /// The judge's numbers with the margin and without it: whether only the margin makes a sheet too large.
 fn is_large_by_margin(number: u8, settings: &[u8], tree: &[u8]) -> bool {
@@ -220,6 +220,19 @@ impl Calls for Faulty {
             // An entry past the count, and one on a refusal.
             2 if answer.count < list.len() => list[answer.count].natural_width ^= 1,
             3 if answer.number == 8 && !list.is_empty() => list[0] = SizeRecord::default(),
+            // The node itself counted; the root's children alone; the count at the branch's last node; one past the count.
+            49 => list[..answer.count]
+                .iter_mut()
+                .for_each(|size| size.below += 1),
+            50 if answer.number == 0 => {
+                let root = judge::read_tree(tree).expect("an accepted tree");
+                list[0].below = root.children().len() as u16;
+            }
+            51 if answer.number == 0 => {
+                let below = std::mem::take(&mut list[0].below);
+                list[usize::from(below)].below = below;
+            }
+            52 if answer.count < list.len() => list[answer.count].below = 0,
             _ => {}
         }
         answer

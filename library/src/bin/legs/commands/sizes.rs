@@ -10,7 +10,7 @@ use crate::operands::File;
 pub const COMMAND: Command = Command {
     name: "sizes",
     operands: &["FILE"],
-    about: "what each node needs and what it is allotted, by its number",
+    about: "what each node needs and is allotted, and the nodes below it, by its number",
     run,
 };
 
@@ -22,16 +22,17 @@ fn run(words: &[OsString]) -> Result<Answer, Fault> {
         "natural height",
         "allotted width",
         "allotted height",
+        "nodes below",
     ]);
     text.extend(sizes.iter().enumerate().map(record));
     Ok(Answer::accepted(text))
 }
 
 fn record((node, size): (usize, &SizeRecord)) -> String {
-    let [natural_width, natural_height, width, height] = size.to_numbers().map(usize::from);
-    line([node, natural_width, natural_height, width, height])
+    let [natural_width, natural_height, width, height, below] = size.to_numbers().map(usize::from);
+    line([node, natural_width, natural_height, width, height, below])
 }
 
-fn line<T: Display>([node, natural_width, natural_height, width, height]: [T; 5]) -> String {
-    format!("{node:>4}{natural_width:>15}{natural_height:>16}{width:>16}{height:>17}\n")
+fn line<T: Display>([node, natural_width, natural_height, width, height, below]: [T; 6]) -> String {
+    format!("{node:>4}{natural_width:>15}{natural_height:>16}{width:>16}{height:>17}{below:>13}\n")
 }
