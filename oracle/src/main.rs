@@ -13,7 +13,7 @@ oracle leaves            every node's sizes, every leaf's record and block
 oracle agree [SEED [N]]  the crate against documents 01 and 02, on the exhaustive inputs and N rounds of the random ones
 oracle replay SEED       answers of the crate as the input of the program crates/replay
 oracle faults SEED       the same of crates/replay_faults
-oracle places SEED       places and their leaves, as lines (src/places.rs says their form)";
+oracle places SEED       places and their leaves as the input of the program crates/replay_places";
 
 fn main() -> ExitCode {
     let arguments: Vec<String> = std::env::args().skip(1).collect();
