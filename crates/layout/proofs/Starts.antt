@@ -5,16 +5,16 @@ use Prim.Native.Nat.{ℕ, zero, suc, _+_}
 use native.Mathlib.Omega.{arith}
 use mathlib.Core.Bool.{Bool, false}
 use mathlib.Core.Option.{some}
-use mathlib.Core.List.{List, [], _∷_, _++_, map}
+use mathlib.Core.List.{List, [], map}
 use lib.Dec.{eqb}
-use lib.ListN.{length, getD, getElem?, take, length-append}
+use lib.ListN.{length, getElem?, take, length-append}
 use Rattle.settings.specs.declared.Settings.{Settings}
 use Rattle.tree.specs.Tree.{Axis, across, down, Tree, cell, group, Trees, none, more, empty?, count, nodes, nodes*}
 use Rattle.splits.specs.Splits.{Cut, shortSplits3}
 use Rattle.sizes.specs.declared.Size.{Size}
 use Rattle.sizes.specs.Text.{total}
 use Rattle.sizes.specs.Sizes.{along, sep, allot, spareOf, childSize, Sizes, sizes, sizes*, treeSizes}
-use Rattle.sizes.proofs.Elems.{elem-front, elem-back, elem-in, elem-none, elem-first, elem-cases}
+use Rattle.sizes.proofs.Elems.{elem-none, elem-first, elem-cases}
 use Rattle.sizes.proofs.Fill.{along-sized}
 use Rattle.sizes.proofs.Nodes.{subtrees, subtrees*, subtrees-length, childNodes, sizesAt, Part, part-whole, part-tail, part-own, child-part, rest-part}
 use Rattle.block.specs.Every.{Every}

@@ -5,7 +5,6 @@ use mathlib.Core.Option.{Option, some, none}
 use lib.Dec.{ltb, eqb}
 use Rattle.common.specs.Choice.{pick}
 use Rattle.settings.specs.declared.Settings.{Settings}
-use Rattle.tree.specs.Tree.{Tree}
 use Rattle.splits.specs.Splits.{noPair}
 use Rattle.splits.specs.Lists.{splitList}
 use Rattle.sizes.specs.Input.{Input, refused, given}

@@ -9,7 +9,7 @@ use Rattle.tree.specs.Tree.{Tree}
 use Rattle.sizes.specs.Input.{inputOf}
 use Rattle.block.specs.Content.{feeds}
 use Rattle.block.proofs.Every.{byteAt}
-use Rattle.layout.specs.Walk.{Placed, leaves, walk, root, insideW, insideH}
+use Rattle.layout.specs.Walk.{Placed, walk, root, insideW, insideH}
 use Rattle.layout.proofs.Laid.{tallAt, wideAt}
 use Rattle.layout.proofs.Named.{LeafAt}
 use Rattle.frame.specs.Frame.{W, H}
