@@ -65,7 +65,8 @@ EXAMPLES = {
     "binder": (settings(width=LIST, margin=(8, 0, 1, 0), margin_fills=b"  = "), FLIGHT),
     "remarks": (settings(), column("abcdefghijk", row("a", "b", "c"))),
     "figure2": (settings(marks=b"-_()hv123456789", width=LIST), column("abcdef", row("a", "b"))),
-    "refused": (settings(padding=(0, 0, 0, 0), width=LIST), row("leg 1", "")),
+    "blank": (settings(padding=(0, 0, 0, 0), width=LIST), row("leg 1", "")),
+    "refused": (settings(), row(*(f"leg {n}" for n in range(1, 47)))),
 }
 
 if __name__ == "__main__":

@@ -15,7 +15,7 @@
  *   4   node 513 met                                         11   share: n = 0 or index >= n
  *   5   depth 17 met                                         12   a line or column outside the printed sheet
  *   6   over 400 columns or 160 lines, the margin included   13   a place in the margin
- *   7   a leaf of the sheet is allotted width 0              14   over 256 places
+ *   7   never occurs any more; the number is kept free       14   over 256 places
  *
  * Settings and trees are bytes (hex below). docs/FORMS.md has them with pictures, examples and the meaning of each; examples/build.c builds a tree.
  *
@@ -93,14 +93,14 @@ uint64_t leg_leaf_record(const uint8_t *settings, size_t settings_len, const uin
 /* Prints a leaf's block, its lines joined by 0A. 1 to 6, 9, 8. Counts the bytes written. */
 uint64_t leg_print_leaf(const uint8_t *settings, size_t settings_len, const uint8_t *tree, size_t tree_len, size_t node, uint8_t *out, size_t out_len);
 
-/* Prints the sheet with its margin, its lines joined by 0A: (W + 1) * H - 1 bytes, at most 64,159. 1 to 8. Counts the bytes written. */
+/* Prints the sheet with its margin, its lines joined by 0A: (W + 1) * H - 1 bytes, at most 64,159. 1 to 6, 8. Counts the bytes written. */
 uint64_t leg_print_sheet(const uint8_t *settings, size_t settings_len, const uint8_t *tree, size_t tree_len, uint8_t *out, size_t out_len);
 
-/* From a place to its leaf: line `line`, column `column` of the sheet as printed, both counted from 0, the margin included. 1 to 7, 12, 13; 8 last, where `out`
+/* From a place to its leaf: line `line`, column `column` of the sheet as printed, both counted from 0, the margin included. 1 to 6, 12, 13; 8 last, where `out`
  * has under LEG_PLACE numbers. Writes the leaf's node, and the line and the column inside its block. Counts LEG_PLACE. */
 uint64_t leg_place(const uint8_t *settings, size_t settings_len, const uint8_t *tree, size_t tree_len, size_t line, size_t column, uint16_t *out, size_t out_len);
 
-/* The leaves of many places, in one walk over the tree, each as leg_place answers it alone; in any order, repeats allowed. 1 to 7; 14 by the count alone; the 12 or
+/* The leaves of many places, in one walk over the tree, each as leg_place answers it alone; in any order, repeats allowed. 1 to 6; 14 by the count alone; the 12 or
  * 13 of the first place that has one; 8 last, where `answers` has fewer numbers than `places`. Writes an answer for each place, in the order of the places, and to
  * `read` how many elements the walk read: the tree's nodes, even for no places. Counts the answers. */
 uint64_t leg_places(const uint8_t *settings, size_t settings_len, const uint8_t *tree, size_t tree_len, const uint64_t *places, size_t places_len, uint64_t *answers, size_t answers_len, uint64_t *read);

@@ -150,7 +150,7 @@ pub fn print_leaf(
 /// Prints the sheet with its margin, [`SHEET`] bytes at the most.
 ///
 /// # Errors
-/// 1 to 8.
+/// 1 to 6, 8.
 pub fn print_sheet(settings: &[u8], tree: &[u8], out: &mut [u8]) -> Result<usize, Refusal> {
     // SAFETY: pointers and lengths of slices that are borrowed here.
     answer(unsafe {
@@ -168,7 +168,7 @@ pub fn print_sheet(settings: &[u8], tree: &[u8], out: &mut [u8]) -> Result<usize
 /// Writes the [`PLACE`] numbers of the leaf that has this line and column of the printed sheet, its margin included.
 ///
 /// # Errors
-/// 1 to 7, 12, 13, 8.
+/// 1 to 6, 12, 13, 8.
 pub fn place(
     settings: &[u8],
     tree: &[u8],
@@ -196,7 +196,7 @@ pub fn place(
 /// reads an answer.
 ///
 /// # Errors
-/// 1 to 7, 14, the 12 or 13 of the first place that has one, 8.
+/// 1 to 6, 14, the 12 or 13 of the first place that has one, 8.
 pub fn places(
     settings: &[u8],
     tree: &[u8],

@@ -49,7 +49,7 @@ impl<'a> Input<'a> {
     /// The sheet, with its margin.
     ///
     /// # Errors
-    /// 1 to 7.
+    /// 1 to 6.
     pub fn print_sheet(self) -> Result<String, Refusal> {
         printed(|out| calls::print_sheet(self.settings, self.tree, out))
     }
@@ -86,7 +86,7 @@ impl<'a> Input<'a> {
     /// The leaf of a place of the printed sheet, its margin included.
     ///
     /// # Errors
-    /// 1 to 7, 12, 13.
+    /// 1 to 6, 12, 13.
     pub fn place(self, line: usize, column: usize) -> Result<LeafPlace, Refusal> {
         let mut out = [0; calls::PLACE];
         calls::place(self.settings, self.tree, line, column, &mut out)?;
@@ -96,7 +96,7 @@ impl<'a> Input<'a> {
     /// The leaves of up to 256 places, in their order, each as [`place`](Input::place) answers it alone.
     ///
     /// # Errors
-    /// 1 to 7, 14, then the 12 or 13 of the first place that has one.
+    /// 1 to 6, 14, then the 12 or 13 of the first place that has one.
     pub fn places(self, places: &[Place]) -> Result<Marked, Refusal> {
         // One too many is refused as all of them are.
         let list = places.iter().take(calls::PLACES + 1);

@@ -37,7 +37,7 @@ fn on_bytes<T>(
 /// ```
 ///
 /// # Errors
-/// 2 to 7.
+/// 2 to 6.
 pub fn print_sheet(settings: &Settings, tree: &Tree) -> Result<String, Refusal> {
     on_bytes(settings, tree, |input| input.print_sheet())
 }
@@ -109,7 +109,7 @@ pub fn leaf_record(settings: &Settings, tree: &Tree, node: usize) -> Result<Leaf
 /// ```
 ///
 /// # Errors
-/// 2 to 7, 12, 13.
+/// 2 to 6, 12, 13.
 pub fn place(
     settings: &Settings,
     tree: &Tree,
@@ -137,7 +137,7 @@ pub fn place(
 /// ```
 ///
 /// # Errors
-/// 2 to 7, 14, then the 12 or 13 of the first place that has one.
+/// 2 to 6, 14, then the 12 or 13 of the first place that has one.
 pub fn places(settings: &Settings, tree: &Tree, places: &[Place]) -> Result<Marked, Refusal> {
     on_bytes(settings, tree, |input| input.places(places))
 }

@@ -48,6 +48,10 @@ fn prints() {
         &["print", "binder.legs"],
         include_str!("../../examples/binder.txt"),
     );
+    answers(
+        &["print", "blank.legs"],
+        include_str!("../../examples/blank.txt"),
+    );
 }
 
 #[test]
@@ -162,8 +166,8 @@ fn check() {
         "settings: accepted\ntree: accepted, nodes: 66\nsheet: accepted, 82 columns by 24 lines\n",
     );
     let refused = "settings: accepted\n\
-                   tree: accepted, nodes: 3\n\
-                   sheet: refused 7: a leaf of the sheet has width 0\n";
+                   tree: accepted, nodes: 47\n\
+                   sheet: refused 6: the sheet has over 400 columns or over 160 lines\n";
     let said = said(&["check", "refused.legs"], b"");
     assert_eq!(said, (refused.into(), String::new(), Some(1)));
 }
@@ -182,8 +186,8 @@ fn check_looks_at_a_tree_behind_bad_settings() {
 
 #[test]
 fn refusals_are_messages() {
-    let narrow = "refused.legs: refused 7: a leaf of the sheet has width 0";
-    fails(&["print", "refused.legs"], narrow, 1);
+    let wide = "refused.legs: refused 6: the sheet has over 400 columns or over 160 lines";
+    fails(&["print", "refused.legs"], wide, 1);
     let group = "figure2.legs: refused 9: the number names no leaf";
     fails(&["leaf", "figure2.legs", "0"], group, 1);
     let outside = "figure2.legs: refused 12: the line or column is outside the printed sheet";

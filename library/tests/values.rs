@@ -405,6 +405,36 @@ fn places_are_answered_as_alone() {
     assert_eq!(Ok(marked.answers), alone);
 }
 
+/// Document 02, 8: a zero-wide leaf prints its marks around no columns.
+#[test]
+fn a_remark_left_blank() {
+    let bare = figures_m(Sides::all(0)).with_padding(Sides::all(0));
+    let bare = bare.expect("within the ranges");
+    let (a_b, both) = (Tree::column(["a", "b"]), Tree::row(["", ""]));
+    for (tree, sheet) in [
+        (Tree::from(""), "12\n()\n45"),
+        (Tree::Row(vec![]), "12\n()\n45"),
+        (Tree::from("\n\n"), "12\n()\n()\n()\n45"),
+        (Tree::row(["", "a"]), "13-2\n((a)\n46_5"),
+        (Tree::row(["a", ""]), "1-32\n(a()\n4_65"),
+        (Tree::column(["", ""]), "12\n()\n78\n()\n45"),
+        (
+            Tree::column([both, "ab".into()]),
+            "1-32\n( ()\n7-68\n(ab)\n4__5",
+        ),
+        (Tree::row([a_b, "".into()]), "1-32\n(a()\n7-8)\n(b()\n4_65"),
+    ] {
+        assert_eq!(print_sheet(&bare, &tree), Ok(sheet.into()));
+    }
+
+    let tree = Tree::row(["", "a"]);
+    assert_eq!(print_leaf(&bare, &tree, 1), Ok("1\n(\n4".into()));
+    assert_eq!(print_leaf(&bare, &tree, 2), Ok("3-2\n(a)\n6_5".into()));
+    let owner =
+        |line: usize, column: usize| place(&bare, &tree, line, column).map(|leaf| leaf.node);
+    assert_eq!((owner(0, 0), owner(0, 1)), (Ok(1), Ok(2)));
+}
+
 /// The margin is around the sheet, and counts for its limits alone.
 #[test]
 fn margins() {
@@ -460,13 +490,9 @@ fn every_call_is_refused() {
     assert_eq!(place(&settings, &bad, 9, 9), Err(Refusal::BadText));
     let wide = Tree::from("x".repeat(397));
     assert_eq!(place(&settings, &wide, 9, 9), Err(Refusal::TooLarge));
-    let bare = settings.with_padding(Sides::all(0)).expect("a padding");
-    let empty = Tree::row(["a", ""]);
-    assert_eq!(place(&bare, &empty, 9, 9), Err(Refusal::ZeroWidth));
     let many = [Place::default(); 257];
     assert_eq!(places(&settings, &bad, &many), Err(Refusal::BadText));
     assert_eq!(places(&settings, &wide, &many), Err(Refusal::TooLarge));
-    assert_eq!(places(&bare, &empty, &many), Err(Refusal::ZeroWidth));
     assert_eq!(share(7, 0, Priority::List, 0), Err(Refusal::NoChild));
     assert_eq!(short_splits3(&[1; 513], 0), Err(Refusal::TooManyPieces));
     assert_eq!(short_splits(&[1; 513], 0), Err(Refusal::TooManyPieces));

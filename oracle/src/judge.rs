@@ -238,16 +238,6 @@ impl Read {
         Ok(())
     }
 
-    /// 6, then 7.
-    fn shows(&self) -> Result<(), u8> {
-        self.fits()?;
-        let mut leaves = leaves(&self.tree).into_iter();
-        if leaves.any(|leaf| self.sizes[leaf].allotted_width == 0) {
-            return Err(7);
-        }
-        Ok(())
-    }
-
     /// '12 for a line or column outside the printed sheet, 13 for a place in the margin.' Lines and columns 'count from 0 in the sheet as printed, margin included'.
     pub fn place(&self, line: usize, column: usize) -> Result<(), u8> {
         let (w, h) = self.rectangle();
@@ -291,12 +281,9 @@ impl Read {
     }
 
     /// The bytes of a leaf's block: lines of 1 + allotted width columns, one more under last_col; 1 + allotted height of them,
-    /// one more under last_row; joined by 0A. None at allotted width 0.
+    /// one more under last_row; joined by 0A.
     fn block_bytes(&self, leaf: &LeafNode) -> usize {
         let size = self.sizes[leaf.node];
-        if size.allotted_width == 0 {
-            return 0;
-        }
         let columns = 1 + size.allotted_width + usize::from(leaf.last_col);
         let lines = 1 + size.allotted_height + usize::from(leaf.last_row);
         (columns + 1) * lines - 1
@@ -363,10 +350,10 @@ pub fn sheet(settings: &[u8], tree: &[u8], output: usize) -> u8 {
     }))
 }
 
-/// What the calls on places read first: a sheet that can be printed, or 1 to 7.
+/// What the sheet printer and the calls on places read first: a sheet that can be printed, or 1 to 6. 'Refusal 7 never occurs' (document 02, 8).
 pub fn shown(settings: &[u8], tree: &[u8]) -> Result<Read, u8> {
     let read = read(settings, tree)?;
-    read.shows()?;
+    read.fits()?;
     Ok(read)
 }
 

@@ -140,8 +140,8 @@ impl Lines {
         self.line(
             's',
             &format!(
-                "{} by {}, {} by {}",
-                natural.0, natural.1, allotted.0, allotted.1
+                "{} by {}, {} by {}, below {}",
+                natural.0, natural.1, allotted.0, allotted.1, z.below
             ),
         );
     }

@@ -5,8 +5,8 @@ use std::process::ExitCode;
 
 use oracle::calls::Calls;
 use oracle::compare::Comparison;
-use oracle::sides::{Original, Paper};
-use oracle::{judge, original, places, replay};
+use oracle::sides::{Answers, Crate, Original, Paper};
+use oracle::{judge, places, replay};
 
 const USAGE: &str = "oracle sheet             the sheet, as the sheet program prints it
 oracle leaves            every node's sizes, every leaf's record and block
@@ -88,7 +88,7 @@ fn leaves() -> ExitCode {
             return ExitCode::SUCCESS;
         }
     };
-    let answer = original::answer(&read.settings, &read.tree);
+    let answer = Crate.answer(&read.settings, &read.tree);
     for (node, size) in answer.sizes.iter().enumerate() {
         println!(
             "node {node}: natural {} by {}, allotted {} by {}, {} below",

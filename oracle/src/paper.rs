@@ -323,10 +323,6 @@ fn indent(alignment: u8, slack: usize) -> usize {
 }
 
 fn block(settings: &Settings, leaf: &Leaf, text: &[u8]) -> Vec<u8> {
-    if leaf.width == 0 {
-        return Vec::new();
-    }
-
     let [top, bottom, left, right, _, _, top_left, top_right, top_intersection, bottom_left, bottom_right, bottom_intersection, left_intersection, right_intersection, intersection] =
         settings.marks;
     let [pad_left, pad_right, pad_top, pad_bottom] = padding(settings);
@@ -469,13 +465,9 @@ fn placed(nodes: &Nodes, sizes: &[Size], leaves: &[Leaf]) -> Vec<Vec<u8>> {
         .collect()
 }
 
-/// The sheet place by place; nothing where a leaf has width 0. 'Top and bottom lines have the left and right fills at their ends', so a place of
-/// the margin is looked for at the left and the right first.
+/// The sheet place by place. 'Top and bottom lines have the left and right fills at their ends', so a place of the margin is looked for at the left
+/// and the right first.
 fn sheet(settings: &Settings, nodes: &Nodes, sizes: &[Size], leaves: &[Leaf]) -> Vec<u8> {
-    if leaves.iter().any(|leaf| leaf.width == 0) {
-        return Vec::new();
-    }
-
     let [left, _, top, _] = settings.margin.sizes.map(usize::from);
     let [fill_left, fill_right, fill_top, fill_bottom] = settings.margin.fills;
     let (inside_w, inside_h) = inside(sizes);
@@ -522,7 +514,20 @@ pub fn owners(settings: &Settings, tree: &Tree, answer: &Answer) -> Owners {
     owners
 }
 
-/// All that documents 01 and 02 say about a table, the limits put aside. The sheet is empty where a leaf has width 0.
+/// The crate's answer with 'its marks around no columns' (document 02, 8) for each zero-wide leaf, where the crate has an empty text: the block by the crate's own
+/// record of the leaf, whose text has no columns either, and a sheet with such leaves by placing all blocks. Panics where the crate's text is not empty.
+pub fn mended(settings: &Settings, tree: &Tree, mut answer: Answer) -> Answer {
+    for leaf in answer.leaves.iter_mut().filter(|leaf| leaf.width == 0) {
+        assert_eq!(leaf.block, b"", "the crate prints a zero-wide leaf");
+        leaf.block = block(settings, leaf, b"");
+    }
+    if answer.leaves.iter().any(|leaf| leaf.width == 0) {
+        answer.sheet = sheet(settings, &Nodes::of(tree), &answer.sizes, &answer.leaves);
+    }
+    answer
+}
+
+/// All that documents 01 and 02 say about a table, the limits put aside.
 pub fn answer(settings: &Settings, tree: &Tree) -> Answer {
     let nodes = Nodes::of(tree);
     let sizes = sizes_of(settings, &nodes);

@@ -70,28 +70,41 @@ fn edges(lines: &mut Lines) {
     lines.places(&[(0, 0), (14, 216), (13, 215), (7, 108), (6, 107), (15, 0)]);
 }
 
+/// Row[``, `a`] without padding: the first leaf is its marks around no columns (document 02, 8).
+fn blank(lines: &mut Lines, settings: Settings) {
+    let bare = Settings {
+        padding: [0; 4],
+        ..settings
+    };
+    let tree = Tree::Row(vec![Tree::cell(""), Tree::cell("a")]);
+    lines.given(&encode_settings(&bare), &encode_tree(&tree));
+}
+
+/// Places of that sheet, without a margin and with one.
+fn blanks(lines: &mut Lines) {
+    lines.title("A remark left blank");
+    blank(lines, Settings::M);
+    lines.places(&[(0, 0), (0, 1), (1, 0), (2, 0), (2, 3), (0, 4), (3, 0)]);
+    blank(lines, EDGED);
+    lines.places(&[(1, 1), (1, 2), (1, 3), (3, 2), (4, 2), (3, 6)]);
+}
+
 /// A Column of 7 Rows of 72 empty Cells, 15 lines of 217 columns.
 fn nodes_512(lines: &mut Lines) {
     let row = [&[2, 0x00, 0xD8][..], &[1, 0, 0].repeat(72)].concat();
     lines.repeated(&encode_settings(&Settings::M), &[3, 0x05, 0xFD], 7, &row);
 }
 
-/// Sheets that are refused with 1 to 7, and what is asked of each.
+/// Sheets that are refused with 1 to 6, and what is asked of each.
 fn refused_sheets(lines: &mut Lines, ask: fn(&mut Lines)) {
     lines.title("Refused sheets");
     let m = encode_settings(&Settings::M);
-    let bare = encode_settings(&Settings {
-        padding: [0; 4],
-        ..EDGED
-    });
     let chain = (1..17).fold(Tree::cell("a"), |inner, _| Tree::Row(vec![inner]));
-    let narrow = Tree::Row(vec![Tree::cell("a"), Tree::cell("")]);
-    let given: [(&[u8], &[u8]); 5] = [
+    let given: [(&[u8], &[u8]); 4] = [
         (&m[..30], b"\x04\x00\x00"),
         (&m, b"\x04\x00\x00"),
         (&m, b"\x01\x00\x01\x07"),
         (&m, &encode_tree(&chain)),
-        (&bare, &encode_tree(&narrow)),
     ];
     for (settings, tree) in given {
         lines.given(settings, tree);
@@ -128,7 +141,7 @@ fn random_tables(
     }
 }
 
-/// Lists by hand: document 02's examples, about as many places as a list may have, and some of 512 nodes.
+/// Lists by hand: document 02's examples, about as many places as a list may have, some of 512 nodes, and all of a sheet with a blank leaf, over and over.
 fn lists(lines: &mut Lines) {
     lines.title("Places together");
     lines.given(&encode_settings(&EDGED), &encode_tree(&figure_2()));
@@ -147,6 +160,9 @@ fn lists(lines: &mut Lines) {
     nodes_512(lines);
     let spread: Vec<(usize, usize)> = (0..40).map(|i| (4 * i % 15, 37 * i % 217)).collect();
     lines.marks(260, 256, &spread);
+    blank(lines, Settings::M);
+    let all: Vec<(usize, usize)> = (0..12).map(|i| (i / 4, i % 4)).collect();
+    lines.marks(256, 256, &all);
 }
 
 /// A list of places inside the margin, and one in which a place is any, its numbers of 32 bits.
@@ -167,6 +183,7 @@ pub fn lines(seed: u64) -> String {
     let mut rng = Rng::new(seed);
     let mut lines = Lines::default();
     edges(&mut lines);
+    blanks(&mut lines);
     refused_sheets(&mut lines, |lines| {
         lines.places(&[(0, 0), (9, 9), FAR[1]]);
     });

@@ -11,7 +11,7 @@ use crate::{original, paper};
 /// Where the answers of a side come from; the refusals are the judge's.
 pub trait Answers {
     fn answer(&self, settings: &Settings, tree: &Tree) -> Answer;
-    /// Of a sheet without zero-wide leaves, and its answer.
+    /// Of a sheet and its answer.
     fn owners(&self, settings: &Settings, tree: &Tree, answer: &Answer) -> Owners;
     fn cut3(&self, list: &[usize], width: usize) -> Cut3;
     fn cut(&self, list: &[usize], width: usize) -> Cut;
@@ -27,8 +27,9 @@ pub struct Crate;
 pub struct Document;
 
 impl Answers for Crate {
+    /// The crate's, but for the bytes of zero-wide leaves.
     fn answer(&self, settings: &Settings, tree: &Tree) -> Answer {
-        original::answer(settings, tree)
+        paper::mended(settings, tree, original::answer(settings, tree))
     }
 
     fn owners(&self, settings: &Settings, tree: &Tree, answer: &Answer) -> Owners {
@@ -155,7 +156,7 @@ impl<A: Answers> Side<A> {
         &self.last.as_ref().expect("an answer was kept").kept
     }
 
-    /// The sheet, or 1 to 7.
+    /// The sheet, or 1 to 6.
     fn sheet_of(&mut self, settings: &[u8], tree: &[u8]) -> Result<&Sheet, u8> {
         if !Last::is_of(&self.sheet, settings, tree) {
             let sheet = judge::shown(settings, tree).map(|read| {

@@ -116,10 +116,10 @@ fn every_margin_is_reached() {
     }
 }
 
-/// In a sheet that document 01 accepts, the stand-in `Table` never fills up: it joins blocks of equal height side by side and blocks of
-/// equal width one under the other. Its own assumptions about others therefore never show in an accepted sheet.
+/// In a sheet without zero-wide leaves the stand-in `Table` never fills up: it joins blocks of equal height side by side and blocks of
+/// equal width one under the other. Its own assumptions about others never show: a sheet with such leaves is not the crate's.
 #[test]
-fn accepted_sheets_are_joined_evenly() {
+fn compared_sheets_are_joined_evenly() {
     let mut even = 0;
     let mut uneven = 0;
     let mut look = |settings: &Settings, tree: &Tree| {
@@ -180,11 +180,19 @@ struct Faulty {
     fault: u8,
 }
 
-const FAULTS: u8 = 53;
+const FAULTS: u8 = 56;
 
 /// The judge's numbers with the margin and without it: whether only the margin makes a sheet too large.
 fn is_large_by_margin(number: u8, settings: &[u8], tree: &[u8]) -> bool {
     number == 6 && judge::sheet(&settings[..31], tree, usize::MAX) != 6
+}
+
+/// Whether a leaf of a sheet that can be printed has width 0.
+fn has_blank(settings: &[u8], tree: &[u8]) -> bool {
+    judge::shown(settings, tree).is_ok_and(|read| {
+        let mut leaves = judge::leaves(&read.tree).into_iter();
+        leaves.any(|leaf| read.sizes[leaf].allotted_width == 0)
+    })
 }
 
 impl Calls for Faulty {
@@ -259,6 +267,11 @@ impl Calls for Faulty {
     }
 
     fn leaf(&mut self, settings: &[u8], tree: &[u8], node: usize, output: &mut [u8]) -> Counted {
+        // No marks around no columns.
+        let is_blank = |leaf: LeafRecord| (leaf.number, leaf.width) == (0, 0);
+        if self.fault == 53 && is_blank(self.paper.leaf_record(settings, tree, node)) {
+            return Counted::default();
+        }
         let number = judge::leaf(settings, tree, node, output.len());
         if self.fault == 18 && is_large_by_margin(number, settings, tree) {
             return self.paper.leaf(&settings[..31], tree, node, output);
@@ -289,6 +302,11 @@ impl Calls for Faulty {
                 number: 8,
                 count: 0,
             },
+            // 7, which never occurs.
+            54 if has_blank(settings, tree) => Counted {
+                number: 7,
+                count: 0,
+            },
             // The top fill at the ends of its lines, too.
             20 if answer.number == 0 && left > 0 && top > 0 => {
                 output[0] = margin.fills[2];
@@ -312,11 +330,12 @@ impl Calls for Faulty {
         };
         let mut answer = self.paper.place(settings, tree, line, column);
         match self.fault {
-            // 12 before 7; 12 in the margin; 13 past the sheet's last line, in the margin's columns; a refusal with a leaf.
-            31 if answer.number == 7 && line > judge::SHEET_HEIGHT => answer.number = 12,
+            // 12 before 6; 12 in the margin; 13 past the sheet's last line, in the margin's columns; a refusal with a leaf.
+            31 if answer.number == 6 && line > judge::SHEET_HEIGHT => answer.number = 12,
             32 if answer.number == 13 => answer.number = 12,
             33 if answer.number == 12 && column == 0 => answer.number = 13,
             34 if answer.number == 12 => answer.node = 1,
+            55 if has_blank(settings, tree) => answer.number = 7,
             // Counted from 1; the first column given to the leaf on the left.
             35 if answer.number == 0 => answer.line += 1,
             36 if answer.number == 0 && answer.column == 0 && column > 0 => {

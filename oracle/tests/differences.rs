@@ -1,5 +1,4 @@
-//! Where the crate goes its own way: docs/DIFFERENCES.md, each with the smallest input. What it prints for zero-wide leaves rests
-//! on the stand-in `Table`, and document 01 refuses every such sheet.
+//! Where the crate goes its own way: docs/DIFFERENCES.md, each with the smallest input.
 
 use oracle::{encode_settings, encode_tree, judge, original, paper, Margin, Settings, Tree};
 
@@ -16,10 +15,6 @@ fn number(tree: &Tree) -> u8 {
     judge::sheet(&encode_settings(&BARE), &encode_tree(tree), usize::MAX)
 }
 
-fn rectangle(tree: &Tree) -> (usize, usize) {
-    paper::rectangle(&BARE, &paper::sizes(&BARE, tree))
-}
-
 /// Document 02, 2: the port's default width priority is Last, the crate's is List.
 #[test]
 fn defaults() {
@@ -34,51 +29,73 @@ fn defaults() {
     );
 }
 
+/// Document 02, 8: the crate prints an empty text for a zero-wide leaf, the port its marks.
 #[test]
 fn zero_wide_leaves() {
-    let empty = || Tree::cell("");
-    let a = || Tree::cell("a");
-
-    // The empty text in place of 2 by 3.
-    assert_eq!(sheet(&empty()), "");
-    assert_eq!((rectangle(&empty()), number(&empty())), ((2, 3), 7));
-
-    // An empty Row and an empty Column are the same leaf.
-    assert_eq!(sheet(&Tree::Row(vec![])), "");
-    assert_eq!(sheet(&Tree::Column(vec![])), "");
-
-    // Three columns in place of four: the left edge is missing.
-    let tree = Tree::Row(vec![empty(), a()]);
-    assert_eq!(sheet(&tree), "3-2\n(a)\n6_5");
-    assert_eq!((rectangle(&tree), number(&tree)), ((4, 3), 7));
-
-    // Two columns in place of four: the right edge is missing.
-    let tree = Tree::Row(vec![a(), empty()]);
-    assert_eq!(sheet(&tree), "1-\n(a\n4_");
-    assert_eq!((rectangle(&tree), number(&tree)), ((4, 3), 7));
-
-    // Blocks of unequal height: an empty text of one line stands for a Row of one line and its edge.
-    let tree = Tree::Column(vec![Tree::Row(vec![empty(), empty()]), a()]);
-    assert_eq!(sheet(&tree), "   \n768\n(a)\n4_5");
-    assert_eq!((rectangle(&tree), number(&tree)), ((3, 5), 7));
-
-    // Two lines in place of five.
-    let tree = Tree::Column(vec![empty(), empty()]);
-    assert_eq!(sheet(&tree), "\n");
-    assert_eq!((rectangle(&tree), number(&tree)), ((2, 5), 7));
+    let (empty, a) = (|| Tree::cell(""), || Tree::cell("a"));
+    let both = || Tree::Row(vec![empty(), empty()]);
+    let a_b = Tree::Column(vec![a(), Tree::cell("b")]);
+    let blank = "12\n()\n45";
+    for (tree, crates, ports) in [
+        (empty(), "", blank),
+        (Tree::Row(vec![]), "", blank),
+        (Tree::Column(vec![]), "", blank),
+        (Tree::cell("\n\n"), "", "12\n()\n()\n()\n45"),
+        // No left edge; no right one.
+        (
+            Tree::Row(vec![empty(), a()]),
+            "3-2\n(a)\n6_5",
+            "13-2\n((a)\n46_5",
+        ),
+        (
+            Tree::Row(vec![a(), empty()]),
+            "1-\n(a\n4_",
+            "1-32\n(a()\n4_65",
+        ),
+        (
+            Tree::Row(vec![a_b, empty()]),
+            "1-\n(a\n7-\n(b\n4_",
+            "1-32\n(a()\n7-8)\n(b()\n4_65",
+        ),
+        // By the stand-in `Table`: an empty text has one line, and a narrow one is filled up with spaces.
+        (
+            Tree::Column(vec![empty(), empty()]),
+            "\n",
+            "12\n()\n78\n()\n45",
+        ),
+        (
+            Tree::Column(vec![both(), a()]),
+            "   \n768\n(a)\n4_5",
+            "132\n(()\n768\n(a)\n4_5",
+        ),
+        (
+            Tree::Column(vec![both(), Tree::cell("ab")]),
+            "1-  \n(   \n7-68\n(ab)\n4__5",
+            "1-32\n( ()\n7-68\n(ab)\n4__5",
+        ),
+    ] {
+        assert_eq!(sheet(&tree), crates, "{tree:?}");
+        assert_eq!(paper::answer(&BARE, &tree).sheet, ports.as_bytes());
+        assert_eq!(number(&tree), 0);
+    }
 }
 
-/// A zero-wide leaf still takes part in the lists and the flags; there the two agree.
+/// A zero-wide leaf takes part in the lists and the flags; there, and in its neighbours' blocks, the two agree.
 #[test]
 fn zero_wide_records() {
     let tree = Tree::Column(vec![
         Tree::Row(vec![Tree::cell(""), Tree::cell("a")]),
         Tree::Row(vec![Tree::cell("b"), Tree::cell("")]),
     ]);
-    let answer = original::answer(&BARE, &tree);
-    assert_eq!(answer.leaves, paper::answer(&BARE, &tree).leaves);
-    let sizes: Vec<_> = answer.leaves.iter().map(|leaf| leaf.width).collect();
-    assert_eq!(sizes, [0, 1, 1, 0]);
+    let crates = original::answer(&BARE, &tree).leaves;
+    let mut ports = paper::answer(&BARE, &tree).leaves;
+    let widths: Vec<_> = crates.iter().map(|leaf| leaf.width).collect();
+    assert_eq!(widths, [0, 1, 1, 0]);
+    for at in [0, 3] {
+        assert_ne!(ports[at].block, b"");
+        ports[at].block.clear();
+    }
+    assert_eq!(crates, ports);
 }
 
 /// Texts that the crate takes and document 01 refuses. The widths are the stand-in's.
@@ -137,7 +154,7 @@ fn other_settings() {
     assert_eq!(printed(&edged), "\u{1f}1-2\n\u{1f}(a)\n\u{1f}4_5");
 }
 
-/// The crate prints no margin around an empty text, which is the sheet of a zero-wide leaf alone. Document 01 refuses that sheet.
+/// The crate prints no margin around an empty text, which is its sheet of a zero-wide leaf alone.
 #[test]
 fn no_margin_around_nothing() {
     let settings = Settings {
@@ -149,8 +166,8 @@ fn no_margin_around_nothing() {
     };
     let tree = Tree::cell("");
     assert_eq!(original::sheet(&settings, &tree), b"");
-    let bytes = (encode_settings(&settings), encode_tree(&tree));
-    assert_eq!(judge::sheet(&bytes.0, &bytes.1, usize::MAX), 7);
+    let ports = b"lttr\nl12r\nl()r\nl45r\nlbbr";
+    assert_eq!(paper::answer(&settings, &tree).sheet, ports);
 }
 
 /// A list of 513 pieces, which the port's form does not hold.

@@ -2,6 +2,7 @@
 
 use oracle::gen::{self, Limit, Margins, Rng};
 use oracle::judge;
+use oracle::sides::{Answers, Crate};
 use oracle::{encode_settings, encode_tree, original, paper, Margin, Settings, Tree};
 
 /// What the sheet printer says, lent enough.
@@ -123,9 +124,9 @@ fn lists() {
     let row = |cells: usize| Tree::Row(vec![Tree::cell(""); cells]);
     let tree = |cells: usize| Tree::Column(vec![row(cells), Tree::cell("")]);
     assert_eq!((record(&tree(399), 401), record(&tree(400), 402)), (0, 6));
-    let answer = original::answer(&settings, &tree(399));
+    let answer = Crate.answer(&settings, &tree(399));
     assert_eq!(answer.leaves[399].horizontal, [0; 399]);
-    assert_eq!(paper::answer(&settings, &tree(399)).leaves, answer.leaves);
+    assert_eq!(paper::answer(&settings, &tree(399)), answer);
 
     let column = |cells: usize| Tree::Column(vec![Tree::cell("a"); cells]);
     let tree = |cells: usize| Tree::Row(vec![column(cells), Tree::cell("b")]);
@@ -146,18 +147,21 @@ fn bytes() {
     assert_eq!(sheet.len(), 5 * 32_769 - 1);
 }
 
+/// The last limit case as document 02, 8 changes it: 8 bytes from the sheet and from the leaf.
 #[test]
 fn zero_wide() {
-    let settings = Settings {
+    let bare = Settings {
         padding: [0; 4],
         ..Settings::D
     };
-    let tree = Tree::cell("");
-    assert_eq!(sheet(&settings, &tree), 7);
-    let (settings_bytes, tree_bytes) = (encode_settings(&settings), encode_tree(&tree));
-    assert_eq!(judge::leaf(&settings_bytes, &tree_bytes, 0, 0), 0);
-    assert_eq!(judge::leaf_bytes(&settings_bytes, &tree_bytes, 0), Some(0));
-    assert_eq!(original::answer(&settings, &tree).leaves[0].block, b"");
+    let (settings, tree) = (encode_settings(&bare), encode_tree(&Tree::cell("")));
+    for (length, number) in [(7, 8), (8, 0)] {
+        assert_eq!(judge::sheet(&settings, &tree, length), number);
+        assert_eq!(judge::leaf(&settings, &tree, 0, length), number);
+    }
+    let answer = paper::answer(&bare, &Tree::cell(""));
+    assert_eq!(answer.sheet, b"++\n||\n++");
+    assert_eq!(answer.leaves[0].block, answer.sheet);
 }
 
 #[test]
@@ -197,7 +201,7 @@ fn inputs_near_the_limits() {
                     Limit::Depth if offset > 0 => assert_eq!(number, 5),
                     Limit::Bytes if offset > 0 => assert_eq!(number, 2),
                     Limit::Width | Limit::Height if offset > 0 => assert_eq!(number, 6),
-                    _ => assert!([0, 6, 7].contains(&number)),
+                    _ => assert!([0, 6].contains(&number)),
                 }
             }
         }

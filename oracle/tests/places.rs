@@ -5,8 +5,8 @@ use std::collections::HashMap;
 
 use oracle::calls::{Calls, LeafPlace, Marked};
 use oracle::gen::{self, Margins, Rng};
-use oracle::sides::{Original, Paper};
-use oracle::{encode_settings, encode_tree, judge, original, paper, Margin, Owner, Settings, Tree};
+use oracle::sides::{Answers, Crate, Original, Paper};
+use oracle::{encode_settings, encode_tree, judge, paper, Margin, Owner, Settings, Tree};
 
 fn cell(text: &str) -> Tree {
     Tree::cell(text)
@@ -139,16 +139,44 @@ fn at_the_crossing() {
     );
 }
 
-/// A sheet that the sheet printer refuses with 1 to 7 has that number for every place, before 12 and 13.
+/// A zero-wide leaf has its marks (document 02, 8): without a margin, and with one.
+#[test]
+fn in_a_blank_leaf() {
+    let tree = row([cell(""), cell("a")]);
+    let bare = |settings: Settings| Settings {
+        padding: [0; 4],
+        ..settings
+    };
+    holds(
+        &bare(Settings::M),
+        &tree,
+        &[
+            ((0, 0), Ok((1, 0, 0))),
+            ((0, 1), Ok((2, 0, 0))),
+            ((2, 0), Ok((1, 2, 0))),
+            ((2, 3), Ok((2, 2, 2))),
+            ((0, 4), Err(12)),
+            ((3, 0), Err(12)),
+        ],
+    );
+    holds(
+        &bare(edged()),
+        &tree,
+        &[
+            ((1, 1), Err(13)),
+            ((1, 2), Ok((1, 0, 0))),
+            ((1, 3), Ok((2, 0, 0))),
+            ((3, 2), Ok((1, 2, 0))),
+            ((4, 2), Err(13)),
+        ],
+    );
+}
+
+/// A sheet that the sheet printer refuses with 1 to 6 has that number for every place, before 12 and 13.
 #[test]
 fn refused_sheets() {
     let (m, edged) = (encode_settings(&Settings::M), encode_settings(&edged()));
-    let bare = encode_settings(&Settings {
-        padding: [0; 4],
-        ..Settings::M
-    });
     let wide = encode_tree(&Tree::Cell(vec![b'a'; 397]));
-    let narrow = encode_tree(&row([cell("a"), cell("")]));
     let deep = encode_tree(&(1..17).fold(cell("a"), |inner, _| row([inner])));
     let many = encode_tree(&Tree::Row(vec![cell(""); 512]));
     let mut bad = edged.clone();
@@ -161,7 +189,6 @@ fn refused_sheets() {
         assert_eq!(found(&m, &deep, place), Err(5));
         assert_eq!(found(&m, &wide, place), Err(6));
         assert_eq!(found(&edged, &wide, place), Err(6));
-        assert_eq!(found(&bare, &narrow, place), Err(7));
     }
 }
 
@@ -200,8 +227,8 @@ fn back_and_forward() {
         };
         sheets += 1;
 
-        let answer = original::answer(&settings, &tree);
-        let owners = original::owners(&settings, &tree, &answer);
+        let answer = Crate.answer(&settings, &tree);
+        let owners = Crate.owners(&settings, &tree, &answer);
         let other = paper::answer(&settings, &tree);
         assert_eq!(paper::owners(&settings, &tree, &other), owners);
 
@@ -289,23 +316,17 @@ fn together() {
     assert_eq!(marked(&[(FAR, FAR)], 0), Err(12));
 }
 
-/// 1 to 7 come before 14.
+/// 1 to 6 come before 14.
 #[test]
 fn together_on_refused_sheets() {
     let d = encode_settings(&Settings::D);
-    let bare = encode_settings(&Settings {
-        padding: [0; 4],
-        ..Settings::D
-    });
     let wide = encode_tree(&Tree::Cell(vec![b'a'; 397]));
-    let narrow = encode_tree(&row([cell("a"), cell("")]));
     let mut bad = d.clone();
     bad[3] = 0;
     for places in [&[][..], &[(0, 0)], &[(9, 9); 257]] {
         assert_eq!(marked(&bad, &wide, places, 0), Err(1));
         assert_eq!(marked(&d, b"\x04\x00\x00", places, 0), Err(2));
         assert_eq!(marked(&d, &wide, places, 0), Err(6));
-        assert_eq!(marked(&bare, &narrow, places, 0), Err(7));
     }
 }
 

@@ -251,15 +251,22 @@ fn calls_check_in_table_order() {
     assert_eq!(judge::leaf(&d, &cell(396), 9, 0), 9);
     assert_eq!(judge::leaf(&d, &cell(2), 0, 19), 8);
     assert_eq!(judge::leaf(&d, &cell(2), 0, 20), 0);
-    assert_eq!(judge::leaf(&bare, &cell(0), 0, 0), 0);
+    assert_eq!(judge::leaf(&bare, &cell(0), 0, 7), 8);
+    assert_eq!(judge::leaf(&bare, &cell(0), 0, 8), 0);
 
-    // A zero-wide leaf in a sheet that is too wide; in one that fits; an output that is too short.
+    // A zero-wide leaf in a sheet that is too wide, and in one that fits.
     let with_empty = |letters: usize| {
         let letters = Tree::Cell(vec![b'a'; letters]);
         encode_tree(&Tree::Row(vec![Tree::cell(""), letters]))
     };
     assert_eq!(judge::sheet(&bare, &with_empty(398), 0), 6);
-    assert_eq!(judge::sheet(&bare, &with_empty(397), 0), 7);
+    assert_eq!(judge::sheet(&bare, &with_empty(397), 1201), 8);
+    assert_eq!(judge::sheet(&bare, &with_empty(397), 1202), 0);
+    // Its marks are 5 bytes, and the block beside it has 11.
+    for (node, bytes) in [(1, 5), (2, 11)] {
+        assert_eq!(judge::leaf(&bare, &with_empty(1), node, bytes - 1), 8);
+        assert_eq!(judge::leaf(&bare, &with_empty(1), node, bytes), 0);
+    }
     assert_eq!(judge::sheet(&d, &cell(2), 19), 8);
     assert_eq!(judge::sheet(&d, &cell(2), 20), 0);
     // 'Number names no leaf': the Row itself.

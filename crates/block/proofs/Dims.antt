@@ -1,12 +1,10 @@
 -- The dimensions of a leaf's body and block. Assumes nothing.
 use mathlib.Core.Path.{_≡_, refl, ap}
-use mathlib.Core.Logic.{_≢_}
 use Prim.Native.Nat.{ℕ, zero, suc, _+_, _-_, _≤_}
 use native.Mathlib.Omega.{arith}
 use mathlib.Core.Bool.{Bool, true, false}
 use mathlib.Core.List.{List, [], _∷_}
 use lib.ListN.{length, replicate, length-append, length-replicate}
-use borrow.Author.Tests.{ne-eqb}
 use Rattle.common.specs.Choice.{pick}
 use Rattle.settings.specs.declared.Settings.{Settings}
 use Rattle.sizes.specs.declared.Size.{Size}
@@ -14,7 +12,7 @@ use Rattle.sizes.specs.Text.{lines, textHeight}
 use Rattle.sizes.specs.Sizes.{sep, Fits, leafSize}
 use Rattle.block.specs.declared.Flags.{Flags}
 use Rattle.block.specs.Content.{ruled, column}
-use Rattle.block.specs.Block.{Leaf, mark, edge, before, body, topLine, middle, bottomLine, framed, block, tall, wide}
+use Rattle.block.specs.Block.{Leaf, mark, edge, before, body, topLine, middle, bottomLine, block, tall, wide}
 use Rattle.block.proofs.Every.{Dims, dims-append, dims-replicate, dims-move, dims-cons, dims-paired}
 use Rattle.block.proofs.TextLine.{before-le, text-dims}
 
@@ -60,7 +58,7 @@ edges-dims h b m = dims-replicate h (pick b 1 0) m
 
 -- ---- the block
 
--- the lines and columns of a framed block
+-- the lines and columns of a block
 abbrev linesOf : Size → Flags → ℕ
 linesOf z f = suc (z .height + pick (f .«last_row») 1 0)
 
@@ -86,9 +84,9 @@ one-line : (b : Bool) (l : List ℕ) (w : ℕ) → length l ≡ w → Dims (pick
 one-line true l w e = record { lines = refl; columns = (e, tt) }
 one-line false l w e = record { lines = refl; columns = tt }
 
-framed-dims : (s : Settings) (l : Leaf) → Fits (leafSize s (l .text)) (l .size) → Dims (framed s l) (linesOf (l .size) (l .flags)) (columnsOf (l .size) (l .flags))
-unfolding framed
-framed-dims s l fits =
+block-framed : (s : Settings) (l : Leaf) → Fits (leafSize s (l .text)) (l .size) → Dims (block s l) (linesOf (l .size) (l .flags)) (columnsOf (l .size) (l .flags))
+unfolding block
+block-framed s l fits =
     dims-cons (dims-append (middle-dims s l fits) (one-line (l .flags .«last_row») (bottomLine s l) _ (bottom-length s l))) (top-length s l)
 
 -- the separator is one mark wide
@@ -101,11 +99,6 @@ module _ (s : Settings) (z : Size) (f : Flags) where
   unfolding wide sep
   wide-is = omega arith
 
--- a width that is not 0 has a framed block
-pub block-framed : (s : Settings) (l : Leaf) → l .size .width ≢ 0 → block s l ≡ framed s l
-unfolding block
-block-framed s l some = rw (ne-eqb (l .size .width) 0 some)
-
 -- 01's "a leaf's block has 1 + allotted height lines, one more under last_row, of 1 + allotted width columns, one more under last_col"
-pub block-dims : (s : Settings) (l : Leaf) → Fits (leafSize s (l .text)) (l .size) → l .size .width ≢ 0 → Dims (block s l) (tall s (l .size) (l .flags)) (wide s (l .size) (l .flags))
-block-dims s l fits some = rw (block-framed s l some, tall-is s (l .size) (l .flags), wide-is s (l .size) (l .flags)) (framed-dims s l fits)
+pub block-dims : (s : Settings) (l : Leaf) → Fits (leafSize s (l .text)) (l .size) → Dims (block s l) (tall s (l .size) (l .flags)) (wide s (l .size) (l .flags))
+block-dims s l fits = rw (tall-is s (l .size) (l .flags), wide-is s (l .size) (l .flags)) (block-framed s l fits)

@@ -15,7 +15,7 @@ use Rattle.sizes.specs.declared.Size.{Size}
 use Rattle.sizes.specs.Text.{onto, lines, textWidth, textHeight}
 use Rattle.block.specs.declared.Flags.{Flags}
 use Rattle.block.specs.Content.{paired, column, ruled, feeds}
-use Rattle.block.specs.Block.{Leaf, mark, topLeft, topRight, bottomLeft, edge, before, indent, textLine, body, topLine, middle, bottomLine, framed, block}
+use Rattle.block.specs.Block.{Leaf, mark, topLeft, topRight, bottomLeft, edge, before, indent, textLine, body, topLine, middle, bottomLine, block}
 
 -- no byte is 0A
 pub data Free : List ℕ → Type 0 where
@@ -157,10 +157,8 @@ module _ (s : Settings) (p : Plain s) where
       more (free-bottom-left (l .flags)) (free-append (free-replicate (l .size .width) (free-mark 1)) (free-edge (l .flags .«last_col») (free-mark 10)))
 
   pub block-no-feed : (l : Leaf) → NoFeed (block s l)
-  unfolding block framed
-  block-no-feed l =
-      no-feed-picked (eqb (l .size .width) 0) none
-      (more (free-top l) (no-feed-append (no-feed-middle l) (no-feed-picked (l .flags .«last_row») (more (free-bottom l) none) none)))
+  unfolding block
+  block-no-feed l = more (free-top l) (no-feed-append (no-feed-middle l) (no-feed-picked (l .flags .«last_row») (more (free-bottom l) none) none))
 
 -- ---- parted at each 0A
 

@@ -11,10 +11,10 @@ use Rattle.settings.specs.declared.Settings.{Settings}
 use Rattle.sizes.specs.declared.Size.{Size}
 use Rattle.block.specs.declared.Flags.{Flags}
 use Rattle.block.specs.declared.borders.Borders.{Borders}
-use Rattle.block.specs.Block.{topLine, middle, bottomLine, framed, block, tall, wide}
+use Rattle.block.specs.Block.{topLine, middle, bottomLine, block, tall, wide}
 use Rattle.block.specs.Paint.{pasted, Room, Wrote, leafWith, Paintable}
 use Rattle.block.specs.Parts.{bordersOf, topOf, middleOf, bottomOf}
-use Rattle.block.proofs.Dims.{tall-is, wide-is, middle-dims, block-framed}
+use Rattle.block.proofs.Dims.{tall-is, wide-is, middle-dims}
 use Rattle.block.proofs.Left.{then-pasted, pasted-first}
 use Rattle.block.proofs.Corners.{top-is, middle-is, bottom-is}
 use Rattle.block.proofs.Places.{paintable-fits}
@@ -67,12 +67,10 @@ module _ {s : Settings} {t : List ℕ} {n z : Size} {f : Flags} {h v : List ℕ}
     whole : (last : Bool) → b .bottom ≡ last
         → pasted o base stride (block s (leafWith t z f h v))
         ≡ pasted o base stride (topLine s (leafWith t z f h v) ∷ (middle s (leafWith t z f h v) ++ pick last (bottomLine s (leafWith t z f h v) ∷ []) []))
-    unfolding framed
+    unfolding block
     whole last l =
         let c = leafWith t z f h v in
-        ap (pasted o base stride)
-        (block-framed s c (λ e. omega (arith, k .some-width))
-        ∙ ap (λ (x : Bool). topLine s c ∷ (middle s c ++ pick x (bottomLine s c ∷ []) [])) (sym bottom-side ∙ l))
+        ap (λ (x : Bool). pasted o base stride (topLine s c ∷ (middle s c ++ pick x (bottomLine s c ∷ []) []))) (sym bottom-side ∙ l)
 
     -- with a bottom line
     pub painted-all : (o₃ : List ℕ) → b .bottom ≡ true → o₃ ≡ sets o₂ next (bottomOf b (z .width)) → o₃ ≡ pasted o base stride (block s (leafWith t z f h v))

@@ -19,7 +19,7 @@ module _ {s : Settings} {t : List ℕ} {n z : Size} {f : Flags} {h v : List ℕ}
   paintable-fits = rw (← k .natural-is) (k .fits)
 
   pub paintable-dims : Dims (block s (leafWith t z f h v)) (tall s z f) (wide s z f)
-  paintable-dims = block-dims s (leafWith t z f h v) paintable-fits (λ e. omega (arith, k .some-width))
+  paintable-dims = block-dims s (leafWith t z f h v) paintable-fits
 
 module _ {s : Settings} {t : List ℕ} {n z : Size} {f : Flags} {h v : List ℕ} {base stride : ℕ} (o : List ℕ) (k : Paintable s t n z f h v base stride (length o)) where
   -- the byte at (i, j) of the block

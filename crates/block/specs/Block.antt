@@ -3,7 +3,6 @@ use Prim.Native.Nat.{ℕ, _+_, _-_, _/_}
 use mathlib.Core.Bool.{Bool, not}
 use mathlib.Core.List.{List, [], _∷_, _++_, map}
 use lib.ListN.{length, getD, replicate}
-use lib.Dec.{eqb}
 use Rattle.common.specs.Choice.{pick, both}
 use Rattle.settings.specs.declared.Settings.{Settings}
 use Rattle.settings.specs.declared.Alignment.{Alignment}
@@ -103,14 +102,10 @@ unfoldable pub bottomLine : Settings → Leaf → List ℕ
 unfolding bottomLeft mark edge
 bottomLine s l = bottomLeft s (l .flags) ∷ (replicate (l .size .width) (mark s 1) ++ edge (l .flags .«last_col») (mark s 10))
 
-unfoldable pub framed : Settings → Leaf → List (List ℕ)
-unfolding topLine middle bottomLine
-framed s l = topLine s l ∷ (middle s l ++ pick (l .flags .«last_row») (bottomLine s l ∷ []) [])
-
--- allotted width 0 gives an empty block
+-- a leaf of width 0 has its marks around no columns
 unfoldable pub block : Settings → Leaf → List (List ℕ)
-unfolding framed
-block s l = pick (eqb (l .size .width) 0) [] (framed s l)
+unfolding topLine middle bottomLine
+block s l = topLine s l ∷ (middle s l ++ pick (l .flags .«last_row») (bottomLine s l ∷ []) [])
 
 -- the lines and columns that a block covers
 unfoldable pub tall : Settings → Size → Flags → ℕ

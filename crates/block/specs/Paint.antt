@@ -35,7 +35,6 @@ pub record Paintable (s : Settings) (t : List ℕ) (n z : Size) (f : Flags) (h v
   pub natural-is : n ≡ leafSize s t
   pub fits : Fits n z
   pub text-small : length t < 65536
-  pub some-width : 0 < z .width
   pub width-small : z .width < 65536
   pub height-small : z .height < 65536
   pub few-horizontal : length h ≤ 512

@@ -18,9 +18,8 @@ use Rattle.block.specs.Every.{Every}
 use Rattle.block.proofs.Every.{every-append, every-elem}
 use Rattle.layout.specs.Walk.{Context, Placed, child, leafWalked, alongList, besideList, walk, children, root, leaves}
 use Rattle.layout.specs.Handed.{contexts, contexts*, contextAt, leftAfter}
-use Rattle.layout.proofs.Laid.{child-size}
+use Rattle.layout.proofs.Laid.{child-size, join-leaves}
 use Rattle.layout.proofs.Numbered.{child-node, none-leaves}
-use Rattle.layout.proofs.Narrow.{join-leaves}
 use Rattle.layout.proofs.Named.{LeafAt}
 use Rattle.layout.proofs.Stand.{Stand, stand-first, stand-rest, stand-front, stand-back, stand-whole, entry-at}
 use Rattle.layout.proofs.Starts.{allottedIn}

@@ -5,7 +5,6 @@ pub mod Inside
 pub mod Numbered
 pub mod Entries
 pub mod Named
-pub mod Narrow
 pub mod Stand
 pub mod Starts
 pub mod Handed

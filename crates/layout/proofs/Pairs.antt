@@ -13,7 +13,7 @@ use Rattle.block.specs.Every.{Every}
 use Rattle.block.proofs.Every.{every-append}
 use Rattle.layout.specs.Walk.{Context, Placed, child, leafWalked, alongList, besideList, walk, children, root, leaves}
 use Rattle.layout.proofs.Numbered.{none-leaves}
-use Rattle.layout.proofs.Narrow.{join-leaves}
+use Rattle.layout.proofs.Laid.{join-leaves}
 
 abbrev Counts : Context → Type 0
 Counts c = c .pair .taken ≤ length (c .horizontal) + length (c .vertical)

@@ -15,9 +15,8 @@ use Rattle.sizes.specs.Collecting.{sizeAt}
 use Rattle.sizes.proofs.Fill.{along-sized}
 use Rattle.block.specs.Block.{tall, wide}
 use Rattle.layout.specs.Walk.{Context, Walked, child, childFlags, rootFlags, leafWalked, joinWalked, alongList, besideList, walk, children, root, leaves}
-use Rattle.layout.proofs.Laid.{child-size}
+use Rattle.layout.proofs.Laid.{child-size, join-leaves}
 use Rattle.layout.proofs.Numbered.{child-node, none-leaves}
-use Rattle.layout.proofs.Narrow.{join-leaves}
 use Rattle.walk.specs.Walking.{Lists, Here, Allotted, AllottedIn}
 use Rattle.walk.proofs.Steps.{here-of}
 use Rattle.places.specs.declared.anchor.Anchor.{Anchor}

@@ -12,11 +12,9 @@ use Rattle.sizes.specs.Sizes.{sep}
 use Rattle.sizes.specs.Input.{Input, refused, given, inputOf}
 use Rattle.sizes.proofs.Given.{Takes, takes}
 use Rattle.sizes.proofs.Limits.{sep-small}
-use Rattle.layout.specs.Walk.{leaves}
 use Rattle.frame.specs.declared.Frame.{Frame}
 use Rattle.frame.specs.Frame.{W, H, frameOf, tooLarge}
 use Rattle.frame.proofs.Sheets.{frame-is, large-no}
-use Rattle.sheet.specs.Answers.{narrow}
 use Rattle.places.specs.declared.LeafPlace.{LeafPlace}
 use Rattle.places.specs.Words.{lineOf, columnOf, answerWord, placeWord}
 use Rattle.places.specs.Places.{areas, faultOf, noLeafPlace, leafPlaceIn, leafPlaceOf}
@@ -70,7 +68,7 @@ module _ {bs ts : List ℕ} {m : Measured} (q : Checked bs ts m) where
 place-no : (x : Input) (l k : ℕ) (m : Measured) → m ≡ checkedOf x → (m .number ≡ 0 → ⊥) → leafPlaceOf x l k ≡ noLeafPlace (m .number)
 unfolding leafPlaceOf checkedOf
 place-no (refused n) l k m e h = rw e
-place-no (given s t) l k m e h = chosen (tooLarge s t) (narrow (leaves s t)) noLeafPlace (leafPlaceIn s t l k) (m .number) (ap (λ (y : Measured). y .number) e) h
+place-no (given s t) l k m e h = chosen (tooLarge s t) noLeafPlace (leafPlaceIn s t l k) (m .number) (ap (λ (y : Measured). y .number) e) h
 
 pub place-refused : (bs ts : List ℕ) (l k : ℕ) (m : Measured) → m ≡ checkedOf (inputOf bs ts) → (m .number ≡ 0 → ⊥) → leafPlaceOf (inputOf bs ts) l k ≡ noLeafPlace (m .number)
 place-refused bs ts l k m e h = place-no (inputOf bs ts) l k m e h
@@ -92,7 +90,7 @@ module _ {bs ts : List ℕ} {m : Measured} (q : Checked bs ts m) (f : Frame) (fe
     (e : (s : Settings) (t : Tree) → Frames (m .settings .margin) f s t → n ≡ faultOf s t l k) where
   in-sheet : leafPlaceOf (inputOf bs ts) l k ≡ leafPlaceIn (s q) (t q) l k
   unfolding leafPlaceOf
-  in-sheet = rw (q .input, q .large, q .wide)
+  in-sheet = rw (q .input, q .large)
 
   fault : faultOf (s q) (t q) l k ≡ n
   fault = sym (e (s q) (t q) (frames q f fe))

@@ -14,10 +14,8 @@ use Rattle.tree.specs.Tree.{Tree}
 use Rattle.sizes.specs.declared.Measured.{Measured}
 use Rattle.sizes.specs.Sizes.{sep}
 use Rattle.sizes.specs.Input.{Input, refused, given, inputOf}
-use Rattle.layout.specs.Walk.{leaves}
 use Rattle.frame.specs.declared.Frame.{Frame}
 use Rattle.frame.specs.Frame.{frameOf, tooLarge}
-use Rattle.sheet.specs.Answers.{narrow}
 use Rattle.places.specs.declared.FoundPlaces.{FoundPlaces}
 use Rattle.places.specs.Words.{lineOf, columnOf}
 use Rattle.places.specs.Places.{areas, faultOf, leafPlaceIn}
@@ -74,7 +72,7 @@ all-owned s t (p ∷ ps) e =
 finds-no : (x : Input) (ps fs : List ℕ) (m : Measured) → m ≡ checkedOf x → (m .number ≡ 0 → ⊥) → findsOf x ps fs ≡ noFinds (m .number) fs
 unfolding findsOf checkedOf
 finds-no (refused n) ps fs m e h = rw e
-finds-no (given s t) ps fs m e h = chosen (tooLarge s t) (narrow (leaves s t)) (λ n. noFinds n fs) (findsIn s t ps fs) (m .number) (ap (λ (y : Measured). y .number) e) h
+finds-no (given s t) ps fs m e h = chosen (tooLarge s t) (λ n. noFinds n fs) (findsIn s t ps fs) (m .number) (ap (λ (y : Measured). y .number) e) h
 
 pub finds-refused : (bs ts ps fs : List ℕ) (m : Measured) → m ≡ checkedOf (inputOf bs ts) → (m .number ≡ 0 → ⊥) → findsOf (inputOf bs ts) ps fs ≡ noFinds (m .number) fs
 finds-refused bs ts ps fs m e h = finds-no (inputOf bs ts) ps fs m e h
@@ -82,7 +80,7 @@ finds-refused bs ts ps fs m e h = finds-no (inputOf bs ts) ps fs m e h
 module _ {bs ts : List ℕ} {m : Measured} (q : Checked bs ts m) (ps fs : List ℕ) where
   in-sheet : findsOf (inputOf bs ts) ps fs ≡ findsIn (m .settings) (q .tree) ps fs
   unfolding findsOf
-  in-sheet = rw (q .input, q .large, q .wide)
+  in-sheet = rw (q .input, q .large)
 
   pub finds-many : 256 < length ps → findsOf (inputOf bs ts) ps fs ≡ noFinds 14 fs
   finds-many h = in-sheet ∙ rw (lt-ltb 256 (length ps) h)

@@ -16,11 +16,9 @@ use Rattle.sizes.specs.Input.{Input, refused, given, inputOf}
 use Rattle.sizes.specs.Core.{naturalWidth, naturalHeight}
 use Rattle.sizes.proofs.Given.{input-refusal}
 use Rattle.block.specs.Every.{Every}
-use Rattle.layout.specs.Walk.{leaves}
 use Rattle.frame.specs.Frame.{tooLarge}
 use Rattle.walk.specs.Walking.{Lists, listsOf}
 use Rattle.walk.proofs.Held.{lists-held}
-use Rattle.sheet.specs.Answers.{narrow}
 use Rattle.places.specs.Words.{lineOf, columnOf, placeWord}
 use Rattle.places.specs.Places.{areas, leafPlaceIn, leafPlaceOf}
 use Rattle.places.specs.Locating.{rootAnchor}
@@ -47,7 +45,7 @@ located-areas s t =
 
 admitted-finds : {x : Input} {s : Settings} {t : Tree} → Admitted x s t → (ps fs : List ℕ) → findsOf x ps fs ≡ findsIn s t ps fs
 unfolding findsOf
-admitted-finds a ps fs = rw (a .input, a .large, a .wide)
+admitted-finds a ps fs = rw (a .input, a .large)
 
 -- ---- a place put alone
 
@@ -116,15 +114,14 @@ module _ (s : Settings) (t : Tree) (ps fs : List ℕ) (r : Finds) (h : r .answer
   many-case true be a e = let z = zero 14 e in absurd (omega arith)
   many-case false be a e = first-case (eqb (firstFault s t ps) 0) (firstFault s t ps) refl refl a (ltb-false 256 (length ps) be) e
 
-  given-case : (a b : Bool) → tooLarge s t ≡ a → narrow (leaves s t) ≡ b → r ≡ pick a (noFinds 6 fs) (pick b (noFinds 7 fs) (findsIn s t ps fs)) → Together (given s t) ps fs r
-  given-case true b ae be e = let z = zero 6 e in absurd (omega arith)
-  given-case false true ae be e = let z = zero 7 e in absurd (omega arith)
-  given-case false false ae be e = many-case (ltb 256 (length ps)) refl (record { input = refl; large = ae; wide = be }) e
+  given-case : (a : Bool) → tooLarge s t ≡ a → r ≡ pick a (noFinds 6 fs) (findsIn s t ps fs) → Together (given s t) ps fs r
+  given-case true ae e = let z = zero 6 e in absurd (omega arith)
+  given-case false ae e = many-case (ltb 256 (length ps)) refl (record { input = refl; large = ae }) e
 
 together-in : (bs ts : List ℕ) (x : Input) → inputOf bs ts ≡ x → (ps fs : List ℕ) (r : Finds) → r ≡ findsOf x ps fs → r .answer .number ≡ 0 → Together x ps fs r
 unfolding findsOf
 together-in bs ts (refused n) i ps fs r e h = let z : n ≡ 0 = sym (ap (λ (y : Finds). y .answer .number) e) ∙ h in absurd (omega (arith, input-refusal bs ts n i))
-together-in bs ts (given s t) i ps fs r e h = given-case s t ps fs r h (tooLarge s t) (narrow (leaves s t)) refl refl e
+together-in bs ts (given s t) i ps fs r e h = given-case s t ps fs r h (tooLarge s t) refl e
 
 pub together : (bs ts ps fs : List ℕ) (r : Finds) → r ≡ findsOf (inputOf bs ts) ps fs → r .answer .number ≡ 0 → Together (inputOf bs ts) ps fs r
 together bs ts ps fs r e h = together-in bs ts (inputOf bs ts) refl ps fs r e h

@@ -13,10 +13,9 @@ use Rattle.sizes.specs.declared.Measured.{Measured}
 use Rattle.sizes.specs.Sizes.{sep}
 use Rattle.sizes.specs.Input.{Input, refused, given}
 use Rattle.sizes.specs.Core.{coreOf, refusedWith}
-use Rattle.layout.specs.Walk.{leaves, insideW, insideH}
+use Rattle.layout.specs.Walk.{insideW, insideH}
 use Rattle.frame.specs.declared.Frame.{Frame}
 use Rattle.frame.specs.Frame.{around, tooLarge}
-use Rattle.sheet.specs.Answers.{narrow}
 use Rattle.places.specs.declared.LeafPlace.{LeafPlace}
 use Rattle.places.specs.declared.anchor.Anchor.{Anchor}
 use Rattle.places.specs.declared.anchor.Siblings.{Siblings}
@@ -28,11 +27,11 @@ use Rattle.places.specs.Locating.{Located, childAnchor}
 
 -- ---- before a place is looked at
 
--- 1 to 7, or the settings and the sizes of a sheet that is printed
+-- 1 to 6, or the settings and the sizes of a sheet that is printed
 unfoldable pub checkedOf : Input → Measured
-unfolding tooLarge narrow leaves coreOf
+unfolding tooLarge coreOf
 checkedOf (refused n) = refusedWith n
-checkedOf (given s t) = record { number = pick (tooLarge s t) 6 (pick (narrow (leaves s t)) 7 0); settings = s; core = coreOf s t }
+checkedOf (given s t) = record { number = pick (tooLarge s t) 6 0; settings = s; core = coreOf s t }
 
 -- the margin and the frame are those of the sheet of settings s and tree t
 pub record Frames (m : Margin) (f : Frame) (s : Settings) (t : Tree) : Type 0 where

@@ -9,9 +9,7 @@ use Rattle.tree.specs.Tree.{Tree}
 use Rattle.sizes.specs.Sizes.{sep, treeSizes}
 use Rattle.sizes.specs.Allotting.{allottedWidth, allottedHeight}
 use Rattle.sizes.specs.Input.{Input, refused, given}
-use Rattle.layout.specs.Walk.{leaves}
 use Rattle.frame.specs.Frame.{tooLarge}
-use Rattle.sheet.specs.Answers.{narrow}
 use Rattle.places.specs.declared.FoundPlaces.{FoundPlaces}
 use Rattle.places.specs.Words.{lineOf, columnOf, placeWord}
 use Rattle.places.specs.Places.{leafPlaceIn}
@@ -58,8 +56,8 @@ findsIn s t ps fs =
     pick (ltb 256 (length ps)) (noFinds 14 fs)
     (pick (eqb (firstFault s t ps) 0) (findsTo s t ps fs) (noFinds (firstFault s t ps) fs))
 
--- 1, 2 to 5, 6 and 7 as the sheet printer
+-- 1, 2 to 5 and 6 as the sheet printer
 unfoldable pub findsOf : Input → List ℕ → List ℕ → Finds
-unfolding tooLarge narrow leaves firstFault located wordOf
+unfolding tooLarge firstFault located wordOf
 findsOf (refused n) ps fs = noFinds n fs
-findsOf (given s t) ps fs = pick (tooLarge s t) (noFinds 6 fs) (pick (narrow (leaves s t)) (noFinds 7 fs) (findsIn s t ps fs))
+findsOf (given s t) ps fs = pick (tooLarge s t) (noFinds 6 fs) (findsIn s t ps fs)

@@ -13,7 +13,7 @@ ghost use Rattle.places.specs.Places.{faultOf};
 ghost use Rattle.places.specs.Contracts.{checkedOf, Frames};
 ghost use Rattle.places.specs.Together.{firstFault};
 
-// 1, 2 to 5, then 6 and 7 as the sheet printer, lent enough; or the settings and the sizes.
+// 1, 2 to 5, then 6, as the sheet printer; or the settings and the sizes.
 pub fn check_sheet(settings: &[u8], tree: &[u8]) -> Measured
     ensures { λ r. ⌜ r ≡ checkedOf (inputOf (now (settings .entry)) (now (tree .entry))) ⌝ }
 {
@@ -24,7 +24,7 @@ pub fn check_sheet(settings: &[u8], tree: &[u8]) -> Measured
     let s = m.settings;
     let core = m.core;
     let f = frame::frame_of(s, core);
-    let number = sheet::refusal_of(core, f, f.bytes);
+    let number = common::pick_byte(frame::is_large(f), 6, 0);
     Measured {
         number: number,
         settings: s,

@@ -16,16 +16,14 @@ use Rattle.settings.specs.Reading.{settingsEnd}
 use Rattle.tree.specs.Tree.{Tree}
 use Rattle.sizes.specs.Input.{Input, refused, given, inputOf}
 use Rattle.sizes.proofs.Given.{input-refusal}
-use Rattle.layout.specs.Walk.{leaves}
 use Rattle.block.specs.Paint.{Wrote}
 use Rattle.frame.specs.declared.Written.{Written}
 use Rattle.frame.specs.Frame.{W, H, tooLarge}
 use Rattle.frame.specs.Printer.{Prints, noPrint, printTo}
 use Rattle.frame.proofs.Sheets.{large-no}
 use Rattle.sheet.specs.Sheet.{sheet}
-use Rattle.sheet.specs.Answers.{narrow, sheetOf}
+use Rattle.sheet.specs.Answers.{sheetOf}
 use Rattle.sheet.proofs.Bytes.{sheet-length}
-use Rattle.sheet.proofs.Planned.{narrow-wide}
 use Rattle.program.specs.Program.{refusedText, printedOf, programOf}
 
 -- a refusal: its number is told, and the output is as it was
@@ -51,34 +49,27 @@ abbrev Tells : Input → List ℕ → Prints → Type 0
 Tells i o p = Told (printedOf i) o (p .answer) (p .out)
 
 -- the largest sheet has 160 lines of 400 columns, with a 0A between them
-largest : (s : Settings) (t : Tree) → tooLarge s t ≡ false → narrow (leaves s t) ≡ false → length (sheet s t) < 64160
+largest : (s : Settings) (t : Tree) → tooLarge s t ≡ false → length (sheet s t) < 64160
 unfolding tooLarge
-largest s t large thin =
+largest s t large =
     let n = large-no (W s t) (H s t) large in
     let m : (W s t + 1) * H s t ≤ 401 * 160 = mul-le-mul {n₂ = 401} {m₂ = 160} (omega (arith, n .0)) (n .1) in
-    omega (arith, sheet-length s t (narrow-wide (leaves s t) thin))
+    omega (arith, sheet-length s t)
 
 refusal : (i : Input) (k : ℕ) (o : List ℕ) → 1 ≤ k → k < 10 → printedOf i ≡ refusedText k → Tells i o (noPrint k o)
 refusal i k o low high e = record { no = λ z. record { is = e; digit = high; out = refl }; yes = λ z. absurd (omega (arith, z)) }
 
-sheet-told : (s : Settings) (t : Tree) (o : List ℕ) → 64160 ≤ length o → tooLarge s t ≡ false → narrow (leaves s t) ≡ false → Tells (given s t) o (printTo (sheet s t) o)
+sheet-told : (s : Settings) (t : Tree) (o : List ℕ) → 64160 ≤ length o → tooLarge s t ≡ false → Tells (given s t) o (printTo (sheet s t) o)
 unfolding printedOf
-sheet-told s t o long large thin =
-    let fits : length (sheet s t) < 64160 = largest s t large thin in
+sheet-told s t o long large =
+    let fits : length (sheet s t) < 64160 = largest s t large in
     let e : ltb (length o) (length (sheet s t)) ≡ false = le-ltb (length o) (length (sheet s t)) (omega arith) in
-    rw e (record { no = λ z. absurd (z refl); yes = λ z. record { bytes = sheet s t; is = rw (large, thin); count = refl; room = fits; out = refl } })
+    rw e (record { no = λ z. absurd (z refl); yes = λ z. record { bytes = sheet s t; is = rw large; count = refl; room = fits; out = refl } })
 
-narrow-told : (s : Settings) (t : Tree) (o : List ℕ) → 64160 ≤ length o → tooLarge s t ≡ false → (b : Bool) → narrow (leaves s t) ≡ b
-    → Tells (given s t) o (pick b (noPrint 7 o) (printTo (sheet s t) o))
-unfolding printedOf
-narrow-told s t o long large true e = refusal (given s t) 7 o (omega arith) (omega arith) (rw (large, e))
-narrow-told s t o long large false e = sheet-told s t o long large e
-
-large-told : (s : Settings) (t : Tree) (o : List ℕ) → 64160 ≤ length o → (b : Bool) → tooLarge s t ≡ b
-    → Tells (given s t) o (pick b (noPrint 6 o) (pick (narrow (leaves s t)) (noPrint 7 o) (printTo (sheet s t) o)))
+large-told : (s : Settings) (t : Tree) (o : List ℕ) → 64160 ≤ length o → (b : Bool) → tooLarge s t ≡ b → Tells (given s t) o (pick b (noPrint 6 o) (printTo (sheet s t) o))
 unfolding printedOf
 large-told s t o long true e = refusal (given s t) 6 o (omega arith) (omega arith) (rw e)
-large-told s t o long false e = narrow-told s t o long e (narrow (leaves s t)) refl
+large-told s t o long false e = sheet-told s t o long e
 
 told-case : (bs ts o : List ℕ) → 64160 ≤ length o → (i : Input) → inputOf bs ts ≡ i → Tells i o (sheetOf i o)
 unfolding sheetOf printedOf

@@ -5,10 +5,8 @@ use lib.ListN.{take, drop}
 use Rattle.common.specs.Choice.{pick}
 use Rattle.settings.specs.Reading.{settingsEnd}
 use Rattle.sizes.specs.Input.{Input, refused, given, inputOf}
-use Rattle.layout.specs.Walk.{leaves}
 use Rattle.frame.specs.Frame.{tooLarge}
 use Rattle.sheet.specs.Sheet.{sheet}
-use Rattle.sheet.specs.Answers.{narrow}
 
 -- `refused `, the number and 0A. Every number that the program tells is under 10 (`told`, proofs/Told.antt): one decimal digit
 abbrev pub refusedText : ℕ → List ℕ
@@ -16,9 +14,9 @@ refusedText k = 114 ∷ 101 ∷ 102 ∷ 117 ∷ 115 ∷ 101 ∷ 100 ∷ 32 ∷ (
 
 -- the sheet and 0A, or the refusal; 8 is none of them: the program has room for every sheet
 unfoldable pub printedOf : Input → List ℕ
-unfolding tooLarge narrow leaves sheet
+unfolding tooLarge sheet
 printedOf (refused k) = refusedText k
-printedOf (given s t) = pick (tooLarge s t) (refusedText 6) (pick (narrow (leaves s t)) (refusedText 7) (sheet s t ++ 10 ∷ []))
+printedOf (given s t) = pick (tooLarge s t) (refusedText 6) (sheet s t ++ 10 ∷ [])
 
 -- the settings are the first 31 bytes, and the 11 from a hex 11 behind them on, or all if there are fewer; the rest is the tree
 unfoldable pub programOf : List ℕ → List ℕ

@@ -10,11 +10,10 @@ use Rattle.tree.specs.Tree.{Tree}
 use Rattle.block.specs.Content.{paired}
 use Rattle.block.specs.Block.{block}
 use Rattle.block.specs.Every.{Every}
-use Rattle.block.proofs.Every.{every-append, every-front, every-back, every-map, every-and, every-elem, Dims, dims-append, dims-paired, byteAt, byte-left, byte-right, byte-above, byte-below}
+use Rattle.block.proofs.Every.{every-append, every-map, every-and, every-elem, Dims, dims-append, dims-paired, byteAt, byte-left, byte-right, byte-above, byte-below}
 use Rattle.block.proofs.Dims.{block-dims}
 use Rattle.layout.specs.Walk.{Placed, leafOf, walk, root, leaves, insideW, insideH}
 use Rattle.layout.proofs.Laid.{tallAt, wideAt, Laid, one, side, under, root-laid}
-use Rattle.layout.proofs.Narrow.{HasWidth}
 use Rattle.layout.proofs.Inside.{Inside, laid-inside}
 
 -- the content, which starts at line l, column k, has the leaf's block at the leaf's start
@@ -24,10 +23,10 @@ Shows s x l k f = (i j : ℕ) → i < tallAt s (f .at) → j < wideAt s (f .at)
 
 -- ---- by induction over what is laid out
 
-pub laid-dims : {s : Settings} {l k h w : ℕ} {fs : List Placed} {x : List (List ℕ)} → Laid s l k h w fs x → Every HasWidth fs → Dims x h w
-laid-dims {s} (one f fits) n = block-dims s (leafOf f) fits (λ e. omega (arith, n .0))
-laid-dims (side {fs = fs} {gs = gs} p q) n = dims-paired (laid-dims p (every-front HasWidth fs gs n)) (laid-dims q (every-back HasWidth fs gs n))
-laid-dims (under {fs = fs} {gs = gs} p q) n = dims-append (laid-dims p (every-front HasWidth fs gs n)) (laid-dims q (every-back HasWidth fs gs n))
+pub laid-dims : {s : Settings} {l k h w : ℕ} {fs : List Placed} {x : List (List ℕ)} → Laid s l k h w fs x → Dims x h w
+laid-dims {s} (one f fits) = block-dims s (leafOf f) fits
+laid-dims (side p q) = dims-paired (laid-dims p) (laid-dims q)
+laid-dims (under p q) = dims-append (laid-dims p) (laid-dims q)
 
 -- ---- a part's leaf in the whole
 
@@ -59,37 +58,33 @@ show-self s f i j p q =
     let d : f .at .column - f .at .column + j ≡ j = omega arith in
     rw (e, d)
 
-pub laid-shows : {s : Settings} {l k h w : ℕ} {fs : List Placed} {x : List (List ℕ)} → Laid s l k h w fs x → Every HasWidth fs → Every (Shows s x l k) fs
-laid-shows {s} (one f fits) n = (show-self s f, tt)
-laid-shows {s} {l} {k} {h} (side {w = w} {v = v} {fs = fs} {gs = gs} {x = x} {y = y} p q) n =
-    let np = every-front HasWidth fs gs n in
-    let nq = every-back HasWidth fs gs n in
-    let d = laid-dims p np in
+pub laid-shows : {s : Settings} {l k h w : ℕ} {fs : List Placed} {x : List (List ℕ)} → Laid s l k h w fs x → Every (Shows s x l k) fs
+laid-shows {s} (one f fits) = (show-self s f, tt)
+laid-shows {s} {l} {k} {h} (side {w = w} {v = v} {fs = fs} {gs = gs} {x = x} {y = y} p q) =
+    let d = laid-dims p in
     let All = Shows s (paired x y) l k in
     every-append All fs gs
-    (every-map (λ f. Inside s l k h w f × Shows s x l k f) All (show-left s l k y d) fs (every-and _ _ fs (laid-inside p) (laid-shows p np)))
-    (every-map (λ f. Inside s l (k + w) h v f × Shows s y l (k + w) f) All (λ f. show-right s l k y d f v) gs (every-and _ _ gs (laid-inside q) (laid-shows q nq)))
-laid-shows {s} {l} {k} {w = w} (under {h = h} {g = g} {fs = fs} {gs = gs} {x = x} {y = y} p q) n =
-    let np = every-front HasWidth fs gs n in
-    let nq = every-back HasWidth fs gs n in
-    let d = laid-dims p np in
+    (every-map (λ f. Inside s l k h w f × Shows s x l k f) All (show-left s l k y d) fs (every-and _ _ fs (laid-inside p) (laid-shows p)))
+    (every-map (λ f. Inside s l (k + w) h v f × Shows s y l (k + w) f) All (λ f. show-right s l k y d f v) gs (every-and _ _ gs (laid-inside q) (laid-shows q)))
+laid-shows {s} {l} {k} {w = w} (under {h = h} {g = g} {fs = fs} {gs = gs} {x = x} {y = y} p q) =
+    let d = laid-dims p in
     let All = Shows s (x ++ y) l k in
     every-append All fs gs
-    (every-map (λ f. Inside s l k h w f × Shows s x l k f) All (show-above s l k y d) fs (every-and _ _ fs (laid-inside p) (laid-shows p np)))
-    (every-map (λ f. Inside s (l + h) k g w f × Shows s y (l + h) k f) All (λ f. show-below s l k y d f g) gs (every-and _ _ gs (laid-inside q) (laid-shows q nq)))
+    (every-map (λ f. Inside s l k h w f × Shows s x l k f) All (show-above s l k y d) fs (every-and _ _ fs (laid-inside p) (laid-shows p)))
+    (every-map (λ f. Inside s (l + h) k g w f × Shows s y (l + h) k f) All (λ f. show-below s l k y d f g) gs (every-and _ _ gs (laid-inside q) (laid-shows q)))
 
 -- ---- the sheet
 
-pub sheet-dims : (s : Settings) (t : Tree) → Every HasWidth (leaves s t) → Dims (walk s t (root s t) .content) (insideH s t) (insideW s t)
-sheet-dims s t n = laid-dims (root-laid s t) n
+pub sheet-dims : (s : Settings) (t : Tree) → Dims (walk s t (root s t) .content) (insideH s t) (insideW s t)
+sheet-dims s t = laid-dims (root-laid s t)
 
 -- the content's byte at a leaf's start plus (i, j) is its block's at (i, j)
-pub sheet-shows : (s : Settings) (t : Tree) → Every HasWidth (leaves s t) → (n : ℕ) (f : Placed) → getElem? (leaves s t) n ≡ some f
+pub sheet-shows : (s : Settings) (t : Tree) (n : ℕ) (f : Placed) → getElem? (leaves s t) n ≡ some f
     → (i j : ℕ) → i < tallAt s (f .at) → j < wideAt s (f .at)
     → byteAt (walk s t (root s t) .content) (f .at .line + i) (f .at .column + j) ≡ byteAt (block s (leafOf f)) i j
 unfolding Shows
-sheet-shows s t z n f e i j p q =
-    let o = every-elem (Shows s (walk s t (root s t) .content) 0 0) (leaves s t) n f (laid-shows (root-laid s t) z) e in
+sheet-shows s t n f e i j p q =
+    let o = every-elem (Shows s (walk s t (root s t) .content) 0 0) (leaves s t) n f (laid-shows (root-laid s t)) e in
     let a : f .at .line + i ≡ f .at .line - 0 + i = omega arith in
     let b : f .at .column + j ≡ f .at .column - 0 + j = omega arith in
     rw (a, b) (o i j p q)

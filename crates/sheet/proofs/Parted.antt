@@ -14,11 +14,9 @@ use Rattle.sizes.proofs.Either.{either}
 use Rattle.sizes.proofs.Heights.{natural-height}
 use Rattle.block.specs.Content.{feeds}
 use Rattle.block.specs.Block.{block}
-use Rattle.block.specs.Every.{Every}
 use Rattle.block.proofs.NoFeed.{Plain, Free, NoFeed, no-feed-append, no-feed-paired, block-no-feed, lines-feeds}
-use Rattle.layout.specs.Walk.{Placed, leafOf, walk, root, leaves, insideW, insideH}
+use Rattle.layout.specs.Walk.{Placed, leafOf, walk, root, insideW, insideH}
 use Rattle.layout.proofs.Laid.{Laid, one, side, under, root-laid}
-use Rattle.layout.proofs.Narrow.{HasWidth}
 use Rattle.sheet.specs.Sheet.{between, margined, insideSheet, sheetLines, sheet}
 use Rattle.sheet.proofs.Content.{sheet-dims}
 use Rattle.sheet.proofs.Bytes.{lines-dims, some-lines}
@@ -78,15 +76,15 @@ margined-no-feed m f w h =
     between-free : (l : List ℕ) → Free l → Free (between m l)
     between-free l p = free-join (free-bytes (m .left) _ (f 0)) (free-join p (free-bytes (m .right) _ (f 1)))
 
-pub sheet-parted : (s : Settings) (t : Tree) → Ranges s → Every HasWidth (leaves s t) → lines (sheet s t) ≡ sheetLines s t
+pub sheet-parted : (s : Settings) (t : Tree) → Ranges s → lines (sheet s t) ≡ sheetLines s t
 unfolding sheet sheetLines
-sheet-parted s t r n =
+sheet-parted s t r =
     parted _ (margined-no-feed (s .margin) (printable (s .margin .fills) (r .margin-fills)) (insideW s t) (laid-no-feed (plain s r) (root-laid s t)))
-    (omega (arith, lines-dims s t n .lines, some-lines s t))
+    (omega (arith, lines-dims s t .lines, some-lines s t))
 
-pub inside-parted : (s : Settings) (t : Tree) → Ranges s → Every HasWidth (leaves s t) → lines (insideSheet s t) ≡ walk s t (root s t) .content
+pub inside-parted : (s : Settings) (t : Tree) → Ranges s → lines (insideSheet s t) ≡ walk s t (root s t) .content
 unfolding insideSheet insideH
-inside-parted s t r n = parted _ (laid-no-feed (plain s r) (root-laid s t)) (omega (arith, sheet-dims s t n .lines, natural-height s t))
+inside-parted s t r = parted _ (laid-no-feed (plain s r) (root-laid s t)) (omega (arith, sheet-dims s t .lines, natural-height s t))
 
 pub block-parted : (s : Settings) (f : Placed) → Ranges s → 0 < length (block s (leafOf f)) → lines (feeds (block s (leafOf f))) ≡ block s (leafOf f)
 block-parted s f r h = parted _ (block-no-feed s (plain s r) (leafOf f)) h

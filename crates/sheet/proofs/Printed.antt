@@ -1,5 +1,5 @@
 -- What the sheet printer answers, from the plan and the walk. Assumes nothing.
-use mathlib.Core.Path.{_≡_, refl, sym, ap, _∙_}
+use mathlib.Core.Path.{_≡_, refl, sym, _∙_}
 use Prim.Native.Nat.{ℕ, suc, _+_, _-_, _*_, _≤_}
 use native.Mathlib.Omega.{arith}
 use native.Mathlib.Nat.{mul-le-mul}
@@ -32,16 +32,15 @@ use Rattle.walk.specs.Walking.{coreLists, ReadyTree, WalksTree}
 use Rattle.layout.proofs.Laid.{root-laid}
 use Rattle.layout.proofs.Fit.{LeafFits, leaves-fit}
 use Rattle.layout.proofs.Inside.{Inside, laid-inside, room-inside}
-use Rattle.layout.proofs.Narrow.{HasWidth}
 use Rattle.sizes.proofs.Heights.{natural-height}
 use Rattle.sizes.proofs.Given.{refuses}
 use Rattle.leaf.proofs.Calls.{tree-ready, call, call-takes}
 use Rattle.sheet.specs.Sheet.{sheet}
-use Rattle.sheet.specs.Answers.{narrow, sheetOf}
-use Rattle.sheet.specs.Planning.{zeroIn, refusalOf, leftSide, topSide, insideAt, Framed, beforeOf, afterOf}
+use Rattle.sheet.specs.Answers.{sheetOf}
+use Rattle.sheet.specs.Planning.{refusalOf, leftSide, topSide, insideAt, Framed, beforeOf, afterOf}
 use Rattle.sheet.proofs.Bytes.{sheet-length}
 use Rattle.sheet.proofs.Painted.{painted, sheet-painted}
-use Rattle.sheet.proofs.Planned.{narrow-wide, narrow-is, Good, planned-no, planned-yes}
+use Rattle.sheet.proofs.Planned.{planned-no, planned-yes}
 
 -- ---- the walk's fold for the sheet pastes every block
 
@@ -87,12 +86,12 @@ module _ (s : Settings) (t : Tree) (len : ℕ) (large : tooLarge s t ≡ false) 
   part-room =
       rw some-inside (inside-room (s .margin .left) (s .margin .top) (insideH s t - 1) (s .margin .bottom) (s .margin .right) (insideW s t) (W s t + 1) len (wide-within s t) (rw (← some-inside) whole-room))
 
-  leaves-ask : (u : Purpose) → Every HasWidth (leaves s t) → Every (Asks (jobFor u s (W s t + 1)) (len - insideAt (s .margin) (W s t + 1))) (leaves s t)
-  leaves-ask u k =
-      every-map (λ l. (LeafFits s l × HasWidth l) × Inside s 0 0 (insideH s t) (insideW s t) l) (Asks (jobFor u s (W s t + 1)) (len - insideAt (s .margin) (W s t + 1)))
-      (λ l x. record { fits = x .0 .0; in-sheet = λ e. record { some = x .0 .1; apart = omega (arith, x .1 .right, wide-within s t); room = room-inside (W s t + 1) (len - insideAt (s .margin) (W s t + 1)) (x .1) part-room } })
+  leaves-ask : (u : Purpose) → Every (Asks (jobFor u s (W s t + 1)) (len - insideAt (s .margin) (W s t + 1))) (leaves s t)
+  leaves-ask u =
+      every-map (λ l. LeafFits s l × Inside s 0 0 (insideH s t) (insideW s t) l) (Asks (jobFor u s (W s t + 1)) (len - insideAt (s .margin) (W s t + 1)))
+      (λ l x. record { fits = x .0; in-sheet = λ e. record { apart = omega (arith, x .1 .right, wide-within s t); room = room-inside (W s t + 1) (len - insideAt (s .margin) (W s t + 1)) (x .1) part-room } })
       (leaves s t)
-      (every-and (λ l. LeafFits s l × HasWidth l) (Inside s 0 0 (insideH s t) (insideW s t)) (leaves s t) (every-and (LeafFits s) HasWidth (leaves s t) (leaves-fit s t) k) (laid-inside (root-laid s t)))
+      (every-and (LeafFits s) (Inside s 0 0 (insideH s t) (insideW s t)) (leaves s t) (leaves-fit s t) (laid-inside (root-laid s t)))
 
 -- ---- what was filled and painted
 
@@ -121,10 +120,6 @@ module _ {bs ts : List ℕ} {m : Measured} (k : Taken bs ts m) where
 
   core-is : m .core ≡ coreOf s t
   core-is = call bs ts m (k .measured) (k .zero) .core
-
-  pub core-few : m .core .count ≤ 512
-  unfolding coreOf
-  core-few = rw core-is (call-takes bs ts m (k .measured) (k .zero) .got .few)
 
   module _ {f : Frame} (fe : f ≡ frameOf s (m .core)) where
     -- the frame is the sheet's
@@ -157,47 +152,38 @@ module _ {bs ts : List ℕ} {m : Measured} (k : Taken bs ts m) where
       abbrev whole : Prints
       whole = record { answer = record { number = 0; count = f .bytes }; out = sheet s t ++ drop (f .bytes) o }
 
-      known : narrow (leaves s t) ≡ false → length (sheet s t) ≡ f .bytes
-      known e = sheet-length s t (narrow-wide (leaves s t) e) ∙ sym bytes-is
-
-      narrow-case : (b : Bool) → narrow (leaves s t) ≡ b → pick b (noPrint 7 o) (printTo (sheet s t) o) ≡ pick b (noPrint 7 o) (pick (ltb (length o) (f .bytes)) (noPrint 8 o) whole)
-      narrow-case true e = refl
-      narrow-case false e = rw (known e)
+      known : length (sheet s t) ≡ f .bytes
+      known = sheet-length s t ∙ sym bytes-is
 
       -- the definition's tests are the printer's
-      sheet-is : sheetOf (inputOf bs ts) o ≡ pick (largeOf f) (noPrint 6 o) (pick (zeroIn (take (m .core .count) (m .core .widths))) (noPrint 7 o) (pick (ltb (length o) (f .bytes)) (noPrint 8 o) whole))
+      sheet-is : sheetOf (inputOf bs ts) o ≡ pick (largeOf f) (noPrint 6 o) (pick (ltb (length o) (f .bytes)) (noPrint 8 o) whole)
       unfolding sheetOf
-      sheet-is =
-          rw (call bs ts m (k .measured) (k .zero) .input, large-of, narrow-is s t (m .core) core-is)
-          (ap (λ (x : Prints). pick (tooLarge s t) (noPrint 6 o) x) (narrow-case (narrow (leaves s t)) refl))
+      sheet-is = rw (call bs ts m (k .measured) (k .zero) .input, large-of, known)
 
-      pub sheet-no : (n : ℕ) → n ≡ refusalOf (m .core) f (length o) → (n ≡ 0 → ⊥) → sheetOf (inputOf bs ts) o ≡ noPrint n o
+      pub sheet-no : (n : ℕ) → n ≡ refusalOf f (length o) → (n ≡ 0 → ⊥) → sheetOf (inputOf bs ts) o ≡ noPrint n o
       unfolding refusalOf
-      sheet-no n e h = sheet-is ∙ planned-no (largeOf f) (zeroIn (take (m .core .count) (m .core .widths))) (ltb (length o) (f .bytes)) o n whole e h
+      sheet-no n e h = sheet-is ∙ planned-no (largeOf f) (ltb (length o) (f .bytes)) o n whole e h
 
-      module _ (none : refusalOf (m .core) f (length o) ≡ 0) where
-        passed : Good (largeOf f) (zeroIn (take (m .core .count) (m .core .widths))) (ltb (length o) (f .bytes))
+      module _ (none : refusalOf f (length o) ≡ 0) where
+        passed : (largeOf f ≡ false) × (ltb (length o) (f .bytes) ≡ false)
         unfolding refusalOf
-        passed = planned-yes (largeOf f) (zeroIn (take (m .core .count) (m .core .widths))) (ltb (length o) (f .bytes)) _ refl none
+        passed = planned-yes (largeOf f) (ltb (length o) (f .bytes)) none
 
         within : f .bytes ≤ length o
-        within = ltb-false (length o) (f .bytes) (passed .third)
+        within = ltb-false (length o) (f .bytes) (passed .1)
 
         pub fits : 0 + f .bytes ≤ length o
         fits = omega (arith, within)
 
-        widths : Every HasWidth (leaves s t)
-        widths = narrow-wide (leaves s t) (sym (narrow-is s t (m .core) core-is) ∙ passed .second)
-
         large : tooLarge s t ≡ false
-        large = sym large-of ∙ passed .first
+        large = sym large-of ∙ passed .0
 
         enough : (W s t + 1) * H s t - 1 ≤ length o
         enough = omega (arith, within, bytes-is)
 
         pub framed : {len : ℕ} → len ≡ length o → Framed (s .margin) f len
         framed le =
-            let l = large-no (f .columns) (f .lines) (passed .first) in
+            let l = large-no (f .columns) (f .lines) (passed .0) in
             rw (frame-of, le) (record {
               lines-is = refl;
               columns-is = refl;
@@ -214,7 +200,7 @@ module _ {bs ts : List ℕ} {m : Measured} (k : Taken bs ts m) where
 
           module _ {len : ℕ} (le : len ≡ length o - base) where
             asks : (u : Purpose) → Every (Asks (jobFor u s (f .stride)) len) (leaves s t)
-            asks u = rw (stride-is, le, base-is) (leaves-ask s t (length o) large enough u widths)
+            asks u = rw (stride-is, le, base-is) (leaves-ask s t (length o) large enough u)
 
             -- the walk can start, whatever its purpose
             pub sheet-ready : (u : Purpose) → ReadyTree (jobFor u s (f .stride)) ts (coreLists (m .core)) len
@@ -234,7 +220,7 @@ module _ {bs ts : List ℕ} {m : Measured} (k : Taken bs ts m) where
                 let zq : q ≡ painted s (W s t + 1) (leaves s t) (drop (insideAt (s .margin) (W s t + 1)) o₂) = w .out-is ∙ show-painted s (f .stride) part (leaves s t) ∙ rw (ep, base-is, stride-is) in
                 let z₃ : o₃ ≡ take (insideAt (s .margin) (W s t + 1)) o₂ ++ painted s (W s t + 1) (leaves s t) (drop (insideAt (s .margin) (W s t + 1)) o₂) = e₃ ∙ rw (zq, base-is) in
                 let i : insideAt (s .margin) (W s t + 1) ≤ length o₂ = rw l₂ (start-in s t (length o) large enough) in
-                e₄ ∙ rw (lines-is, wide-is, tall-is, stride-is, bytes-is) (sheet-painted s t r widths o₂ o₃ z₂ i z₃)
+                e₄ ∙ rw (lines-is, wide-is, tall-is, stride-is, bytes-is) (sheet-painted s t r o₂ o₃ z₂ i z₃)
 
             pub sheet-answers : (found : Found) (kept o₁ o₂ part q o₃ o₄ : List ℕ) → o₁ ≡ sets o 0 (replicate (f .bytes) 10)
                 → o₂ ≡ beforeOf (s .margin) f o₁ → length o₂ ≡ length o → part ≡ drop base o₂
@@ -242,7 +228,7 @@ module _ {bs ts : List ℕ} {m : Measured} (k : Taken bs ts m) where
                 → o₃ ≡ take base o₂ ++ q → o₄ ≡ afterOf (s .margin) f o₃
                 → Answers (record { number = 0; count = f .bytes }) o₄ (sheetOf (inputOf bs ts) o)
             sheet-answers found kept o₁ o₂ part q o₃ o₄ e₁ e₂ l₂ ep w e₃ e₄ =
-                let e : sheetOf (inputOf bs ts) o ≡ whole = sheet-is ∙ rw (passed .first, passed .second, passed .third) in
+                let e : sheetOf (inputOf bs ts) o ≡ whole = sheet-is ∙ rw (passed .0, passed .1) in
                 (rw e, sheet-shown found kept o₁ o₂ part q o₃ o₄ e₁ e₂ l₂ ep w e₃ e₄ ∙ rw e)
 
 -- ---- no more bytes are written than were lent
@@ -259,4 +245,4 @@ unfolding sheetOf
 sheet-within (refused k) o = omega arith
 sheet-within (given s t) o =
     pick-within (tooLarge s t) (noPrint 6 o) _ (length o) (omega arith)
-    (λ e. pick-within (narrow (leaves s t)) (noPrint 7 o) (printTo (sheet s t) o) (length o) (omega arith) (λ f. to-within (sheet s t) o))
+    (λ e. to-within (sheet s t) o)

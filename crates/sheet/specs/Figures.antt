@@ -84,3 +84,9 @@ pub default-figure : figure (recordOf defaults) (3 ∷ 0 ∷ 29 ∷ 1 ∷ 0 ∷ 
     (43 ∷ 45 ∷ 45 ∷ 45 ∷ 45 ∷ 45 ∷ 45 ∷ 45 ∷ 45 ∷ 45 ∷ 45 ∷ 45 ∷ 45 ∷ 45 ∷ 43 ∷ 10 ∷ 124 ∷ 32 ∷ 97 ∷ 98 ∷ 99 ∷ 100 ∷ 101 ∷ 102 ∷ 103 ∷ 104 ∷ 105 ∷ 106 ∷ 107 ∷ 32 ∷ 124 ∷ 10 ∷ 43 ∷ 45 ∷ 45 ∷ 45 ∷ 43 ∷ 45 ∷ 45 ∷ 45 ∷ 43 ∷ 45 ∷ 45 ∷ 45 ∷ 45 ∷ 45 ∷ 43 ∷ 10 ∷ 124 ∷ 32 ∷ 97 ∷ 32 ∷ 124 ∷ 32 ∷ 98 ∷ 32 ∷ 124 ∷ 32 ∷ 99 ∷ 32 ∷ 32 ∷ 32 ∷ 124 ∷ 10 ∷ 43 ∷ 45 ∷ 45 ∷ 45 ∷ 43 ∷ 45 ∷ 45 ∷ 45 ∷ 43 ∷ 45 ∷ 45 ∷ 45 ∷ 45 ∷ 45 ∷ 43 ∷ []) ≡ true
 unfolding figure sep readSettings readTree readElement headerOf isText
 default-figure = refl
+
+-- 02, 8: M without padding, Row[``, `a`]: the leaf of width 0 has its marks around no columns
+pub blank-figure : figure (16 ∷ 0 ∷ 28 ∷ 45 ∷ 95 ∷ 40 ∷ 41 ∷ 104 ∷ 118 ∷ 49 ∷ 50 ∷ 51 ∷ 52 ∷ 53 ∷ 54 ∷ 55 ∷ 56 ∷ 57 ∷ 0 ∷ 0 ∷ 0 ∷ 0 ∷ 32 ∷ 32 ∷ 32 ∷ 32 ∷ 0 ∷ 0 ∷ 0 ∷ 2 ∷ 2 ∷ [])
+    (2 ∷ 0 ∷ 7 ∷ 1 ∷ 0 ∷ 0 ∷ 1 ∷ 0 ∷ 1 ∷ 97 ∷ []) (49 ∷ 51 ∷ 45 ∷ 50 ∷ 10 ∷ 40 ∷ 40 ∷ 97 ∷ 41 ∷ 10 ∷ 52 ∷ 54 ∷ 95 ∷ 53 ∷ []) ≡ true
+unfolding figure sep readSettings readTree readElement headerOf isText
+blank-figure = refl

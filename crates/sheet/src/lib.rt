@@ -3,43 +3,21 @@ use block::bytes::rows;
 use frame::Frame;
 use frame::Written;
 use settings::Margin;
-use sizes::Core;
 use visit::Job;
 use visit::Purpose;
 ghost use mathlib.Core.Path.{_≡_};
-ghost use Prim.Native.Nat.{_≤_};
-ghost use lib.ListN.{length, take};
+ghost use lib.ListN.{length};
 ghost use Rattle.block.specs.Paint.{Wrote};
 ghost use Rattle.sizes.specs.Input.{inputOf};
 ghost use Rattle.sheet.specs.Answers.{sheetOf};
-ghost use Rattle.sheet.specs.Planning.{zeroIn, refusalOf, Framed, insideAt, beforeOf, afterOf};
+ghost use Rattle.sheet.specs.Planning.{refusalOf, Framed, insideAt, beforeOf, afterOf};
 
-// Whether one of the first `n` widths is 0.
-fn has_zero(widths: [u16; 512], n: usize) -> bool
-    requires { ⌜ n ≤ 512 ⌝ }
-    ensures { λ r. ⌜ r ≡ zeroIn (take n widths) ⌝ }
-{
-    let mut i: usize = 0;
-    while i < n {
-        if widths[i] == 0 {
-            return true;
-        }
-        i += 1;
-    }
-    false
-}
-
-// 6, 7 and 8 in this order, for an output of `len` bytes; 0 where the sheet is printed.
-pub fn refusal_of(core: Core, f: Frame, len: usize) -> u8
-    requires { ⌜ core .count ≤ 512 ⌝ }
-    ensures { λ r. ⌜ r ≡ refusalOf core f len ⌝ }
+// 6 and 8 in this order, for an output of `len` bytes; 0 where the sheet is printed.
+fn refusal_of(f: Frame, len: usize) -> u8
+    ensures { λ r. ⌜ r ≡ refusalOf f len ⌝ }
 {
     if frame::is_large(f) {
         return 6;
-    }
-    let widths = core.widths;
-    if has_zero(widths, core.count) {
-        return 7;
     }
     if len < f.bytes {
         return 8;
@@ -92,7 +70,7 @@ pub fn print_sheet(settings: &[u8], tree: &[u8], out: &mut [u8]) -> Written
     let core = m.core;
     let s = m.settings;
     let f = frame::frame_of(s, core);
-    let number = refusal_of(core, f, out.len());
+    let number = refusal_of(f, out.len());
     if number != 0 {
         return frame::refused(number);
     }

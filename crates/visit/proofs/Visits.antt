@@ -4,7 +4,7 @@ use Prim.Native.Nat.{ℕ, _+_, _-_, _*_, _≤_, _<_}
 use native.Mathlib.Omega.{arith}
 use native.Mathlib.Nat.{mul-le-mul}
 use mathlib.Core.Bool.{Bool, true, false}
-use mathlib.Core.List.{List, [], _∷_, _++_, append-assoc}
+use mathlib.Core.List.{List, _++_, append-assoc}
 use lib.ListN.{length, drop}
 use lib.Seq.{paste, take-length, take-append-seam, drop-append-seam, drop-append-add, drop-drop}
 use lib.Dec.{eqb}
@@ -13,7 +13,6 @@ use Rattle.settings.specs.declared.Settings.{Settings}
 use Rattle.common.specs.Choice.{pick}
 use Rattle.sizes.specs.declared.Size.{Size}
 use Rattle.sizes.specs.Sizes.{sep}
-use Rattle.sizes.proofs.Either.{either}
 use Rattle.block.specs.declared.Flags.{Flags}
 use Rattle.block.specs.Content.{feeds}
 use Rattle.block.specs.Block.{block, tall, wide}
@@ -75,13 +74,6 @@ module _ (o : List ℕ) (x : List (List ℕ)) where
   unfolding printed
   printed-whole h = rw (le-ltb (length o) (length (feeds x)) h)
 
-  no-bytes : (l : List ℕ) → length l ≡ 0 → l ++ drop (length l) o ≡ o
-  no-bytes [] e = refl
-  no-bytes (b ∷ l) e = absurd (omega arith)
-
-  pub printed-none : length (feeds x) ≡ 0 → printed o x ≡ o
-  printed-none e = printed-whole (omega arith) ∙ no-bytes (feeds x) e
-
 -- ---- what `print_block` hands on
 
 module _ (s : Settings) (t : List ℕ) (n z : Size) (f : Flags) (h v : List ℕ) (p : Printable s t n z h v) (m : ℕ) (me : m ≡ blockBytes s z f) where
@@ -91,25 +83,20 @@ module _ (s : Settings) (t : List ℕ) (n z : Size) (f : Flags) (h v : List ℕ)
   pub bytes-are : length (feeds lines) ≡ m
   bytes-are = block-bytes s (leafWith t z f h v) (rw (p .natural) at (p .fits)) ∙ sym me
 
-  some-width : (m ≡ 0 → ⊥) → 0 < z .width
+  bytes-is : m ≡ tall s z f * (wide s z f + 1) - 1
   unfolding blockBytes
-  some-width h = either 1 (z .width) (λ k. k) (λ k. absurd (h (me ∙ rw (eq-eqb (z .width) 0 (omega arith)))))
+  bytes-is = me
 
-  bytes-is : (m ≡ 0 → ⊥) → m ≡ tall s z f * (wide s z f + 1) - 1
-  unfolding blockBytes
-  bytes-is h = let k = some-width h in me ∙ rw (ne-eqb (z .width) 0 (λ e. omega arith))
-
-  pub paintable : (len : ℕ) → (m ≡ 0 → ⊥) → m ≤ len → Paintable s t n z f h v 0 (wide s z f + 1) len
-  paintable len i l =
+  pub paintable : (len : ℕ) → m ≤ len → Paintable s t n z f h v 0 (wide s z f + 1) len
+  paintable len l =
       let w = wide-small s z f in
       let a = tall-small s z f in
       let b = bytes-fit (tall s z f) (wide s z f) (a .0) (omega (arith, a .1, p .height-small)) (omega (arith, w, p .width-small)) in
-      let e = bytes-is i in
+      let e = bytes-is in
       record {
         natural-is = p .natural;
         fits = p .fits;
         text-small = p .text-small;
-        some-width = some-width i;
         width-small = p .width-small;
         height-small = p .height-small;
         few-horizontal = p .few-h;

@@ -87,7 +87,6 @@ showAll job o (l ∷ ls) = showAll job (shows job o l) ls
 
 -- its block lies in the sheet's bytes
 pub record InSheet (s : Settings) (stride len : ℕ) (l : Placed) : Type 0 where
-  pub some : 0 < l .at .size .width
   pub apart : wide s (l .at .size) (l .at .flags) ≤ stride
   pub room : Room (l .at .line * stride + l .at .column) stride (tall s (l .at .size) (l .at .flags)) (wide s (l .at .size) (l .at .flags)) len
 
@@ -110,7 +109,7 @@ pub record Visitable (job : Job) (t : List ℕ) (n z : Size) (node : ℕ) (p : S
   pub prints : Printable (job .settings) t n z h v
   pub in-sheet : job .purpose ≡ Purpose.Sheet → InSheet (job .settings) (job .stride) len (placedOf t node p z h v)
 
--- the bytes of a block of that size: (columns + 1) × lines − 1, none for width 0
+-- the bytes of a block of that size: (columns + 1) × lines − 1
 unfoldable pub blockBytes : Settings → Size → Flags → ℕ
 unfolding tall wide
-blockBytes s z f = pick (eqb (z .width) 0) 0 (tall s z f * (wide s z f + 1) - 1)
+blockBytes s z f = tall s z f * (wide s z f + 1) - 1

@@ -82,15 +82,11 @@ fn keep(
     found
 }
 
-// The bytes of a leaf's block: its lines and the 0A between them, none for width 0.
+// The bytes of a leaf's block: its lines and the 0A between them.
 pub fn block_bytes(s: Settings, size: Size, f: Flags) -> usize
     requires { ⌜ (size .width < 65536) × (size .height < 65536) ⌝ }
     ensures { λ r. ⌜ r ≡ blockBytes s size f ⌝ }
 {
-    let w = size.width;
-    if w == 0 {
-        return 0;
-    }
     let wide = block::block_wide(s, size, f);
     let tall = block::block_tall(s, size, f);
     tall * (wide + 1) - 1
@@ -111,9 +107,6 @@ fn print_block(
     ensures { λ _. ⌜ now (out .exit) ≡ printed (now (out .entry)) (block s (leafWith (now (text .entry)) size flags (now (horizontal .entry)) (now (vertical .entry)))) ⌝ }
 {
     let n = block_bytes(s, size, flags);
-    if n == 0 {
-        return;
-    }
     if out.len() < n {
         return;
     }

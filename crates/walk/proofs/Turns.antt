@@ -29,9 +29,8 @@ use Rattle.layout.specs.Walk.{Context, Walked, alongList, besideList, child, jo
 use Rattle.layout.specs.Contexts.{spotOf, ctxOf}
 use Rattle.visit.specs.Visiting.{keptOf, Few, keepAll, showAll, Asks}
 use Rattle.walk.specs.Walking.{uncut, Plans, Looks, startOf, advanceOf, finishOf, Walks, Lists, Here, Allotted, AllottedIn, Ready, ReadyIn, walked, walkedIn}
-use Rattle.layout.proofs.Laid.{child-size}
+use Rattle.layout.proofs.Laid.{child-size, join-leaves}
 use Rattle.layout.proofs.Numbered.{child-node, none-leaves}
-use Rattle.layout.proofs.Narrow.{join-leaves}
 use Rattle.walk.proofs.Outcome.{alongW, besideW, join-along, join-beside, none-along, none-beside, childAt, children-none, children-more, few-beside, walk-few, children-few, keep-append, keep-nil, show-append, show-nil}
 use Rattle.walk.proofs.Steps.{here-of, last-is, sep-is, child-ctx, child-low, child-few, child-along, extent-is, extent-small, axis-few, along-count, beside-count, horizontal-count, vertical-count}
 

@@ -1,13 +1,13 @@
 use borrow.Author.Needs.{needs}
 use borrow.Rule.Slice.PartAt.{part-to-end}
-use mathlib.Core.Path.{_≡_, refl, sym, _∙_}
+use mathlib.Core.Path.{_≡_, sym, _∙_}
 use mathlib.Core.List.{List, _++_, append-nil}
 use Prim.Native.Nat.{ℕ, _-_, _≤_}
 use native.Mathlib.Omega.{arith}
 use lib.ListN.{length, take, drop, length-drop, drop-of-length-le}
 use Rattle.frame.proofs.Printers.{refusal}
 use Rattle.sheet.specs.Planning.{refusalOf, Framed}
-use Rattle.sheet.proofs.Printed.{Taken, sheet-refused, core-few, sheet-no, fits, framed, base-in, sheet-ready, sheet-answers}
+use Rattle.sheet.proofs.Printed.{Taken, sheet-refused, sheet-no, fits, framed, base-in, sheet-ready, sheet-answers}
 use Rattle.sheet.proofs.print_sheet.Statement.{statement}
 use Rattle.sheet.proofs.print_sheet.Tie as tie
 
@@ -28,7 +28,7 @@ taken c = record { measured = c .before .before .before .before .before .measure
 abbrev out : tie.Else2 → List ℕ
 out c = c .before .before .before .before .before .before .before .before .before .before .before .args .out .now
 
-none : (c : tie.Else2) → refusalOf (c .before .before .before .before .before .before .before .measure-tree .result .core) (c .before .before .frame-of .result) (length (out c)) ≡ 0
+none : (c : tie.Else2) → refusalOf (c .before .before .frame-of .result) (length (out c)) ≡ 0
 none c = sym (c .before .refusal-of .ensures) ∙ c .if2 .left
 
 room-for : (c : tie.Else2) {len : ℕ} → len ≡ length (out c) → Framed (c .before .before .before .before .before .before .before .measure-tree .result .settings .margin) (c .before .before .frame-of .result) len
@@ -51,7 +51,7 @@ frame-of-requires : tie.Need-frame-of-requires
 frame-of-requires c κs = search needs
 
 refusal-of-requires : tie.Need-refusal-of-requires
-refusal-of-requires c κs = core-few (taken c)
+refusal-of-requires c κs = search needs
 
 refused-requires-2 : tie.Need-refused-requires-2
 refused-requires-2 c κs = search needs

@@ -1,7 +1,6 @@
 use borrow.Author.Needs.{needs}
 use Prim.Native.Nat.{_+_, _*_, _≤_, _<_}
 use native.Mathlib.Omega.{arith}
-use borrow.Author.Tests.{eq-eqb, ne-eqb}
 use Rattle.visit.proofs.Visits.{wide-small, tall-small, bytes-fit}
 use Rattle.visit.specs.Visiting.{blockBytes}
 use Rattle.visit.proofs.block_bytes.Statement.{statement}
@@ -10,10 +9,6 @@ use Rattle.visit.proofs.block_bytes.Reads as reads
 use Rattle.visit.proofs.block_bytes.Lts as lts
 use Rattle.block.proofs.block_tall.Reads as block-tall-reads
 use Rattle.block.proofs.block_wide.Reads as block-wide-reads
-
-returns : tie.Need-returns
-unfolding blockBytes
-returns c = rw (eq-eqb _ _ (c .if1 .taken))
 
 block-wide-requires : tie.Need-block-wide-requires
 block-wide-requires c κs = search needs
@@ -24,7 +19,7 @@ block-tall-requires c κs = search needs
 -- both factors are small
 fits : (c : tie.After-block-tall) → (c .before .block-wide .result < 65538 + 1) × (1 ≤ c .block-tall .result * (c .before .block-wide .result + 1)) × (c .block-tall .result * (c .before .block-wide .result + 1) < 8589934592)
 fits c =
-    let a = c .before .before .before .args in
+    let a = c .before .before .args in
     let w = wide-small (a .s) (a .size) (a .f) in
     let h = tall-small (a .s) (a .size) (a .f) in
     let b = bytes-fit (c .block-tall .result) (c .before .block-wide .result) (rw (c .block-tall .ensures) (h .0)) (rw (c .block-tall .ensures) (omega arith)) (rw (c .before .block-wide .ensures) (omega arith)) in
@@ -39,18 +34,17 @@ mul-result c = omega (arith, fits c)
 sub-result : tie.Need-sub-result
 sub-result c = omega (arith, fits c)
 
-returns-2 : tie.Need-returns-2
+returns : tie.Need-returns
 unfolding blockBytes
-returns-2 c = rw (ne-eqb _ _ (c .before .before .if1 .left), c .block-tall .ensures, c .before .block-wide .ensures)
+returns c = rw (c .block-tall .ensures, c .before .block-wide .ensures)
 
 pub block-bytes-spec : {M : Type 1} → statement M
 block-bytes-spec =
     tie.close
     (tie.spec
-    returns
     block-wide-requires
     block-tall-requires
     add-result
     mul-result
     sub-result
-    returns-2)
+    returns)

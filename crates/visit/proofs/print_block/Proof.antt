@@ -1,5 +1,5 @@
 use mathlib.Core.Path.{sym, _∙_}
-use Rattle.visit.proofs.Visits.{bytes-are, printed-none, printed-short, printed-whole, paintable}
+use Rattle.visit.proofs.Visits.{bytes-are, printed-short, printed-whole, paintable}
 use borrow.Author.Needs.{needs}
 use Rattle.visit.proofs.print_block.Statement.{statement}
 use Rattle.visit.proofs.print_block.Tie as tie
@@ -8,21 +8,18 @@ block-bytes-requires : tie.Need-block-bytes-requires
 block-bytes-requires c κs = search needs
 
 returns : tie.Need-returns
-returns c = sym (printed-none _ _ (bytes-are _ _ _ _ _ _ _ (c .before .before .before .before .before .before .pre) _ (c .before .block-bytes .ensures) ∙ c .if1 .taken))
-
-returns-2 : tie.Need-returns-2
-returns-2 c = let e = bytes-are _ _ _ _ _ _ _ (c .before .before .before .before .before .before .before .pre) _ (c .before .before .block-bytes .ensures) in sym (printed-short _ _ (rw e (c .if2 .taken)))
+returns c = let e = bytes-are _ _ _ _ _ _ _ (c .before .before .before .before .before .before .pre) _ (c .before .block-bytes .ensures) in sym (printed-short _ _ (rw e (c .if1 .taken)))
 
 paint-joined-requires : tie.Need-paint-joined-requires
-paint-joined-requires c κs = paintable _ _ _ _ _ _ _ (c .before .before .before .before .before .before .before .before .pre) _ (c .before .before .before .block-bytes .ensures) _ (c .before .before .if1 .left) (c .before .if2 .left)
+paint-joined-requires c κs = paintable _ _ _ _ _ _ _ (c .before .before .before .before .before .before .before .pre) _ (c .before .before .block-bytes .ensures) _ (c .before .if1 .left)
 
 same-length : tie.Need-same-length
 same-length c = search needs
 
-returns-3 : tie.Need-returns-3
-returns-3 c = let k = c .before .before .paint-joined .ensures in let e = bytes-are _ _ _ _ _ _ _ (c .before .before .before .before .before .before .before .before .before .before .before .pre) _ (c .before .before .before .before .before .before .block-bytes .ensures) in k .out-is ∙ rw (k .count-is) (sym (printed-whole _ _ (rw e (c .before .before .before .before .if2 .left))))
+returns-2 : tie.Need-returns-2
+returns-2 c = let k = c .before .before .paint-joined .ensures in let e = bytes-are _ _ _ _ _ _ _ (c .before .before .before .before .before .before .before .before .before .before .pre) _ (c .before .before .before .before .before .block-bytes .ensures) in k .out-is ∙ rw (k .count-is) (sym (printed-whole _ _ (rw e (c .before .before .before .before .if1 .left))))
 
 pub print-block-spec : {M : Type 1} → statement M
 print-block-spec =
     tie.close
-    (tie.spec block-bytes-requires returns returns-2 paint-joined-requires same-length returns-3)
+    (tie.spec block-bytes-requires returns paint-joined-requires same-length returns-2)
