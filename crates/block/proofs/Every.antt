@@ -7,7 +7,7 @@ use mathlib.Core.Option.{some}
 use mathlib.Core.List.{List, [], _∷_, _++_, map, append-nil}
 use lib.ListN.{length, getD, getElem?, replicate, length-append, length-replicate, List·getD-append}
 use lib.Seq.{getD-append-add}
-use Rattle.block.specs.Every.{Every}
+use Rattle.common.specs.Every.{Every}
 use Rattle.block.specs.Content.{paired}
 
 module _ {ℓ} {A : Type ℓ} where

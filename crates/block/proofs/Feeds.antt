@@ -7,7 +7,7 @@ use lib.ListN.{length, getD, replicate, length-append, length-replicate, replica
 use lib.Seq.{sets, sets-eq, take-at, drop-at, getD-append-add}
 use Rattle.block.specs.Content.{feeds}
 use Rattle.block.specs.Paint.{pasted}
-use Rattle.block.specs.Every.{Every}
+use Rattle.common.specs.Every.{Every}
 use Rattle.block.proofs.Every.{Dims, byteAt}
 
 -- ---- their length and their places

@@ -9,7 +9,7 @@ use Rattle.sizes.proofs.Either.{either}
 use Rattle.sizes.proofs.Stores.{sets-append}
 use Rattle.block.specs.Content.{paired}
 use Rattle.block.specs.Paint.{pasted}
-use Rattle.block.specs.Every.{Every}
+use Rattle.common.specs.Every.{Every}
 use Rattle.block.proofs.Every.{Dims, byteAt}
 use Rattle.block.proofs.Stores.{sets-sets, getD-before, getD-after, getD-in}
 

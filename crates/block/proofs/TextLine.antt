@@ -11,7 +11,7 @@ use Rattle.settings.specs.declared.Settings.{Settings}
 use Rattle.settings.specs.declared.Alignment.{Alignment}
 use Rattle.sizes.specs.Text.{lines, greatest, lineLengths, textWidth, textHeight}
 use Rattle.block.specs.Block.{before, indent, textLine}
-use Rattle.block.specs.Every.{Every}
+use Rattle.common.specs.Every.{Every}
 use Rattle.block.proofs.Every.{every-image, every-map, Dims}
 
 -- ---- the indent

@@ -1,4 +1,3 @@
-pub mod Every
 pub mod Content
 pub mod Block
 pub mod Paint

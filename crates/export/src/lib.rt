@@ -10,6 +10,7 @@ ghost use mathlib.Core.Path.{_≡_};
 ghost use Rattle.numbers.specs.Words.{packed, partAfter};
 ghost use Rattle.numbers.specs.Numbers.{settingsGiven, marginGiven, sizesGiven, recordGiven};
 ghost use Rattle.numbers.specs.Places.{placeGiven, readAfter};
+ghost use Rattle.numbers.specs.Folds.{foundAfter};
 ghost use Rattle.numbers.specs.Cuts.{splits3Given, lentGiven, splitsGiven};
 ghost use Rattle.settings.specs.Reading.{priorityOf, readSettings};
 ghost use Rattle.sizes.specs.Sharing.{shareOf};
@@ -19,6 +20,7 @@ ghost use Rattle.leaf.specs.Answers.{leafRecordOf, leafPrintOf};
 ghost use Rattle.sheet.specs.Answers.{sheetOf};
 ghost use Rattle.places.specs.Places.{leafPlaceOf};
 ghost use Rattle.places.specs.Together.{findsOf};
+ghost use Rattle.fold.specs.Answers.{foldOf};
 
 #[no_mangle]
 pub extern "C" fn leg_read_settings(bytes: &[u8], out: &mut [u16]) -> u64
@@ -154,6 +156,27 @@ pub extern "C" fn leg_places(
     }
     *read = r.steps as u64;
     pack(r.number, r.count)
+}
+
+#[no_mangle]
+pub extern "C" fn leg_fold(
+    settings: &[u8],
+    tree: &[u8],
+    width: usize,
+    budget: usize,
+    columns: &mut [u16],
+    found: &mut [u64; 3],
+) -> u64
+    ensures { λ r. ⌜ r ≡ packed (foldOf (inputOf (now (settings .entry)) (now (tree .entry))) width budget (now (columns .entry)) .answer .number) (foldOf (inputOf (now (settings .entry)) (now (tree .entry))) width budget (now (columns .entry)) .answer .columns) ⌝ }
+    ensures listed { λ _. ⌜ now (columns .exit) ≡ foldOf (inputOf (now (settings .entry)) (now (tree .entry))) width budget (now (columns .entry)) .list ⌝ }
+    ensures told { λ _. ⌜ now (found .exit) ≡ foundAfter (foldOf (inputOf (now (settings .entry)) (now (tree .entry))) width budget (now (columns .entry)) .answer) (now (found .entry)) ⌝ }
+{
+    let r = fold::fold_list(settings, tree, width, budget, columns);
+    if r.number != 0 {
+        return pack(r.number, r.columns);
+    }
+    fields::put_found(r, found);
+    pack(r.number, r.columns)
 }
 
 #[no_mangle]

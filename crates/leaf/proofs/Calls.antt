@@ -13,7 +13,7 @@ use Rattle.sizes.specs.declared.Measured.{Measured}
 use Rattle.sizes.specs.Sizes.{sep, natural, Sizes, sizes, treeSizes}
 use Rattle.sizes.specs.Input.{given, inputOf}
 use Rattle.sizes.specs.Core.{coreOf, measuredOf}
-use Rattle.block.specs.Every.{Every}
+use Rattle.common.specs.Every.{Every}
 use Rattle.block.proofs.Every.{every-map}
 use Rattle.visit.specs.declared.Purpose.{Purpose}
 use Rattle.visit.specs.declared.Job.{Job}

@@ -18,7 +18,7 @@ use Rattle.sizes.proofs.Nodes.{subtrees}
 use Rattle.sizes.proofs.Limits.{read-limits, sizes-small}
 use Rattle.block.specs.Content.{feeds}
 use Rattle.block.specs.Block.{block}
-use Rattle.block.specs.Every.{Every}
+use Rattle.common.specs.Every.{Every}
 use Rattle.block.proofs.Every.{every-map}
 use Rattle.frame.specs.declared.Written.{Written}
 use Rattle.frame.specs.Frame.{frameOf, largeOf}

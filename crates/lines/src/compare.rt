@@ -1,4 +1,6 @@
-// Lent bytes before a call and after it.
+// What a call answers and writes, beside what a line wants.
+use crate::contents;
+use crate::tell;
 
 // What lent bytes are made of before a call.
 pub const MADE_OF: u8 = 35;
@@ -29,4 +31,11 @@ pub fn holds(out: &[u8], want: &[u8]) -> bool {
         i = i + 1;
     }
     true
+}
+
+// A number of the answer, shown: whether it is number `k` of the line.
+pub fn is_nth(name: &[u8], found: usize, want: &[u8], k: usize) -> bool {
+    tell::text(name);
+    tell::number(found);
+    found == contents::nth(want, k)
 }

@@ -9,3 +9,4 @@ pub mod Counts
 pub mod Split
 pub mod Record
 pub mod Places
+pub mod Folds

@@ -1,6 +1,7 @@
 // Settings, margins, sizes and leaf records as lent numbers.
 use crate::lists;
 use block::Flags;
+use fold::Folded;
 use leaf::LeafRecord;
 use places::LeafPlace;
 use settings::Alignment;
@@ -17,6 +18,7 @@ ghost use lib.Seq.{sets};
 ghost use Rattle.settings.specs.Reading.{Ranges};
 ghost use Rattle.settings.specs.Defaults.{alignmentNumber, priorityNumber};
 ghost use Rattle.numbers.specs.Numbers.{settingsNumbers, marginNumbers, choiceNumbers, coreNumbers, frontNumbers, recordNumbers, Plain};
+ghost use Rattle.numbers.specs.Folds.{foundNumbers};
 ghost use Rattle.numbers.specs.Places.{placeNumbers};
 
 fn number_of_priority(p: Priority) -> u16
@@ -160,4 +162,14 @@ pub fn put_place(p: LeafPlace, out: &mut [u16])
 {
     let three = [p.node as u16, p.line as u16, p.column as u16];
     lists::copy(&three, out, 0);
+}
+
+// The height, the tries and the greatest miss of a fold.
+pub fn put_found(r: Folded, out: &mut [u64])
+    requires { ⌜ length (now out) ≡ 3 ⌝ }
+    ensures { λ _. ⌜ now (out .exit) ≡ foundNumbers r ⌝ }
+{
+    out[0] = r.height as u64;
+    out[1] = r.tries as u64;
+    out[2] = r.miss as u64;
 }

@@ -1,15 +1,9 @@
 // Test lines about places of the printed sheet (document 02, 5 and 6).
 pub mod marks;
 
+use lines::compare::is_nth;
 use lines::contents;
 use lines::tell;
-
-// A number of the answer, shown: whether it is number `k` of the line.
-fn is_nth(name: &[u8], found: usize, want: &[u8], k: usize) -> bool {
-    tell::text(name);
-    tell::number(found);
-    found == contents::nth(want, k)
-}
 
 // The place that the first two numbers say, and its answer, which is the other four.
 pub fn place(settings: &[u8], tree: &[u8], want: &[u8]) {

@@ -15,7 +15,7 @@ use Rattle.sizes.specs.Allotting.{allottedWidth, allottedHeight}
 use Rattle.sizes.specs.Input.{Input, refused, given, inputOf}
 use Rattle.sizes.specs.Core.{naturalWidth, naturalHeight}
 use Rattle.sizes.proofs.Given.{input-refusal}
-use Rattle.block.specs.Every.{Every}
+use Rattle.common.specs.Every.{Every}
 use Rattle.frame.specs.Frame.{tooLarge}
 use Rattle.walk.specs.Walking.{Lists, listsOf}
 use Rattle.walk.proofs.Held.{lists-held}

@@ -16,7 +16,7 @@ use Rattle.sizes.specs.declared.Measured.{Measured}
 use Rattle.sizes.specs.Input.{Input, refused, given, inputOf}
 use Rattle.sizes.specs.Core.{coreOf, measuredOf}
 use Rattle.block.specs.Paint.{Room, pasted}
-use Rattle.block.specs.Every.{Every}
+use Rattle.common.specs.Every.{Every}
 use Rattle.block.proofs.Every.{every-map, every-and}
 use Rattle.frame.specs.declared.Frame.{Frame}
 use Rattle.visit.specs.declared.Purpose.{Purpose}

@@ -61,7 +61,7 @@ leaf-le s down t = omega (arith, height-le t)
 
 -- ---- a group, in either direction
 
-greatest-le : (ns : List ℕ) → greatest ns ≤ total ns
+pub greatest-le : (ns : List ℕ) → greatest ns ≤ total ns
 unfolding greatest total
 greatest-le [] = omega arith
 greatest-le (n ∷ ns) = omega (arith, greatest-le ns)

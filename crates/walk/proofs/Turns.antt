@@ -16,7 +16,7 @@ use Rattle.tree.proofs.Fronts.{is-whole, nodes-low}
 use Rattle.splits.specs.Splits.{Cut, shortSplits3}
 use Rattle.splits.proofs.Lists.{cut-few}
 use Rattle.sizes.specs.Sizes.{sep, natural, allot, spareOf, childSize}
-use Rattle.block.specs.Every.{Every}
+use Rattle.common.specs.Every.{Every}
 use Rattle.block.proofs.Every.{every-front, every-back}
 use Rattle.layout.specs.declared.Spot.{Spot}
 use Rattle.layout.specs.declared.Ctx.{Ctx}

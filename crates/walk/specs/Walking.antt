@@ -14,7 +14,7 @@ use Rattle.sizes.specs.declared.Size.{Size}
 use Rattle.sizes.specs.declared.Core.{Core}
 use Rattle.sizes.specs.Sizes.{natural, allot, spareOf, childSize}
 use Rattle.sizes.specs.Collecting.{Small, sizeAt}
-use Rattle.block.specs.Every.{Every}
+use Rattle.common.specs.Every.{Every}
 use Rattle.layout.specs.declared.Spot.{Spot}
 use Rattle.layout.specs.declared.Ctx.{Ctx}
 use Rattle.visit.specs.declared.Job.{Job}

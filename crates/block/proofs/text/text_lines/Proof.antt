@@ -8,7 +8,7 @@ use Rattle.sizes.specs.Text.{lines, textHeight}
 use Rattle.sizes.proofs.Lines.{rest, rest-none, rest-next, line-from, line-in}
 use Rattle.block.specs.Block.{textLine}
 use Rattle.block.specs.Paint.{pasted}
-use Rattle.block.specs.Every.{Every}
+use Rattle.common.specs.Every.{Every}
 use Rattle.block.proofs.TextLine.{lines-width, lines-height}
 use Rattle.block.proofs.Left.{Left, left-start, left-step, left-done, left-room, left-next}
 use Rattle.block.proofs.text.text_lines.Statement.{statement}
