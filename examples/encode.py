@@ -59,12 +59,15 @@ FLIGHT = column(
     "Checked by: ______________________",
 )
 
+LEGS = ["Home pad", "Dam, west end", "Spillway", "Dam, east end", "Jetty", "Pump house", "North shore", "Mast\nkeep 50 m clear", "Reed bed", "Gauge\nread twice", "South shore", "Home pad"]
+
 EXAMPLES = {
     "flight": (settings(width=LIST), FLIGHT),
     "centred": (settings(marks=b"=_()hv/\\T[]*<>#", padding=(2, 2, 1, 1), fills=b".. .", horizontal=1, vertical=1, line_mode=1, width=LIST), FLIGHT),
     "binder": (settings(width=LIST, margin=(8, 0, 1, 0), margin_fills=b"  = "), FLIGHT),
     "remarks": (settings(), column("abcdefghijk", row("a", "b", "c"))),
     "figure2": (settings(marks=b"-_()hv123456789", width=LIST), column("abcdef", row("a", "b"))),
+    "list": (settings(), column(*(f"{n} {leg}" for n, leg in enumerate(LEGS, 1)))),
     "blank": (settings(padding=(0, 0, 0, 0), width=LIST), row("leg 1", "")),
     "refused": (settings(), row(*(f"leg {n}" for n in range(1, 47)))),
 }

@@ -9,13 +9,14 @@
  * one 2, 5, 4, then 3. A refusal writes to none of the lent lists; otherwise items past those said to be written stay as they were. The
  * functions keep nothing between calls and allocate nothing; on the stack they took up to 77 kilobytes (measured, at depth 16).
  *
- *   1   settings not of the form or ranges                    8   a lent list is shorter than needed
- *   2   tree: too long, cut short, unknown tag ..             9   the number names no leaf
- *   3   forbidden text byte                                  10   split list count over 512
- *   4   node 513 met                                         11   share: n = 0 or index >= n
- *   5   depth 17 met                                         12   a line or column outside the printed sheet
- *   6   over 400 columns or 160 lines, the margin included   13   a place in the margin
- *   7   never occurs any more; the number is kept free       14   over 256 places
+ *   1   settings not of the form or ranges                    9   the number names no leaf
+ *   2   tree: too long, cut short, unknown tag ..            10   split list count over 512
+ *   3   forbidden text byte                                  11   share: n = 0 or index >= n
+ *   4   node 513 met                                         12   a line or column outside the printed sheet
+ *   5   depth 17 met                                         13   a place in the margin
+ *   6   over 400 columns or 160 lines, the margin included   14   over 256 places
+ *   7   never occurs any more; the number is kept free       15   the tree is no Column of 1 to 200 Cells
+ *   8   a lent list is shorter than needed                   16   a cell is wider than the given width
  *
  * Settings and trees are bytes (hex below). docs/FORMS.md has them with pictures, examples and the meaning of each; examples/build.c builds a tree.
  *
@@ -58,6 +59,7 @@ extern "C" {
 #define LEG_CUT (3 + 2 * LEG_LIST)
 #define LEG_LENT_CUT (4 + LEG_LIST)
 #define LEG_PLACE 3
+#define LEG_FOUND 3
 
 /* leg_places takes up to LEG_PLACES places, each a number that LEG_AT makes of a line and a column, and writes as many answers, of which LEG_NODE, LEG_LINE and
  * LEG_COLUMN are the parts. A line or column past 32 bits counts as the greatest of 32 bits: both are outside every sheet. */
@@ -67,6 +69,9 @@ extern "C" {
 #define LEG_NODE(answer) ((size_t)((answer) >> 32))
 #define LEG_LINE(answer) ((size_t)((answer) >> 16 & 0xFFFFu))
 #define LEG_COLUMN(answer) ((size_t)((answer) & 0xFFFFu))
+
+/* leg_fold takes lists of up to LEG_CELLS Cells, and writes no more Columns. */
+#define LEG_CELLS 200
 
 /* Reads settings of 31 or 42 bytes. 1, 8. Writes the 28 numbers after the first tag and length: 15 marks; padding left, right, top, bottom;
  * their fills; horizontal and vertical alignment; line mode; width and height priority. Counts 28. */
@@ -104,6 +109,14 @@ uint64_t leg_place(const uint8_t *settings, size_t settings_len, const uint8_t *
  * 13 of the first place that has one; 8 last, where `answers` has fewer numbers than `places`. Writes an answer for each place, in the order of the places, and to
  * `read` how many elements the walk read: the tree's nodes, even for no places. Counts the answers. */
 uint64_t leg_places(const uint8_t *settings, size_t settings_len, const uint8_t *tree, size_t tree_len, const uint64_t *places, size_t places_len, uint64_t *answers, size_t answers_len, uint64_t *read);
+
+/* Folds a long list, a Column of 1 to LEG_CELLS Cells, in order, into Columns of one Row that is no wider inside than `width`: the Columns' widths and 1 between
+ * neighbours, the sheet's edges and margin not counted. A height t is tried by putting cells in a Column while its height, with 1 between them, stays within t. One
+ * Column is the beginning; then t is one lower each time, down to the tallest cell, with `budget` tries at the most. 1 to 5, 15, 16 (by the cell's width with its
+ * padding); 8 last, where `columns` has fewer numbers than the answer has Columns. Writes how many cells each Column has at the least t that fitted; and to `found`
+ * LEG_FOUND numbers: that t, the tries made, and the most by which t can lie above the least that fits: 0 if every t was tried, else t less the tallest cell's height.
+ * Counts the Columns. */
+uint64_t leg_fold(const uint8_t *settings, size_t settings_len, const uint8_t *tree, size_t tree_len, size_t width, size_t budget, uint16_t *columns, size_t columns_len, uint64_t *found);
 
 /* Cuts the list of the first `count` of `pieces` at `w`; numbers past them are not looked at. 10; 8 where `pieces` has under `count` numbers or `out` under
  * LEG_CUT. Writes yes or no (1 or 0); the cut's pair: how many pieces it took, and the length left of the first piece not taken, 0 if there is none or it

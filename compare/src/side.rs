@@ -1,10 +1,10 @@
 //! The library as a side of the comparison. Its lists are lent full of canaries, with some numbers more than needed and with one less (`lent`), so that
 //! whatever a refusal writes, or a result past its end, shows. What was written is read by the library's own records.
 
-use leg_sheet::calls::{self, CUT, LENT_CUT, LIST, MARGIN, PIECES, SETTINGS, SIZES};
+use leg_sheet::calls::{self, CUT, FOUND, LENT_CUT, LIST, MARGIN, PIECES, SETTINGS, SIZES};
 use leg_sheet::{List, Place};
 use oracle::calls::{
-    Calls, Counted, CutParts, CutPositions, LeafPlace, LeafRecord, Marked, ReadMargin,
+    Calls, Counted, CutParts, CutPositions, Folded, LeafPlace, LeafRecord, Marked, ReadMargin,
     ReadSettings, Shared, SizeRecord, SplitList,
 };
 use oracle::form::{encode_record, encode_settings, CutPair, Flags, Margin, Owner, Settings};
@@ -207,6 +207,35 @@ impl Calls for Library {
             number: sound(number, is_kept),
             count,
             read: if number == 0 { read as usize } else { 0 },
+        }
+    }
+
+    /// Three numbers more stand behind the entries lent, and behind those found, and must stay; so must all of them beside a refusal.
+    fn fold(
+        &mut self,
+        settings: &[u8],
+        tree: &[u8],
+        width: usize,
+        budget: usize,
+        columns: &mut [u16],
+    ) -> Folded {
+        let length = columns.len();
+        let mut lent = Lent::new(columns, length + MORE);
+        let mut found = Lent::<u64>::new(&[], FOUND + MORE);
+        let list = &mut lent.list[..length];
+        let three = found.list.first_chunk_mut().expect("three numbers");
+        let answer = calls::fold(settings, tree, width, budget, list, three);
+        columns.copy_from_slice(list);
+        let Counted { number, count } = counted(answer);
+        let written = if number == 0 { FOUND } else { 0 };
+        let is_kept = lent.kept(length) && found.kept(written);
+        let folded = leg_sheet::Folded::from_numbers(columns, found.written(number));
+        Folded {
+            number: sound(number, is_kept),
+            count,
+            height: folded.height,
+            tries: folded.tries,
+            miss: folded.miss,
         }
     }
 

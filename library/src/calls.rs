@@ -38,6 +38,10 @@ pub const LENT_CUT: usize = 4 + LIST;
 pub const PLACE: usize = 3;
 /// The places of one call at the most.
 pub const PLACES: usize = 256;
+/// The Cells of a list to fold at the most, and so its Columns.
+pub const CELLS: usize = 200;
+/// What is found with a fold: the height, the tries made, the greatest miss.
+pub const FOUND: usize = 3;
 /// The largest sheet or block: 160 lines of 400 columns, the margin included, with a line feed between them.
 pub const SHEET: usize = 401 * 160 - 1;
 /// The nodes of a tree at the most.
@@ -216,6 +220,35 @@ pub fn places(
             answers.as_mut_ptr(),
             answers.len(),
             read,
+        )
+    })
+}
+
+/// Folds a list, a Column of 1 to [`CELLS`] Cells, into Columns of one Row that is no wider inside than `width`, with `budget` tries at the most: writes how many
+/// cells each Column has, and to `found` the [`FOUND`] numbers. Counts the Columns. [`Folded`](crate::Folded) says what is found.
+///
+/// # Errors
+/// 1 to 5, 15, 16; 8 where `columns` has fewer numbers than there are Columns.
+pub fn fold(
+    settings: &[u8],
+    tree: &[u8],
+    width: usize,
+    budget: usize,
+    columns: &mut [u16],
+    found: &mut [u64; FOUND],
+) -> Result<usize, Refusal> {
+    // SAFETY: pointers and lengths of slices, and a pointer to three numbers, that are borrowed here.
+    answer(unsafe {
+        raw::leg_fold(
+            settings.as_ptr(),
+            settings.len(),
+            tree.as_ptr(),
+            tree.len(),
+            width,
+            budget,
+            columns.as_mut_ptr(),
+            columns.len(),
+            found.as_mut_ptr(),
         )
     })
 }

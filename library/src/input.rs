@@ -1,7 +1,7 @@
 //! Settings and tree together, as bytes.
 
 use crate::calls;
-use crate::records::{LeafPlace, LeafRecord, Marked, Place, SizeRecord};
+use crate::records::{Folded, LeafPlace, LeafRecord, Marked, Place, SizeRecord};
 use crate::refusal::Refusal;
 use crate::tree;
 
@@ -108,6 +108,17 @@ impl<'a> Input<'a> {
             answers: written.map(LeafPlace::from_number).collect(),
             read: read as usize,
         })
+    }
+
+    /// The list folded into Columns of one Row that is no wider inside than `width`, with `budget` tries at the most.
+    ///
+    /// # Errors
+    /// 1 to 5, 15, 16.
+    pub fn fold(self, width: usize, budget: usize) -> Result<Folded, Refusal> {
+        let (mut columns, mut found) = ([0; calls::CELLS], [0; calls::FOUND]);
+        let (settings, tree) = (self.settings, self.tree);
+        let count = calls::fold(settings, tree, width, budget, &mut columns, &mut found)?;
+        Ok(Folded::from_numbers(&columns[..count], found))
     }
 }
 

@@ -36,14 +36,14 @@ mod values;
 
 pub use input::Input;
 pub use records::{
-    next_sibling, CutAnswer, CutPair, CutParts, Flags, LeafPlace, LeafRecord, List, Marked, Place,
-    Positions, ShortParts, SizeRecord, SplitList,
+    next_sibling, CutAnswer, CutPair, CutParts, Flags, Folded, LeafPlace, LeafRecord, List, Marked,
+    Place, Positions, ShortParts, SizeRecord, SplitList,
 };
 pub use refusal::Refusal;
 pub use settings::{Alignment, Priority, Settings, Sides};
 pub use tree::Tree;
 pub use values::{
-    leaf_record, place, places, print_leaf, print_sheet, share, short_splits, short_splits3,
+    fold, leaf_record, place, places, print_leaf, print_sheet, share, short_splits, short_splits3,
     short_splits3_in_place, sizes,
 };
 

@@ -78,6 +78,18 @@ extern "C" {
         read: *mut u64,
     ) -> u64;
 
+    pub fn leg_fold(
+        settings: *const u8,
+        settings_len: usize,
+        tree: *const u8,
+        tree_len: usize,
+        width: usize,
+        budget: usize,
+        columns: *mut u16,
+        columns_len: usize,
+        found: *mut u64,
+    ) -> u64;
+
     pub fn leg_short_splits3(
         pieces: *const u16,
         pieces_len: usize,

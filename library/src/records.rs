@@ -3,7 +3,7 @@
 use std::fmt;
 use std::ops::Deref;
 
-use crate::calls::{CUT, LENT_CUT, LIST, PIECES, PLACE, RECORD, SIZES};
+use crate::calls::{CUT, FOUND, LENT_CUT, LIST, PIECES, PLACE, RECORD, SIZES};
 
 /// A node's size, and how many nodes are below it.
 #[derive(Debug, Clone, Copy, Default, PartialEq, Eq, Hash)]
@@ -253,6 +253,36 @@ pub struct Marked {
     pub answers: Vec<LeafPlace>,
     /// The elements that the one walk over the tree read: as many as it has nodes.
     pub read: usize,
+}
+
+/// A list folded into Columns of one Row.
+///
+/// A height t is tried by putting cells in a Column while its height, with the lines between them, stays within t. One Column is the beginning; then t is one lower
+/// each time, down to the tallest cell or to the end of the budget.
+#[derive(Debug, Clone, PartialEq, Eq, Hash)]
+pub struct Folded {
+    /// How many cells each Column has, in order.
+    pub columns: Vec<usize>,
+    /// The least height t that fitted.
+    pub height: usize,
+    /// The tries made.
+    pub tries: usize,
+    /// The most by which the height can lie above the least that fits at all; 0 where every height was tried.
+    pub miss: usize,
+}
+
+impl Folded {
+    /// What [`calls::fold`](crate::calls::fold) has written: the Columns that it counts, and what was found.
+    #[must_use]
+    pub fn from_numbers(columns: &[u16], found: [u64; FOUND]) -> Folded {
+        let [height, tries, miss] = found.map(|number| number as usize);
+        Folded {
+            columns: columns.iter().map(|&cells| cells.into()).collect(),
+            height,
+            tries,
+            miss,
+        }
+    }
 }
 
 /// What `short_splits3` answers.

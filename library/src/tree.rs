@@ -52,6 +52,32 @@ impl Tree {
         Tree::Column(children.into_iter().map(Into::into).collect())
     }
 
+    /// A list folded, as [`fold`](crate::fold) says how: the Row of Columns that have so many of this Column's children each, in order. None where it is no Column, or
+    /// the counts are not those of all its children.
+    ///
+    /// ```
+    /// use leg_sheet::Tree;
+    ///
+    /// let list = Tree::column(["a", "b", "c"]);
+    /// let row = Tree::row([Tree::column(["a", "b"]), Tree::column(["c"])]);
+    /// assert_eq!(list.folded(&[2, 1]), Some(row));
+    /// assert_eq!(list.folded(&[2, 2]), None);
+    /// ```
+    #[must_use]
+    pub fn folded(&self, columns: &[usize]) -> Option<Tree> {
+        let Tree::Column(children) = self else {
+            return None;
+        };
+        let mut rest = &children[..];
+        let mut row = Vec::new();
+        for &count in columns {
+            let (column, after) = rest.split_at_checked(count)?;
+            row.push(Tree::Column(column.to_vec()));
+            rest = after;
+        }
+        rest.is_empty().then_some(Tree::Row(row))
+    }
+
     /// The tree's bytes, which every call on bytes accepts.
     ///
     /// # Errors

@@ -3,7 +3,7 @@
 use crate::calls::{self, CUT, LENT_CUT, LIST};
 use crate::input::Input;
 use crate::records::{
-    CutAnswer, CutParts, LeafPlace, LeafRecord, List, Marked, Place, ShortParts, SizeRecord,
+    CutAnswer, CutParts, Folded, LeafPlace, LeafRecord, List, Marked, Place, ShortParts, SizeRecord,
 };
 use crate::refusal::Refusal;
 use crate::settings::{Priority, Settings};
@@ -140,6 +140,41 @@ pub fn place(
 /// 2 to 6, 14, then the 12 or 13 of the first place that has one.
 pub fn places(settings: &Settings, tree: &Tree, places: &[Place]) -> Result<Marked, Refusal> {
     on_bytes(settings, tree, |input| input.places(places))
+}
+
+/// A long list, a Column of 1 to 200 Cells, folded into Columns of one Row that is no wider inside than `width`: how many cells each has at the least height that was
+/// tried and fits, with `budget` tries at the most. The sheet's edges and its margin are not counted. [`Tree::folded`] makes the Row.
+///
+/// ```
+/// use leg_sheet::{fold, print_sheet, Settings, Tree};
+///
+/// let settings = Settings::default();
+/// let list = Tree::column(["a", "b", "c", "d"]);
+/// let folded = fold(&settings, &list, 7, usize::MAX)?;
+/// assert_eq!((&folded.columns[..], folded.height), (&[2, 2][..], 3));
+/// assert_eq!((folded.tries, folded.miss), (6, 0));
+///
+/// let row = list.folded(&folded.columns).expect("the list's own counts");
+/// assert_eq!(
+///     print_sheet(&settings, &row)?,
+///     "+---+---+\n\
+///      | a | c |\n\
+///      +---+---+\n\
+///      | b | d |\n\
+///      +---+---+"
+/// );
+/// # Ok::<(), leg_sheet::Refusal>(())
+/// ```
+///
+/// # Errors
+/// 2 to 5, 15, 16.
+pub fn fold(
+    settings: &Settings,
+    tree: &Tree,
+    width: usize,
+    budget: usize,
+) -> Result<Folded, Refusal> {
+    on_bytes(settings, tree, |input| input.fold(width, budget))
 }
 
 /// Cuts a list of pieces at a width, a line between neighbours.

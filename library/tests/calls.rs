@@ -1,9 +1,10 @@
 //! The calls on lent buffers by themselves: figure F1 of document 01, refusals, what they leave of a lent output, where the pair of a cut stands, the leaves of
-//! places, and priorities that no settings have.
+//! places, a list folded, and priorities that no settings have.
 
 use leg_sheet::calls::{
-    leaf_record, place, places, print_sheet, read_margin, read_settings, share, short_splits3,
-    short_splits3_lent, sizes, CUT, LENT_CUT, LIST, MARGIN, PLACE, RECORD, SETTINGS, SIZES,
+    fold, leaf_record, place, places, print_sheet, read_margin, read_settings, share,
+    short_splits3, short_splits3_lent, sizes, CELLS, CUT, FOUND, LENT_CUT, LIST, MARGIN, PLACE,
+    RECORD, SETTINGS, SIZES,
 };
 use leg_sheet::{Place, Refusal};
 
@@ -182,6 +183,46 @@ fn a_place_is_one_number() {
     assert_eq!(number(1 << 32, 1), (MOST << 32) + 1);
     assert_eq!(number(1, (1 << 32) + 1), (1 << 32) + MOST);
     assert_eq!(number(usize::MAX, usize::MAX), u64::MAX);
+}
+
+/// Column[`a`, `b`, `c`, `d`, `e`]: the cells of each Column, then height, tries and miss; what is past the Columns stays, and a refusal leaves all. 8 comes last.
+#[test]
+fn a_list_is_folded() {
+    let list = b"\x03\x00\x14\x01\x00\x01a\x01\x00\x01b\x01\x00\x01c\x01\x00\x01d\x01\x00\x01e";
+    let read = |settings: &[u8], tree: &[u8], width: usize, budget: usize, length: usize| {
+        let (mut columns, mut found) = ([0xA5A5; 4], [0xA5A5; FOUND]);
+        let lent = &mut columns[..length];
+        let answer = fold(settings, tree, width, budget, lent, &mut found);
+        (answer.map_err(Refusal::number), columns, found)
+    };
+    let refused = |number: u8| (Err(number), [0xA5A5; 4], [0xA5A5; FOUND]);
+    let three = (Ok(3), [2, 2, 1, 0xA5A5], [3, 8, 0]);
+    assert_eq!(read(D, list, 11, 99, 4), three);
+    assert_eq!(read(D, list, 11, usize::MAX, 3), three);
+    let early = (Ok(2), [3, 2, 0xA5A5, 0xA5A5], [6, 3, 5]);
+    assert_eq!(read(D, list, 11, 3, 4), early);
+    let one = (Ok(1), [5, 0xA5A5, 0xA5A5, 0xA5A5], [9, 0, 8]);
+    assert_eq!(read(D, list, usize::MAX, 0, 1), one);
+
+    assert_eq!(read(D, list, 11, 99, 2), refused(8));
+    assert_eq!(read(D, list, 3, 0, 0), refused(8));
+    assert_eq!(read(D, list, 2, 0, 0), refused(16));
+    assert_eq!(read(D, AB, 0, 0, 0), refused(15));
+    assert_eq!(read(D, &list[..22], 0, 0, 0), refused(2));
+    assert_eq!(read(&D[..30], b"", 0, 0, 0), refused(1));
+}
+
+/// As many Cells as a list may have, each in a Column of its own, and one more.
+#[test]
+fn a_list_has_200_cells() {
+    let list = |head: &[u8], cells: usize| [head, &b"\x01\x00\x00".repeat(cells)].concat();
+    let (mut columns, mut found) = ([0; CELLS], [0; FOUND]);
+    let most = list(b"\x03\x02\x58", 200);
+    let more = list(b"\x03\x02\x5B", 201);
+    assert_eq!(fold(D, &most, 599, 398, &mut columns, &mut found), Ok(200));
+    assert_eq!((columns, found), ([1; CELLS], [1, 398, 0]));
+    let refused = fold(D, &more, 599, 398, &mut columns, &mut found);
+    assert_eq!(refused, Err(Refusal::NotAList));
 }
 
 /// The header: 'Priority 0 is First, 1 Last, 2 and every other number List.'

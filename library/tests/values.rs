@@ -1,9 +1,9 @@
 //! Settings and trees as values, and what the calls on them answer.
 
 use leg_sheet::{
-    leaf_record, next_sibling, place, places, print_leaf, print_sheet, share, short_splits,
-    short_splits3, short_splits3_in_place, sizes, Alignment, CutPair, Input, LeafPlace, Marked,
-    Place, Priority, Refusal, Settings, Sides, SizeRecord, Tree,
+    fold, leaf_record, next_sibling, place, places, print_leaf, print_sheet, share, short_splits,
+    short_splits3, short_splits3_in_place, sizes, Alignment, CutPair, Folded, Input, LeafPlace,
+    Marked, Place, Priority, Refusal, Settings, Sides, SizeRecord, Tree,
 };
 
 /// The record of the defaults.
@@ -405,6 +405,105 @@ fn places_are_answered_as_alone() {
     assert_eq!(Ok(marked.answers), alone);
 }
 
+/// The cells of each Column, then height, tries and miss; or the number.
+fn folded(list: &Tree, width: usize, budget: usize) -> Result<(Vec<usize>, [usize; 3]), u8> {
+    let folded = fold(&Settings::default(), list, width, budget);
+    folded
+        .map(
+            |Folded {
+                 columns,
+                 height,
+                 tries,
+                 miss,
+             }| (columns, [height, tries, miss]),
+        )
+        .map_err(Refusal::number)
+}
+
+/// Document 02, 9: the least height that fitted among those tried; the tries and the miss.
+#[test]
+fn lists_are_folded() {
+    let five = Tree::column(["a", "b", "c", "d", "e"]);
+    for (width, budget, columns, found) in [
+        (3, 0, vec![5], [9, 0, 8]),
+        (3, 99, vec![5], [9, 8, 0]),
+        (7, 99, vec![3, 2], [5, 8, 0]),
+        (18, 99, vec![2, 2, 1], [3, 8, 0]),
+        (19, 3, vec![3, 2], [6, 3, 5]),
+        (19, 7, vec![1; 5], [2, 7, 1]),
+        (19, 8, vec![1; 5], [1, 8, 0]),
+        (usize::MAX, usize::MAX, vec![1; 5], [1, 8, 0]),
+    ] {
+        assert_eq!(folded(&five, width, budget), Ok((columns, found)));
+    }
+
+    // A lower height fits where a higher one does not.
+    let wide = "x".repeat(9);
+    let uneven = Tree::column(["x", "x", &wide, &wide, "x", "x"]);
+    assert_eq!(folded(&uneven, 21, 6), Ok((vec![4, 2], [7, 6, 6])));
+    assert_eq!(folded(&uneven, 21, 7), Ok((vec![2; 3], [4, 7, 3])));
+    assert_eq!(folded(&uneven, 21, 9), Ok((vec![2; 3], [3, 9, 2])));
+    assert_eq!(folded(&uneven, 21, 10), Ok((vec![2; 3], [3, 10, 0])));
+
+    let lines = Tree::column(["a\nb\nc", "d", "e", "f\ng"]);
+    assert_eq!(folded(&lines, 7, 1), Ok((vec![3, 1], [9, 1, 6])));
+    assert_eq!(folded(&lines, 7, 99), Ok((vec![2, 2], [5, 7, 0])));
+    assert_eq!(folded(&lines, 11, 99), Ok((vec![1, 2, 1], [3, 7, 0])));
+
+    let one = Tree::column(["a"]);
+    assert_eq!(folded(&one, 3, 5), Ok((vec![1], [1, 0, 0])));
+    let long = Tree::column(["a".repeat(500)]);
+    assert_eq!(folded(&long, 502, 0), Ok((vec![1], [1, 0, 0])));
+}
+
+/// Document 02, 9: 15 for another kind of root or child, no cells or over 200; then 16.
+#[test]
+fn other_trees_are_not_folded() {
+    let row = Tree::row(["a"]);
+    let nested = Tree::column(["a".into(), Tree::Row(vec![])]);
+    for tree in ["a".into(), row, nested, Tree::Column(vec![]), figure_2()] {
+        assert_eq!(folded(&tree, 0, 0), Err(15));
+    }
+    assert_eq!(folded(&Tree::column([""; 201]), 0, 0), Err(15));
+    assert_eq!(folded(&Tree::column([""; 200]), 1, 0), Err(16));
+    assert_eq!(
+        folded(&Tree::column([""; 200]), 2, 0).map(|f| f.0),
+        Ok(vec![200])
+    );
+    assert_eq!(folded(&Tree::column(["\t"]), 0, 0), Err(3));
+}
+
+/// The Row of a fold is as wide inside as the fold had room for, no Column is higher than it says, and all cells stand in it in order.
+#[test]
+fn the_row_of_a_fold() {
+    let settings = Settings::default();
+    let texts: Vec<String> = (0..40)
+        .map(|n| "x".repeat(n * 7 % 11) + &"\n".repeat(n % 3))
+        .collect();
+    let list = Tree::column(texts);
+    for width in 12..100 {
+        let folded = fold(&settings, &list, width, usize::MAX).expect("a list");
+        let row = list.folded(&folded.columns).expect("its own counts");
+        let sizes = sizes(&settings, &row).expect("sizes");
+        assert!(usize::from(sizes[0].natural_width) <= width);
+        assert!(usize::from(sizes[0].natural_height) <= folded.height);
+        let Tree::Row(columns) = row else {
+            panic!("no Row");
+        };
+        let cells = columns.into_iter().flat_map(|column| match column {
+            Tree::Column(cells) => cells,
+            _ => panic!("no Column"),
+        });
+        assert_eq!(Tree::Column(cells.collect()), list);
+    }
+
+    assert_eq!(list.folded(&[20, 19]), None);
+    assert_eq!(list.folded(&[20, 21]), None);
+    assert_eq!(list.folded(&[usize::MAX, 1]), None);
+    assert_eq!(Tree::row(["a"]).folded(&[1]), None);
+    assert_eq!(Tree::from("a").folded(&[]), None);
+}
+
 /// Document 02, 8: a zero-wide leaf prints its marks around no columns.
 #[test]
 fn a_remark_left_blank() {
@@ -493,6 +592,8 @@ fn every_call_is_refused() {
     let many = [Place::default(); 257];
     assert_eq!(places(&settings, &bad, &many), Err(Refusal::BadText));
     assert_eq!(places(&settings, &wide, &many), Err(Refusal::TooLarge));
+    assert_eq!(fold(&settings, &bad, 9, 9), Err(Refusal::BadText));
+    assert_eq!(fold(&settings, &group, 9, 9), Err(Refusal::NotAList));
     assert_eq!(share(7, 0, Priority::List, 0), Err(Refusal::NoChild));
     assert_eq!(short_splits3(&[1; 513], 0), Err(Refusal::TooManyPieces));
     assert_eq!(short_splits(&[1; 513], 0), Err(Refusal::TooManyPieces));

@@ -107,6 +107,16 @@ pub struct Marked {
     pub read: usize,
 }
 
+/// A number, the count of Columns written, and what was found with them: the height, the tries made, the greatest miss.
+#[derive(Debug, Clone, Copy, Default, PartialEq, Eq)]
+pub struct Folded {
+    pub number: u8,
+    pub count: usize,
+    pub height: usize,
+    pub tries: usize,
+    pub miss: usize,
+}
+
 /// What `short_splits3` answers.
 #[derive(Debug, Clone, PartialEq, Eq)]
 pub struct CutParts {
@@ -176,6 +186,16 @@ pub trait Calls {
         places: &[(usize, usize)],
         answers: &mut [Owner],
     ) -> Marked;
+
+    /// A list folded into Columns of one Row; writes the number of cells in each.
+    fn fold(
+        &mut self,
+        settings: &[u8],
+        tree: &[u8],
+        width: usize,
+        budget: usize,
+        columns: &mut [u16],
+    ) -> Folded;
 
     fn short_splits3(&mut self, list: &SplitList, width: u16) -> CutParts;
 

@@ -4,7 +4,10 @@ use std::collections::BTreeMap;
 use std::fmt;
 
 use crate::calls::{Calls, SizeRecord, SplitList};
-use crate::form::{encode_margin, encode_settings, encode_tree, Margin, Owner, Settings, Tree};
+use crate::folding;
+use crate::form::{
+    encode_margin, encode_settings, encode_tree, Fold, Margin, Owner, Settings, Tree,
+};
 use crate::gen::{self, Case, Margins, Rng};
 use crate::judge;
 
@@ -48,7 +51,7 @@ impl Counts {
 }
 
 /// The numbers that each call can give, by the documents' tables.
-pub const NUMBERS: [(&str, &[u8]); 13] = [
+pub const NUMBERS: [(&str, &[u8]); 14] = [
     ("settings", &[0, 1]),
     ("margin", &[0, 1]),
     ("tree", &[0, 2, 3, 4, 5]),
@@ -58,6 +61,7 @@ pub const NUMBERS: [(&str, &[u8]); 13] = [
     ("sheet", &[0, 1, 2, 3, 4, 5, 6, 8]),
     ("place", &[0, 1, 2, 3, 4, 5, 6, 12, 13]),
     ("places", &[0, 1, 2, 3, 4, 5, 6, 8, 12, 13, 14]),
+    ("fold", &[0, 1, 2, 3, 4, 5, 8, 15, 16]),
     ("short_splits3", &[0, 10]),
     ("short_splits3, lent", &[0, 10]),
     ("short_splits", &[0, 10]),
@@ -91,7 +95,7 @@ pub type Part = (
     fn(&mut Comparison, &mut Rng, usize) -> Result<(), Difference>,
 );
 
-pub const PARTS: [Part; 13] = [
+pub const PARTS: [Part; 16] = [
     ("settings records", |c, _, _| c.settings_records()),
     ("short and faulty trees", |c, _, _| c.faulty_trees()),
     ("all trees of up to 5 nodes", |c, _, _| {
@@ -116,6 +120,13 @@ pub const PARTS: [Part; 13] = [
     }),
     ("places of tables", |c, rng, rounds| {
         c.tables_places(rng, 30 * rounds)
+    }),
+    ("folds of all lists of up to 4 cells", |c, _, _| {
+        c.small_folds(4, &gen::few_settings())
+    }),
+    ("folds of lists", |c, rng, rounds| c.folds(rng, 30 * rounds)),
+    ("folds of damaged bytes", |c, rng, rounds| {
+        c.any_folds(rng, 300 * rounds)
     }),
 ];
 
@@ -151,6 +162,26 @@ fn junk_owners(length: usize) -> Vec<Owner> {
             column: at ^ 0x5A5A,
         })
         .collect()
+}
+
+/// What a lent list of Columns holds before a call.
+fn junk_columns(length: usize) -> Vec<u16> {
+    (0..length).map(|at| (at as u16) ^ 0xA5A5).collect()
+}
+
+/// The folds of a list that has them.
+fn folds_of(settings: &[u8], tree: &[u8]) -> Option<Vec<Fold>> {
+    let read = judge::read(settings, tree).ok()?;
+    let cells = read.cells().ok()?;
+    Some(folding::folds(&read.settings, cells))
+}
+
+/// The Columns of the answer, where there is one.
+fn needed(folds: &[Fold], width: usize, budget: usize) -> usize {
+    if width < folds[0].width {
+        return 1;
+    }
+    folding::chosen(folds, width, budget).fold.columns.len()
 }
 
 /// Every tree of up to `nodes` nodes with a few texts.
@@ -364,6 +395,70 @@ impl<'a> Comparison<'a> {
         self.mark(settings, tree, &outside, 0)
     }
 
+    /// The fold of a list for a width and a budget, with so many entries lent.
+    fn fold(
+        &mut self,
+        settings: &[u8],
+        tree: &[u8],
+        (width, budget): (usize, usize),
+        length: usize,
+    ) -> Result<(), Difference> {
+        self.call(
+            "fold",
+            || {
+                let (settings, tree) = (bytes(settings), bytes(tree));
+                format!("{settings} {tree} width {width} budget {budget} lent {length}")
+            },
+            |side| {
+                let mut columns = junk_columns(length);
+                let answer = side.fold(settings, tree, width, budget, &mut columns);
+                (answer.number, (answer, columns))
+            },
+        )
+    }
+
+    /// Every width up to one past the widest fold, with every budget up to one past all tries, and the greatest of both, with three entries more than are needed;
+    /// for every width also with as many as are needed, one less, and none.
+    fn every_fold(&mut self, settings: &Settings, tree: &Tree) -> Result<(), Difference> {
+        let (settings, tree) = (encode_settings(settings), encode_tree(tree));
+        let folds = folds_of(&settings, &tree).expect("a list");
+        let widest = folds.iter().map(|fold| fold.width).max().unwrap_or(0);
+        for width in (0..=widest + 1).chain([usize::MAX]) {
+            for budget in (0..=folds.len()).chain([usize::MAX]) {
+                let needed = needed(&folds, width, budget);
+                self.fold(&settings, &tree, (width, budget), needed + 3)?;
+            }
+            let needed = needed(&folds, width, usize::MAX);
+            for length in [needed, needed - 1, 0] {
+                self.fold(&settings, &tree, (width, usize::MAX), length)?;
+            }
+        }
+        Ok(())
+    }
+
+    /// The widths of some folds and one less, with every t tried; then random widths and budgets. The entries lent are around those needed.
+    fn some_folds(
+        &mut self,
+        rng: &mut Rng,
+        settings: &Settings,
+        tree: &Tree,
+    ) -> Result<(), Difference> {
+        let (settings, tree) = (encode_settings(settings), encode_tree(tree));
+        let folds = folds_of(&settings, &tree).expect("a list");
+        let widths: Vec<usize> = folds.iter().map(|fold| fold.width).collect();
+        let mut asked = Vec::new();
+        for &width in widths.iter().step_by(1 + widths.len() / 16) {
+            asked.push((width, usize::MAX));
+            asked.push((width.saturating_sub(1), usize::MAX));
+        }
+        asked.extend((0..16).map(|_| gen::question(rng, &folds)));
+        for (width, budget) in asked {
+            let length = gen::around(rng, needed(&folds, width, budget));
+            self.fold(&settings, &tree, (width, budget), length)?;
+        }
+        Ok(())
+    }
+
     /// Every call, once.
     pub fn case(&mut self, case: &Case) -> Result<(), Difference> {
         let (settings, tree) = (&case.settings, &case.tree);
@@ -536,6 +631,41 @@ impl<'a> Comparison<'a> {
     /// The places of the same groups.
     pub fn two_groups_places(&mut self, settings: &[Settings]) -> Result<(), Difference> {
         self.each(two_groups(), settings, Comparison::places)
+    }
+
+    /// Every list of up to so many Cells with a few texts, under each of the settings.
+    pub fn small_folds(&mut self, cells: usize, settings: &[Settings]) -> Result<(), Difference> {
+        let lists = gen::small_lists(cells, &["", "a", "bcd", "e\nfg"]);
+        self.each(lists.into_iter(), settings, Comparison::every_fold)
+    }
+
+    /// Lists of great heights and widths, then so many random ones.
+    pub fn folds(&mut self, rng: &mut Rng, rounds: usize) -> Result<(), Difference> {
+        for (settings, tree) in gen::great_lists() {
+            self.some_folds(rng, &settings, &tree)?;
+        }
+        for _ in 0..rounds {
+            let (settings, tree) = gen::fold_list(rng);
+            self.some_folds(rng, &settings, &tree)?;
+        }
+        Ok(())
+    }
+
+    /// So many lists of any kind, damaged bytes among them, each with a random width and budget.
+    pub fn any_folds(&mut self, rng: &mut Rng, rounds: usize) -> Result<(), Difference> {
+        for _ in 0..rounds {
+            let (settings, tree) = gen::any_list(rng);
+            let ((width, budget), needed) = match folds_of(&settings, &tree) {
+                Some(folds) => {
+                    let (width, budget) = gen::question(rng, &folds);
+                    ((width, budget), needed(&folds, width, budget))
+                }
+                None => (rng.pick(&[(0, 0), (9, 0), (usize::MAX, usize::MAX)]), 1),
+            };
+            let length = gen::around(rng, needed);
+            self.fold(&settings, &tree, (width, budget), length)?;
+        }
+        Ok(())
     }
 
     /// Each tree under each of the settings.

@@ -238,6 +238,17 @@ pub struct Owner {
 /// Whose each place of a printed sheet is, line by line; no one's in the margin.
 pub type Owners = Vec<Vec<Option<Owner>>>;
 
+/// A list folded for a height (document 02, 9).
+#[derive(Debug, Clone, PartialEq, Eq)]
+pub struct Fold {
+    /// The height t that its Columns stay within.
+    pub height: usize,
+    /// 'The number of cells in each Column.'
+    pub columns: Vec<usize>,
+    /// The Row's width inside: the Columns' and the separators between them.
+    pub width: usize,
+}
+
 /// What there is to know of one table.
 #[derive(Debug, Clone, PartialEq, Eq)]
 pub struct Answer {

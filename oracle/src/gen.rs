@@ -1,6 +1,6 @@
 //! Inputs: exhaustive small ones, random ones, those on each side of each limit, damaged ones.
 
-use crate::form::{encode_settings, encode_tree, Margin, Settings, Tree};
+use crate::form::{encode_settings, encode_tree, Fold, Margin, Settings, Tree};
 use crate::judge;
 use crate::paper;
 
@@ -98,6 +98,22 @@ pub fn two_groups(texts: &[&str]) -> Vec<Tree> {
         }
     }
     list
+}
+
+/// Every list of one to so many Cells with these texts.
+pub fn small_lists(cells: usize, texts: &[&str]) -> Vec<Tree> {
+    let mut lists: Vec<Vec<Tree>> = vec![Vec::new()];
+    let mut first = 0;
+    for _ in 0..cells {
+        let end = lists.len();
+        for at in first..end {
+            for text in texts {
+                lists.push([&lists[at][..], &[Tree::cell(text)]].concat());
+            }
+        }
+        first = end;
+    }
+    lists.into_iter().skip(1).map(Tree::Column).collect()
 }
 
 /// Every choice of alignments, line mode and priorities, with a padding on two sides and four fills; every second one with a margin, each side of
@@ -588,6 +604,118 @@ pub fn table(rng: &mut Rng, margins: Margins) -> (Settings, Tree) {
         Growth { width: 8, lines: 4 },
     ]);
     (settings, tree(rng, nodes, depth, growth))
+}
+
+// Lists to fold
+
+/// A list of so many Cells.
+fn list_of(rng: &mut Rng, cells: usize, growth: Growth) -> Tree {
+    let cell = |_| Tree::Cell(text(rng, growth.width, growth.lines));
+    Tree::Column((0..cells).map(cell).collect())
+}
+
+/// Settings and a list that can be folded: mostly of a few Cells, else of some dozens, or of about as many as it may have.
+pub fn fold_list(rng: &mut Rng) -> (Settings, Tree) {
+    let mut settings = settings(rng, Margins::Half);
+    let cells = match rng.below(32) {
+        0 => rng.between(judge::CELLS - 4, judge::CELLS),
+        1 => rng.between(30, 90),
+        _ => rng.between(1, 20),
+    };
+    if cells > 20 {
+        settings.padding = settings.padding.map(|size| size % 2);
+    }
+    let growth = rng.pick(&[
+        Growth { width: 0, lines: 1 },
+        Growth { width: 2, lines: 1 },
+        Growth { width: 9, lines: 1 },
+        Growth { width: 4, lines: 3 },
+        Growth {
+            width: 20,
+            lines: 5,
+        },
+    ]);
+    (settings, list_of(rng, cells, growth))
+}
+
+/// Lists of great heights and widths, close to the most bytes of a tree; and one of as many Cells without a column as there may be.
+pub fn great_lists() -> Vec<(Settings, Tree)> {
+    let padded = |padding: u8| Settings {
+        padding: [padding; 4],
+        ..Settings::M
+    };
+    let list = |cells: usize, bytes: usize, byte: u8| {
+        Tree::Column(vec![Tree::Cell(vec![byte; bytes]); cells])
+    };
+    vec![
+        (padded(16), list(judge::CELLS, 160, 0x0A)),
+        (padded(1), list(3, 10_900, 0x0A)),
+        (padded(16), list(2, 16_379, b'w')),
+        (padded(0), list(judge::CELLS, 0, b'w')),
+    ]
+}
+
+/// A width and a budget for a list with these folds: around the width of one of them, and around the tries that there are, mostly.
+pub fn question(rng: &mut Rng, folds: &[Fold]) -> (usize, usize) {
+    let all = folds.len() - 1;
+    let width = folds[rng.between(0, all)].width;
+    let width = match rng.below(8) {
+        0 => rng.pick(&[0, folds[0].width, folds[0].width.saturating_sub(1)]),
+        1 => rng.pick(&FAR),
+        2 => width + 1,
+        3 | 4 => width.saturating_sub(1),
+        _ => width,
+    };
+    let budget = match rng.below(8) {
+        0 => rng.pick(&[0, 1]),
+        1 => rng.pick(&FAR),
+        2 => all,
+        3 => rng.pick(&[all.saturating_sub(1), all + 1]),
+        _ => rng.between(0, all),
+    };
+    (width, budget)
+}
+
+/// A tree that is no list to fold, though close to one: another kind of root or child, no Cell or too many. At times it is no tree either: too many nodes, too deep.
+fn other_list(rng: &mut Rng, list: &Tree) -> Tree {
+    let mut cells = list.children().to_vec();
+    let at = rng.below(cells.len());
+    match rng.below(5) {
+        0 => return Tree::Row(cells),
+        1 => return cells.swap_remove(at),
+        2 => cells[at] = group(rng, Vec::new()),
+        3 => {
+            for _ in 0..rng.pick(&[1, 1, judge::DEPTH - 2, judge::DEPTH - 1]) {
+                cells[at] = group(rng, vec![cells[at].clone()]);
+            }
+        }
+        _ => {
+            let count = rng.pick(&[0, judge::CELLS + 1, judge::NODES - 1, judge::NODES]);
+            return list_of(rng, count, Growth { width: 1, lines: 1 });
+        }
+    }
+    Tree::Column(cells)
+}
+
+/// The bytes of settings and of a list, mostly with a fault: another tree, damaged bytes; else those of any case.
+pub fn any_list(rng: &mut Rng) -> (Vec<u8>, Vec<u8>) {
+    let (settings, list) = fold_list(rng);
+    let (mut settings, mut tree) = (encode_settings(&settings), encode_tree(&list));
+    match rng.below(10) {
+        0 => settings = damaged(rng, &settings),
+        1 | 2 => tree = damaged(rng, &tree),
+        3 => {
+            settings = damaged(rng, &settings);
+            tree = damaged(rng, &tree);
+        }
+        4 | 5 => tree = encode_tree(&other_list(rng, &list)),
+        6 => {
+            let case = any_case(rng, Margins::Half);
+            (settings, tree) = (case.settings, case.tree);
+        }
+        _ => {}
+    }
+    (settings, tree)
 }
 
 // Damage

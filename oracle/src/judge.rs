@@ -1,6 +1,7 @@
 //! The refusals of documents 01 and 02: from arbitrary bytes to the number that their table gives each call. It follows the documents' sentences
 //! and shares no code with the crate or the port.
 
+use crate::folding;
 use crate::form::{Margin, Settings, Size, Tree};
 use crate::paper;
 
@@ -11,6 +12,7 @@ pub const SHEET_WIDTH: usize = 400;
 pub const SHEET_HEIGHT: usize = 160;
 pub const PIECES: usize = 512;
 pub const PLACES: usize = 256;
+pub const CELLS: usize = 200;
 
 /// 'Each is hex 20 to 7E.'
 fn is_mark(byte: u8) -> bool {
@@ -268,6 +270,28 @@ impl Read {
         Ok(())
     }
 
+    /// The cells of a flat list: '15 for a root or child of another kind, no cells or over 200'.
+    pub fn cells(&self) -> Result<&[Tree], u8> {
+        match &self.tree {
+            Tree::Column(cells)
+                if (1..=CELLS).contains(&cells.len())
+                    && cells.iter().all(|cell| matches!(cell, Tree::Cell(_))) =>
+            {
+                Ok(cells)
+            }
+            _ => Err(15),
+        }
+    }
+
+    /// '16 for a cell wider than the given width', its padding included: the Row has its width from these.
+    pub fn within(&self, width: usize) -> Result<(), u8> {
+        let mut cells = self.sizes[1..].iter();
+        if cells.any(|cell| cell.natural_width > width) {
+            return Err(16);
+        }
+        Ok(())
+    }
+
     /// The leaf that a number names, or 9.
     fn leaf(&self, node: usize) -> Result<LeafNode, u8> {
         let mut leaves = leaf_nodes(&self.tree).into_iter();
@@ -365,6 +389,19 @@ pub fn place(settings: &[u8], tree: &[u8], line: usize, column: usize) -> u8 {
 /// The leaves of many places, lent a list of so many answers: '14 .. after 7'.
 pub fn places(settings: &[u8], tree: &[u8], places: &[(usize, usize)], list: usize) -> u8 {
     number(shown(settings, tree).and_then(|read| read.places(places, list)))
+}
+
+/// The fold of a list, lent so many entries: '15 .., then 16 ..; these come after 2 to 5, and a short answer list is 8, after them'.
+pub fn fold(settings: &[u8], tree: &[u8], width: usize, budget: usize, list: usize) -> u8 {
+    number(read(settings, tree).and_then(|read| {
+        let cells = read.cells()?;
+        read.within(width)?;
+        let folds = folding::folds(&read.settings, cells);
+        if list < folding::chosen(&folds, width, budget).fold.columns.len() {
+            return Err(8);
+        }
+        Ok(())
+    }))
 }
 
 /// Either cut of a list with so many pieces.

@@ -2,6 +2,8 @@
 
 pub mod calls;
 pub mod compare;
+pub mod folding;
+pub mod folds;
 pub mod form;
 pub mod gen;
 pub mod judge;
@@ -13,7 +15,7 @@ pub mod replay;
 pub mod sides;
 
 pub use form::{
-    encode_margin, encode_settings, encode_tree, Answer, CutPair, Flags, Leaf, Margin, Owner,
+    encode_margin, encode_settings, encode_tree, Answer, CutPair, Flags, Fold, Leaf, Margin, Owner,
     Owners, Settings, Size, Tree,
 };
 pub use original::{answer, cut, cut3};

@@ -1,6 +1,6 @@
 //! Lines for a test program: what they give, and the crate's answers.
 
-use crate::calls::{Calls, LeafRecord, Marked, SizeRecord, SplitList};
+use crate::calls::{Calls, Folded, LeafRecord, Marked, SizeRecord, SplitList};
 use crate::form::Owner;
 use crate::judge;
 use crate::sides::Original;
@@ -180,6 +180,28 @@ impl Lines {
         self.line(
             'm',
             &format!("{room} {count}, {number} {read}, {given}, {found}"),
+        );
+    }
+
+    /// A list folded within a width, with a budget of tries and room for so many Columns; then the number, the Columns, the height, the tries and the miss, and the
+    /// cells in each Column.
+    pub fn fold(&mut self, room: usize, width: usize, budget: usize) {
+        let mut columns = vec![0; room];
+        let (settings, tree) = (&self.settings, &self.tree);
+        let Folded {
+            number,
+            count,
+            height,
+            tries,
+            miss,
+        } = self
+            .original
+            .fold(settings, tree, width, budget, &mut columns);
+        let found = words(&[number.into(), count, height, tries, miss]);
+        let cells: Vec<usize> = columns[..count].iter().map(|&cells| cells.into()).collect();
+        self.line(
+            'c',
+            &format!("{room} {width} {budget}, {found}, {}", words(&cells)),
         );
     }
 

@@ -1,6 +1,9 @@
 //! The original's answers: the tables of crate `original` (as published) and of crate `traced` (with trace lines).
 
-use crate::form::{Answer, Cut, Cut3, CutPair, Flags, Leaf, Owner, Owners, Settings, Size, Tree};
+use crate::folding;
+use crate::form::{
+    Answer, Cut, Cut3, CutPair, Flags, Fold, Leaf, Owner, Owners, Settings, Size, Tree,
+};
 
 /// The same few lines over the types of each of the two builds.
 macro_rules! build {
@@ -31,7 +34,7 @@ macro_rules! build {
                 Sides::new(indent(0), indent(1), indent(2), indent(3))
             }
 
-            fn config(settings: &Settings) -> CompactMultilineConfig {
+            pub fn config(settings: &Settings) -> CompactMultilineConfig {
                 let mark = |at: usize| Some(char::from(settings.marks[at]));
 
                 let mut config = CompactMultilineConfig::new();
@@ -267,6 +270,47 @@ pub fn owners(settings: &Settings, tree: &Tree, answer: &Answer) -> Owners {
         }
     }
     owners
+}
+
+/// The natural width and height of each node, as the original collects them before it prints.
+fn naturals(settings: &Settings, tree: &Tree) -> Vec<(usize, usize)> {
+    let (value, config) = (instrumented::value(tree), instrumented::config(settings));
+    let mut sizes = vec![(0, 0); tree.nodes()];
+    for (pos, width, height) in traced::tables::dimensions(&value, &config) {
+        sizes[pos] = (width, height);
+    }
+    sizes
+}
+
+/// Every fold of a list, from the one-Column height down to the tallest cell (document 02, 9). The original folds nothing, but measures what was folded: the
+/// heights are those of its cells, the width is that of its Row. Panics where by its sizes a Column is above t, or would not be with the next cell.
+pub fn folds(settings: &Settings, cells: &[Tree]) -> Vec<Fold> {
+    let natural = |tree: Tree| naturals(settings, &tree)[0];
+    let list = naturals(settings, &Tree::Column(cells.to_vec()));
+    let heights: Vec<usize> = list[1..].iter().map(|&(_, height)| height).collect();
+    let tallest = heights.iter().copied().max().expect("a list has cells");
+
+    // The folds of neighbouring heights are often the same, and are measured once: the width, the height, and the least height of a Column with one more cell.
+    let mut folds: Vec<Fold> = Vec::new();
+    let (mut width, mut high, mut higher) = (0, 0, 0);
+    for height in (tallest..=list[0].1).rev() {
+        let columns = folding::columns(&heights, height);
+        if folds.last().map(|fold| &fold.columns) != Some(&columns) {
+            (width, high) = natural(folding::row(cells, &columns));
+            let more = folding::longer(cells, &columns).map(|column| natural(column).1);
+            higher = more.min().unwrap_or(usize::MAX);
+        }
+        assert!(
+            (high..higher).contains(&height),
+            "another fold for {height}"
+        );
+        folds.push(Fold {
+            height,
+            columns,
+            width,
+        });
+    }
+    folds
 }
 
 /// `short_splits3`. It does not say the pair, but shows it: the pieces taken are counted, and where nothing was removed the list left begins with the

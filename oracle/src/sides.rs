@@ -1,10 +1,11 @@
 //! Two sides of the calls: the crate and the documents. Both refuse as the judge says.
 
 use crate::calls::{
-    Calls, Counted, CutParts, CutPositions, LeafPlace, LeafRecord, Marked, ReadMargin,
+    Calls, Counted, CutParts, CutPositions, Folded, LeafPlace, LeafRecord, Marked, ReadMargin,
     ReadSettings, Shared, SizeRecord, SplitList,
 };
-use crate::form::{Answer, Cut, Cut3, CutPair, Flags, Owner, Owners, Settings, Tree};
+use crate::folding::{self, Chosen};
+use crate::form::{Answer, Cut, Cut3, CutPair, Flags, Fold, Owner, Owners, Settings, Tree};
 use crate::judge;
 use crate::{original, paper};
 
@@ -13,6 +14,8 @@ pub trait Answers {
     fn answer(&self, settings: &Settings, tree: &Tree) -> Answer;
     /// Of a sheet and its answer.
     fn owners(&self, settings: &Settings, tree: &Tree, answer: &Answer) -> Owners;
+    /// Every fold of a list of Cells, from the one-Column height down to the tallest of them.
+    fn folds(&self, settings: &Settings, cells: &[Tree]) -> Vec<Fold>;
     fn cut3(&self, list: &[usize], width: usize) -> Cut3;
     fn cut(&self, list: &[usize], width: usize) -> Cut;
     fn part(&self, spare: usize, n: usize, priority: u8, index: usize) -> usize;
@@ -34,6 +37,10 @@ impl Answers for Crate {
 
     fn owners(&self, settings: &Settings, tree: &Tree, answer: &Answer) -> Owners {
         original::owners(settings, tree, answer)
+    }
+
+    fn folds(&self, settings: &Settings, cells: &[Tree]) -> Vec<Fold> {
+        original::folds(settings, cells)
     }
 
     fn cut3(&self, list: &[usize], width: usize) -> Cut3 {
@@ -60,6 +67,10 @@ impl Answers for Document {
 
     fn owners(&self, settings: &Settings, tree: &Tree, answer: &Answer) -> Owners {
         paper::owners(settings, tree, answer)
+    }
+
+    fn folds(&self, settings: &Settings, cells: &[Tree]) -> Vec<Fold> {
+        folding::folds(settings, cells)
     }
 
     fn cut3(&self, list: &[usize], width: usize) -> Cut3 {
@@ -99,13 +110,14 @@ impl<T> Last<T> {
     }
 }
 
-/// A side made of answers and the judge's refusals. It keeps its last answer and its last sheet: a comparison asks for every node of one table, and for every
-/// place.
+/// A side made of answers and the judge's refusals. It keeps its last answer, its last sheet and its last list: a comparison asks for every node of one table,
+/// for every place, and for many folds.
 #[derive(Debug, Default)]
 pub struct Side<A> {
     answers: A,
     last: Option<Last<Answer>>,
     sheet: Option<Last<Result<Sheet, u8>>>,
+    list: Option<Last<Result<List, u8>>>,
 }
 
 /// A sheet that can be printed.
@@ -133,6 +145,33 @@ impl Sheet {
             *answer = self.place(line, column)?;
         }
         Ok((places.len(), self.read.sizes.len()))
+    }
+}
+
+/// A list that can be folded.
+#[derive(Debug)]
+struct List {
+    read: judge::Read,
+    folds: Vec<Fold>,
+}
+
+impl List {
+    /// The fold of a width and a budget, or 16 or 8.
+    fn fold(&self, width: usize, budget: usize, columns: &mut [u16]) -> Result<Folded, u8> {
+        self.read.within(width)?;
+        let Chosen { fold, tries, miss } = folding::chosen(&self.folds, width, budget);
+        let count = fold.columns.len();
+        let written = columns.get_mut(..count).ok_or(8)?;
+        for (entry, &cells) in written.iter_mut().zip(&fold.columns) {
+            *entry = narrow(cells);
+        }
+        Ok(Folded {
+            number: 0,
+            count,
+            height: fold.height,
+            tries,
+            miss,
+        })
     }
 }
 
@@ -169,6 +208,19 @@ impl<A: Answers> Side<A> {
         }
         let sheet = &self.sheet.as_ref().expect("a sheet was kept").kept;
         sheet.as_ref().map_err(|&number| number)
+    }
+
+    /// The list with its folds, or 1 to 5 or 15.
+    fn list_of(&mut self, settings: &[u8], tree: &[u8]) -> Result<&List, u8> {
+        if !Last::is_of(&self.list, settings, tree) {
+            let list = judge::read(settings, tree).and_then(|read| {
+                let folds = self.answers.folds(&read.settings, read.cells()?);
+                Ok(List { read, folds })
+            });
+            self.list = Last::new(settings, tree, list);
+        }
+        let list = &self.list.as_ref().expect("a list was kept").kept;
+        list.as_ref().map_err(|&number| number)
     }
 }
 
@@ -323,6 +375,22 @@ impl<A: Answers> Calls for Side<A> {
                 ..Marked::default()
             },
         }
+    }
+
+    fn fold(
+        &mut self,
+        settings: &[u8],
+        tree: &[u8],
+        width: usize,
+        budget: usize,
+        columns: &mut [u16],
+    ) -> Folded {
+        let list = self.list_of(settings, tree);
+        list.and_then(|list| list.fold(width, budget, columns))
+            .unwrap_or_else(|number| Folded {
+                number,
+                ..Folded::default()
+            })
     }
 
     fn short_splits3(&mut self, list: &SplitList, width: u16) -> CutParts {

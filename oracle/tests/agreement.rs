@@ -1,13 +1,13 @@
 //! The crate against documents 01 and 02, and what the oracle itself rests on. `oracle agree` does more of the first.
 
 use oracle::calls::{
-    Calls, Counted, CutParts, CutPositions, LeafPlace, LeafRecord, Marked, ReadMargin,
+    Calls, Counted, CutParts, CutPositions, Folded, LeafPlace, LeafRecord, Marked, ReadMargin,
     ReadSettings, Shared, SizeRecord, SplitList,
 };
 use oracle::compare::{Comparison, Difference, NUMBERS};
 use oracle::gen::{self, Margins, Rng};
 use oracle::sides::{Original, Paper};
-use oracle::{judge, original, paper, CutPair, Margin, Owner, Settings, Tree};
+use oracle::{folding, judge, original, paper, CutPair, Fold, Margin, Owner, Settings, Tree};
 
 fn agree(run: impl Fn(&mut Comparison) -> Result<(), Difference>) {
     let (mut one, mut other) = (Original::default(), Paper::default());
@@ -61,6 +61,13 @@ fn places() {
 }
 
 #[test]
+fn folds() {
+    agree(|comparison| comparison.small_folds(3, &gen::few_settings()));
+    agree(|comparison| comparison.folds(&mut Rng::new(24), 60));
+    agree(|comparison| comparison.any_folds(&mut Rng::new(25), 400));
+}
+
+#[test]
 fn lists() {
     agree(|comparison| comparison.lists(&mut Rng::new(14), 500));
 }
@@ -87,6 +94,7 @@ fn every_number_is_reached() {
     let mut comparison = Comparison::new(&mut one, &mut other);
     let run = comparison
         .cases(&mut Rng::new(1), 4000)
+        .and_then(|()| comparison.any_folds(&mut Rng::new(1), 400))
         .and_then(|()| comparison.lists(&mut Rng::new(1), 10))
         .and_then(|()| comparison.shares(&mut Rng::new(1), 3));
     run.expect("a side agrees with itself");
@@ -180,7 +188,7 @@ struct Faulty {
     fault: u8,
 }
 
-const FAULTS: u8 = 56;
+const FAULTS: u8 = 74;
 
 /// The judge's numbers with the margin and without it: whether only the margin makes a sheet too large.
 fn is_large_by_margin(number: u8, settings: &[u8], tree: &[u8]) -> bool {
@@ -402,6 +410,86 @@ impl Calls for Faulty {
         answer
     }
 
+    fn fold(
+        &mut self,
+        settings: &[u8],
+        tree: &[u8],
+        width: usize,
+        budget: usize,
+        columns: &mut [u16],
+    ) -> Folded {
+        let refused = |number: u8| Folded {
+            number,
+            ..Folded::default()
+        };
+        // 32 bits of the width, or of the budget; the single Column as a try.
+        let (width, budget) = match self.fault {
+            56 => (width as u32 as usize, budget),
+            57 => (width, budget as u32 as usize),
+            58 => (width, budget.saturating_sub(1)),
+            _ => (width, budget),
+        };
+        let lent = columns.to_vec();
+        let mut answer = self.paper.fold(settings, tree, width, budget, columns);
+        let Folded { number, count, .. } = answer;
+        let read = match judge::read(settings, tree) {
+            Ok(read) if self.fault < FAULTS => read,
+            _ => return answer,
+        };
+        let cells = read.cells().unwrap_or(&[]);
+        if cells.is_empty() {
+            // 16 before 15.
+            if self.fault == 71 && read.within(width).is_err() {
+                answer = refused(16);
+            }
+            return answer;
+        }
+        let folds = folding::folds(&read.settings, cells);
+        let tallest = folds[folds.len() - 1].height;
+        match self.fault {
+            // The entries past the Columns cleared; all of the lent ones counted; an entry, or the height, beside a refusal; the Columns from the last on.
+            59 => columns[count..].fill(0),
+            60 if number == 0 => answer.count = lent.len(),
+            61 if number == 8 && !columns.is_empty() => columns[0] = 0,
+            62 if number == 8 => answer.height = tallest,
+            63 => columns[..count].reverse(),
+            // The height of what was folded; the budget as the tries; the way down to the tallest as the miss, or none.
+            64 if number == 0 => {
+                let row = folding::row(cells, &folds[folds[0].height - answer.height].columns);
+                answer.height = paper::sizes(&read.settings, &row)[0].natural_height;
+            }
+            65 if number == 0 => answer.tries = budget,
+            66 if number == 0 => answer.miss = answer.height - tallest,
+            67 => answer.miss = 0,
+            // The first t that does not fit ends the tries.
+            68 if number == 0 => {
+                let tried = folds[..=answer.tries].iter();
+                let fitted = tried.take_while(|fold| fold.width <= width).last();
+                answer.height = fitted.map_or(0, |fold| fold.height);
+            }
+            // No separators between the Columns.
+            69 if number == 0 => {
+                let mut folds: Vec<Fold> = folds;
+                folds
+                    .iter_mut()
+                    .for_each(|fold| fold.width -= fold.columns.len() - 1);
+                answer.height = folding::chosen(&folds, width, budget).fold.height;
+            }
+            // 8 before 16; 15 for 200 Cells; 6 for a list that is no sheet.
+            70 if number == 16 && lent.is_empty() => answer = refused(8),
+            72 if cells.len() == judge::CELLS => {
+                columns.copy_from_slice(&lent);
+                answer = refused(15);
+            }
+            73 if number == 0 && judge::sheet(settings, tree, usize::MAX) == 6 => {
+                columns.copy_from_slice(&lent);
+                answer = refused(6);
+            }
+            _ => {}
+        }
+        answer
+    }
+
     fn short_splits3(&mut self, list: &SplitList, width: u16) -> CutParts {
         let mut answer = self.paper.short_splits3(list, width);
         match self.fault {
@@ -458,7 +546,10 @@ fn faults_are_found() {
             .and_then(|()| comparison.shares(&mut Rng::new(18), 4))
             .and_then(|()| comparison.limits(&mut Rng::new(18), 1))
             .and_then(|()| comparison.small_places(3, &gen::few_settings()))
-            .and_then(|()| comparison.tables_places(&mut Rng::new(18), 3));
+            .and_then(|()| comparison.tables_places(&mut Rng::new(18), 3))
+            .and_then(|()| comparison.small_folds(2, &gen::few_settings()))
+            .and_then(|()| comparison.any_folds(&mut Rng::new(18), 200))
+            .and_then(|()| comparison.folds(&mut Rng::new(18), 20));
         assert_eq!(run.is_err(), fault < FAULTS, "fault {fault}");
     }
 }

@@ -10,11 +10,11 @@ struct Insertion {
 }
 
 const INSERTIONS: [Insertion; 8] = [
-    // 1: the cuts can be called from outside.
+    // 1: the cuts and the collecting of sizes can be called from outside.
     Insertion {
         after: "",
         before: "mod print {",
-        text: "pub use self::print::{traced_short_splits, traced_short_splits3, traced_squash_splits};",
+        text: "pub use self::print::{traced_dimensions, traced_short_splits, traced_short_splits3, traced_squash_splits};",
     },
     Insertion {
         after: "    use super::TableValue;",
@@ -30,6 +30,11 @@ const INSERTIONS: [Insertion; 8] = [
 
     pub fn traced_squash_splits(splits: &mut [usize]) {
         squash_splits(splits)
+    }
+
+    pub fn traced_dimensions(val: &TableValue, cfg: &CompactMultilineConfig) -> Vec<(usize, usize, usize)> {
+        let dims = collect_table_dimensions(val, cfg);
+        dims.all.iter().map(|(pos, dim)| (*pos, dim.width, dim.height)).collect()
     }",
     },
     // 2: the natural sizes.

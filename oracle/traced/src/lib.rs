@@ -23,7 +23,8 @@ pub mod tables {
     include!(concat!(env!("OUT_DIR"), "/tables.rs"));
 
     pub use self::table_pool::{
-        traced_short_splits as short_splits, traced_short_splits3 as short_splits3,
-        traced_squash_splits as squash_splits, PoolTable, TableValue,
+        traced_dimensions as dimensions, traced_short_splits as short_splits,
+        traced_short_splits3 as short_splits3, traced_squash_splits as squash_splits, PoolTable,
+        TableValue,
     };
 }

@@ -26,7 +26,7 @@ fn run(words: &[OsString]) -> Result<Answer, Fault> {
         .iter()
         .find(|command| name == command.name)
         .ok_or_else(|| Fault::Usage(format!("no command {name:?}")))?;
-    if operands.len() != command.operands.len() {
+    if !command.takes(operands.len()) {
         return Err(Fault::Usage(command.usage()));
     }
     (command.run)(operands)

@@ -1,6 +1,7 @@
 //! The commands. One more is a file here with its `COMMAND`, and its name in the table.
 
 mod check;
+mod fold;
 mod leaf;
 mod mark;
 mod place;
@@ -21,19 +22,28 @@ pub const COMMANDS: &[Command] = &[
     leaf::COMMAND,
     place::COMMAND,
     mark::COMMAND,
+    fold::COMMAND,
     check::COMMAND,
 ];
 
 pub struct Command {
     pub name: &'static str,
-    pub operands: &'static [&'static str],
+    /// The last may stand in brackets: it can be left out.
+    operands: &'static [&'static str],
     /// What it does, for `--help`.
     about: &'static str,
-    /// Is handed as many words as it has operands.
+    /// Is handed as many words as it takes.
     pub run: fn(&[OsString]) -> Result<Answer, Fault>,
 }
 
 impl Command {
+    /// Whether so many words are its operands.
+    pub fn takes(&self, count: usize) -> bool {
+        let optional = self.operands.iter().filter(|name| name.starts_with('['));
+        let most = self.operands.len();
+        (most - optional.count()..=most).contains(&count)
+    }
+
     pub fn usage(&self) -> String {
         format!("legs {} {}", self.name, self.operands.join(" "))
     }
@@ -60,13 +70,14 @@ impl Answer {
 
 /// What `--help` prints.
 pub fn help() -> String {
-    let line = |command: &Command| format!("  {:<30}{}\n", command.usage(), command.about);
+    let line = |command: &Command| format!("  {:<32}{}\n", command.usage(), command.about);
     let commands: String = COMMANDS.iter().map(line).collect();
     format!(
         "Prints leg sheets: bordered tables of nested rows and columns.\n\n{commands}\n\
          FILE is a settings record, with the margin's field or without, then a tree, as examples/encode.py writes them; - is standard input.\n\
          Nodes are numbered from 0, a parent before its children, these from left to right.\n\
-         Lines and columns are counted from 0, in the sheet as it is printed.\n\n\
+         Lines and columns are counted from 0, in the sheet as it is printed.\n\
+         WIDTH is of the sheet inside its edges and margin. BUDGET limits the heights that are tried.\n\n\
          Exit status: 0, or 1 refused, 2 usage, 3 input or output failed.\n"
     )
 }

@@ -1,0 +1,45 @@
+use std::ffi::OsString;
+
+use leg_sheet::{Folded, Input, Refusal, Tree};
+
+use super::{listed, Answer, Command};
+use crate::fault::Fault;
+use crate::operands::{number, File};
+
+pub const COMMAND: Command = Command {
+    name: "fold",
+    operands: &["FILE", "WIDTH", "[BUDGET]"],
+    about: "the sheet of a list folded into Columns of one Row, and what was found",
+    run,
+};
+
+fn run(words: &[OsString]) -> Result<Answer, Fault> {
+    let width = number(&words[1])?;
+    let budget = words.get(2).map_or(Ok(usize::MAX), |word| number(word))?;
+    let file = File::read(&words[0])?;
+    let folded = file.call(|input| input.fold(width, budget))?;
+    let sheet = file.call(|input| sheet(input, &folded))?;
+    Ok(Answer::accepted(format!("{sheet}\n{}", line(&folded))))
+}
+
+/// The sheet of the Row, under the list's own settings.
+fn sheet(input: Input, folded: &Folded) -> Result<String, Refusal> {
+    let list = Tree::from_bytes(input.tree)?;
+    let row = list.folded(&folded.columns);
+    let tree = row.expect("the list's own counts").to_bytes()?;
+    let input = Input {
+        tree: &tree,
+        ..input
+    };
+    input.print_sheet()
+}
+
+fn line(folded: &Folded) -> String {
+    format!(
+        "columns: {}; height: {}, tries: {}, miss: {}\n",
+        listed(&folded.columns),
+        folded.height,
+        folded.tries,
+        folded.miss,
+    )
+}
