@@ -11,6 +11,7 @@ ghost use Rattle.numbers.specs.Words.{packed, partAfter};
 ghost use Rattle.numbers.specs.Numbers.{settingsGiven, marginGiven, sizesGiven, recordGiven};
 ghost use Rattle.numbers.specs.Places.{placeGiven, readAfter};
 ghost use Rattle.numbers.specs.Folds.{foundAfter};
+ghost use Rattle.numbers.specs.Plans.{endsWord, endsAfter};
 ghost use Rattle.numbers.specs.Cuts.{splits3Given, lentGiven, splitsGiven};
 ghost use Rattle.settings.specs.Reading.{priorityOf, readSettings};
 ghost use Rattle.sizes.specs.Sharing.{shareOf};
@@ -21,6 +22,7 @@ ghost use Rattle.sheet.specs.Answers.{sheetOf};
 ghost use Rattle.places.specs.Places.{leafPlaceOf};
 ghost use Rattle.places.specs.Together.{findsOf};
 ghost use Rattle.fold.specs.Answers.{foldOf};
+ghost use Rattle.plan.specs.Answers.{planInput, plannedOf};
 
 #[no_mangle]
 pub extern "C" fn leg_read_settings(bytes: &[u8], out: &mut [u16]) -> u64
@@ -177,6 +179,19 @@ pub extern "C" fn leg_fold(
     }
     fields::put_found(r, found);
     pack(r.number, r.columns)
+}
+
+#[no_mangle]
+pub extern "C" fn leg_plan(settings: &[u8], tree: &[u8], ends: &mut [u32; 4]) -> u64
+    ensures { λ r. ⌜ r ≡ endsWord (plannedOf (planInput (now (settings .entry)) (now (tree .entry)))) ⌝ }
+    ensures told { λ _. ⌜ now (ends .exit) ≡ endsAfter (plannedOf (planInput (now (settings .entry)) (now (tree .entry)))) (now (ends .entry)) ⌝ }
+{
+    let p = plan::plan_sheet(settings, tree);
+    if p.number != 0 {
+        return pack(p.number, 0);
+    }
+    fields::put_ends(p, ends);
+    pack(0, 4)
 }
 
 #[no_mangle]

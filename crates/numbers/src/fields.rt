@@ -4,6 +4,7 @@ use block::Flags;
 use fold::Folded;
 use leaf::LeafRecord;
 use places::LeafPlace;
+use plan::Planned;
 use settings::Alignment;
 use settings::Priority;
 use settings::Settings;
@@ -20,6 +21,7 @@ ghost use Rattle.settings.specs.Defaults.{alignmentNumber, priorityNumber};
 ghost use Rattle.numbers.specs.Numbers.{settingsNumbers, marginNumbers, choiceNumbers, coreNumbers, frontNumbers, recordNumbers, Plain};
 ghost use Rattle.numbers.specs.Folds.{foundNumbers};
 ghost use Rattle.numbers.specs.Places.{placeNumbers};
+ghost use Rattle.numbers.specs.Plans.{endsNumbers};
 
 fn number_of_priority(p: Priority) -> u16
     ensures { λ r. ⌜ r ≡ priorityNumber p ⌝ }
@@ -172,4 +174,15 @@ pub fn put_found(r: Folded, out: &mut [u64])
     out[0] = r.height as u64;
     out[1] = r.tries as u64;
     out[2] = r.miss as u64;
+}
+
+// Least W, greatest W, least H, greatest H.
+pub fn put_ends(r: Planned, out: &mut [u32])
+    requires { ⌜ length (now out) ≡ 4 ⌝ }
+    ensures { λ _. ⌜ now (out .exit) ≡ endsNumbers r ⌝ }
+{
+    out[0] = r.least_width;
+    out[1] = r.greatest_width;
+    out[2] = r.least_height;
+    out[3] = r.greatest_height;
 }

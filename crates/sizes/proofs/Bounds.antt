@@ -54,7 +54,7 @@ unfolding textHeight lines
 height-le [] = omega arith
 height-le (b ∷ t) = omega (arith, height-step (eqb b 10) b (lines t), height-le t)
 
-leaf-le : (s : Settings) (d : Axis) (t : List ℕ) → along d (leafSize s t) + sep s ≤ length t + each s d
+pub leaf-le : (s : Settings) (d : Axis) (t : List ℕ) → along d (leafSize s t) + sep s ≤ length t + each s d
 unfolding along leafSize each
 leaf-le s across t = omega (arith, width-le t)
 leaf-le s down t = omega (arith, height-le t)
@@ -66,7 +66,7 @@ unfolding greatest total
 greatest-le [] = omega arith
 greatest-le (n ∷ ns) = omega (arith, greatest-le ns)
 
-sep-le : (s : Settings) (d : Axis) → sep s ≤ each s d
+pub sep-le : (s : Settings) (d : Axis) → sep s ≤ each s d
 unfolding each
 sep-le s across = omega arith
 sep-le s down = omega arith
@@ -75,7 +75,7 @@ less : (f : Size → ℕ) (k : ℕ) (ns : List Size) → total (map f ns) + (len
 less f k [] = omega arith
 less f k (n ∷ ns) = let e : suc (length ns) - 1 ≡ length ns = omega arith in rw e (omega arith)
 
-span-le : (s : Settings) (d a : Axis) (ns : List Size) → along d (spanned s a ns) ≤ total (map (along d) ns) + length ns * sep s
+pub span-le : (s : Settings) (d a : Axis) (ns : List Size) → along d (spanned s a ns) ≤ total (map (along d) ns) + length ns * sep s
 unfolding spanned sized along beside
 span-le s across across ns = less (along across) (sep s) ns
 span-le s across down ns = omega (arith, greatest-le (map (along across) ns))

@@ -61,13 +61,13 @@ pub sep-small : (s : Settings) → sep s ≤ 1
 unfolding sep
 sep-small s = omega arith
 
-each-small : (s : Settings) (t : Tree) (d : Axis) → Limits s t → each s d ≤ 34
+pub each-small : (s : Settings) (d : Axis) → Ranges s → each s d ≤ 34
 unfolding each
-each-small s t across l = omega (arith, sep-small s, l .ranges .left, l .ranges .right)
-each-small s t down l = omega (arith, sep-small s, l .ranges .top, l .ranges .bottom)
+each-small s across r = omega (arith, sep-small s, r .left, r .right)
+each-small s down r = omega (arith, sep-small s, r .top, r .bottom)
 
 natural-small : (s : Settings) (t : Tree) (d : Axis) → Limits s t → along d (natural s t) < 65536
-natural-small s t d l = natural-16 s d t (l .few-bytes) (l .few-nodes) (each-small s t d l)
+natural-small s t d l = natural-16 s d t (l .few-bytes) (l .few-nodes) (each-small s d (l .ranges))
 
 pub root-width : (s : Settings) (t : Tree) → Limits s t → natural s t .width < 65536
 unfolding along

@@ -1,0 +1,5 @@
+pub mod Choices
+pub mod Ends
+pub mod Measuring
+pub mod Answers
+pub mod Promises
