@@ -1,7 +1,7 @@
 #!/usr/bin/env python3
 """Writes the example inputs: the settings, then the tree, as documents 01 and 02 have them.
 
-A tree is a text (a Cell), row(..) or column(..). The sides of padding and margin are left, right, top, bottom.
+A tree is a text (a Cell), row(..) or column(..); a planning tree has plan(..), too. The sides of padding and margin are left, right, top, bottom.
 """
 import os
 
@@ -41,6 +41,10 @@ def column(*items):
     return element(3, b"".join(encode(i) for i in items))
 
 
+def plan(least_width, greatest_width, least_lines, greatest_lines):
+    return element(4, bytes([least_width, greatest_width, least_lines, greatest_lines]))
+
+
 def leg(number, name, position, height, speed, remark):
     return row(number, column(name, position), column(row("height", height), row("speed", speed)), remark)
 
@@ -61,6 +65,10 @@ FLIGHT = column(
 
 LEGS = ["Home pad", "Dam, west end", "Spillway", "Dam, east end", "Jetty", "Pump house", "North shore", "Mast\nkeep 50 m clear", "Reed bed", "Gauge\nread twice", "South shore", "Home pad"]
 
+NAME, REMARK = plan(4, 20, 1, 1), plan(0, 16, 1, 3)
+
+LATE = column("Survey 18, waypoints to come", row("1", "Home pad", "take off\nhold 10 s"), row("2", NAME, REMARK), row("3", NAME, REMARK), row("4", "Home pad", "land"))
+
 EXAMPLES = {
     "flight": (settings(width=LIST), FLIGHT),
     "centred": (settings(marks=b"=_()hv/\\T[]*<>#", padding=(2, 2, 1, 1), fills=b".. .", horizontal=1, vertical=1, line_mode=1, width=LIST), FLIGHT),
@@ -72,8 +80,11 @@ EXAMPLES = {
     "refused": (settings(), row(*(f"leg {n}" for n in range(1, 47)))),
 }
 
+PLANS = {"flight": (settings(), LATE)}
+
 if __name__ == "__main__":
     here = os.path.dirname(os.path.abspath(__file__))
-    for name, (s, t) in EXAMPLES.items():
-        with open(os.path.join(here, name + ".legs"), "wb") as f:
-            f.write(s + t)
+    for ending, examples in ((".legs", EXAMPLES), (".plan", PLANS)):
+        for name, (s, t) in examples.items():
+            with open(os.path.join(here, name + ending), "wb") as f:
+                f.write(s + t)

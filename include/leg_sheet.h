@@ -5,18 +5,19 @@
  * any bytes and any numbers may be handed in.
  *
  * Every function answers a word: LEG_NUMBER is 0 or a refusal's number from the list below, LEG_COUNT what was counted or written, 0 beside a
- * refusal. Each function below names its refusals in the order of its tests; 2 to 5 are tested element by element in node order, at each
- * one 2, 5, 4, then 3. A refusal writes to none of the lent lists; otherwise items past those said to be written stay as they were. The
+ * refusal. Each function below names its refusals in the order of its tests; 2 to 5 and 17 are tested element by element in node order, at
+ * each one 2, 5, 4, then 3 of a Cell or 17 of a range. A refusal writes to none of the lent lists; otherwise items past those said to be written stay as they were. The
  * functions keep nothing between calls and allocate nothing; on the stack they took up to 77 kilobytes (measured, at depth 16).
  *
- *   1   settings not of the form or ranges                    9   the number names no leaf
- *   2   tree: too long, cut short, unknown tag ..            10   split list count over 512
- *   3   forbidden text byte                                  11   share: n = 0 or index >= n
- *   4   node 513 met                                         12   a line or column outside the printed sheet
- *   5   depth 17 met                                         13   a place in the margin
- *   6   over 400 columns or 160 lines, the margin included   14   over 256 places
- *   7   never occurs any more; the number is kept free       15   the tree is no Column of 1 to 200 Cells
- *   8   a lent list is shorter than needed                   16   a cell is wider than the given width
+ *   1   settings not of the form or ranges                   10   split list count over 512
+ *   2   tree: too long, cut short, unknown tag ..            11   share: n = 0 or index >= n
+ *   3   forbidden text byte                                  12   a line or column outside the printed sheet
+ *   4   node 513 met                                         13   a place in the margin
+ *   5   depth 17 met                                         14   over 256 places
+ *   6   over 400 columns or 160 lines, the margin included   15   the tree is no Column of 1 to 200 Cells
+ *   7   never occurs any more; the number is kept free       16   a cell is wider than the given width
+ *   8   a lent list is shorter than needed                   17   a range with a least above its greatest, or no line
+ *   9   the number names no leaf
  *
  * Settings and trees are bytes (hex below). docs/FORMS.md has them with pictures, examples and the meaning of each; examples/build.c builds a tree.
  *
@@ -36,6 +37,8 @@
  *   01 Cell: a text, bytes 20 to 7E, and 0A between its lines
  *   02 Row, 03 Column: elements, side by side or one under another
  * The root ends where the bytes end. Nodes are numbered from 0 in the order of their tags. Column[`ab`, `c`]: 03 00 09 01 00 02 61 62 01 00 01 63.
+ * A planning tree, which leg_plan alone takes (to every other function the tag is unknown), has for texts that are to come also
+ *   04 range, 4 bytes: the least and the greatest width of the text, the least and the greatest count of its lines (1 or more)
  */
 #ifndef LEG_SHEET_H
 #define LEG_SHEET_H
@@ -60,6 +63,7 @@ extern "C" {
 #define LEG_LENT_CUT (4 + LEG_LIST)
 #define LEG_PLACE 3
 #define LEG_FOUND 3
+#define LEG_ENDS 4
 
 /* leg_places takes up to LEG_PLACES places, each a number that LEG_AT makes of a line and a column, and writes as many answers, of which LEG_NODE, LEG_LINE and
  * LEG_COLUMN are the parts. A line or column past 32 bits counts as the greatest of 32 bits: both are outside every sheet. */
@@ -117,6 +121,11 @@ uint64_t leg_places(const uint8_t *settings, size_t settings_len, const uint8_t 
  * LEG_FOUND numbers: that t, the tries made, and the most by which t can lie above the least that fits: 0 if every t was tried, else t less the tallest cell's height.
  * Counts the Columns. */
 uint64_t leg_fold(const uint8_t *settings, size_t settings_len, const uint8_t *tree, size_t tree_len, size_t width, size_t budget, uint16_t *columns, size_t columns_len, uint64_t *found);
+
+/* How large the sheet of a planning tree will be. 1 to 5 and 17. Writes to `ends` LEG_ENDS numbers: the least and the greatest W, the least and the greatest H.
+ * Whatever texts within the ranges are put in, the sheet's W and H lie between these, and each of the four is reached by some texts; the limits on W, H and the bytes of
+ * the tree with its texts are put aside. Counts LEG_ENDS. */
+uint64_t leg_plan(const uint8_t *settings, size_t settings_len, const uint8_t *tree, size_t tree_len, uint32_t *ends);
 
 /* Cuts the list of the first `count` of `pieces` at `w`; numbers past them are not looked at. 10; 8 where `pieces` has under `count` numbers or `out` under
  * LEG_CUT. Writes yes or no (1 or 0); the cut's pair: how many pieces it took, and the length left of the first piece not taken, 0 if there is none or it

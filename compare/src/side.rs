@@ -1,13 +1,13 @@
 //! The library as a side of the comparison. Its lists are lent full of canaries, with some numbers more than needed and with one less (`lent`), so that
 //! whatever a refusal writes, or a result past its end, shows. What was written is read by the library's own records.
 
-use leg_sheet::calls::{self, CUT, FOUND, LENT_CUT, LIST, MARGIN, PIECES, SETTINGS, SIZES};
+use leg_sheet::calls::{self, CUT, ENDS, FOUND, LENT_CUT, LIST, MARGIN, PIECES, SETTINGS, SIZES};
 use leg_sheet::{List, Place};
 use oracle::calls::{
-    Calls, Counted, CutParts, CutPositions, Folded, LeafPlace, LeafRecord, Marked, ReadMargin,
-    ReadSettings, Shared, SizeRecord, SplitList,
+    Calls, Counted, CutParts, CutPositions, Folded, LeafPlace, LeafRecord, Marked, Planned,
+    ReadMargin, ReadSettings, Shared, SizeRecord, SplitList,
 };
-use oracle::form::{encode_record, encode_settings, CutPair, Flags, Margin, Owner, Settings};
+use oracle::form::{encode_record, encode_settings, CutPair, Ends, Flags, Margin, Owner, Settings};
 
 use crate::lent::{self, canary, number, sound, Answer, Lent, Writes, MORE};
 
@@ -236,6 +236,22 @@ impl Calls for Library {
             height: folded.height,
             tries: folded.tries,
             miss: folded.miss,
+        }
+    }
+
+    /// Three numbers more stand behind the ends, and must stay; so must all of them beside a refusal.
+    fn plan(&mut self, settings: &[u8], tree: &[u8]) -> Planned {
+        let mut ends = Lent::<u32>::new(&[], ENDS + MORE);
+        let four = ends.list.first_chunk_mut().expect("four numbers");
+        let Counted { number, count } = counted(calls::plan(settings, tree, four));
+        let written = if number == 0 { ENDS } else { 0 };
+        let planned = leg_sheet::Planned::from_numbers(ends.written(number));
+        Planned {
+            number: sound(number, count == written && ends.kept(written)),
+            ends: Ends {
+                width: planned.width.into_inner().into(),
+                height: planned.height.into_inner().into(),
+            },
         }
     }
 

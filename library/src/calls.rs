@@ -42,8 +42,14 @@ pub const PLACES: usize = 256;
 pub const CELLS: usize = 200;
 /// What is found with a fold: the height, the tries made, the greatest miss.
 pub const FOUND: usize = 3;
-/// The largest sheet or block: 160 lines of 400 columns, the margin included, with a line feed between them.
-pub const SHEET: usize = 401 * 160 - 1;
+/// The ends of a planned sheet: the least and the greatest number of columns, then of lines.
+pub const ENDS: usize = 4;
+/// The columns of a sheet at the most, its margin included.
+pub const WIDTH: usize = 400;
+/// The lines of a sheet at the most, its margin included.
+pub const HEIGHT: usize = 160;
+/// The largest sheet or block: as many lines of as many columns, with a line feed between them.
+pub const SHEET: usize = (WIDTH + 1) * HEIGHT - 1;
 /// The nodes of a tree at the most.
 pub const NODES: usize = 512;
 
@@ -249,6 +255,24 @@ pub fn fold(
             columns.as_mut_ptr(),
             columns.len(),
             found.as_mut_ptr(),
+        )
+    })
+}
+
+/// Writes the [`ENDS`] of a planning tree, and counts them: its sheet, the margin included, has no fewer and no more columns and lines, whatever texts within the
+/// ranges are put in, and each end is reached by some texts. Nothing is too large here.
+///
+/// # Errors
+/// 1 to 5, 17. Every other call refuses a range with 2.
+pub fn plan(settings: &[u8], tree: &[u8], ends: &mut [u32; ENDS]) -> Result<usize, Refusal> {
+    // SAFETY: pointers and lengths of slices, and a pointer to four numbers, that are borrowed here.
+    answer(unsafe {
+        raw::leg_plan(
+            settings.as_ptr(),
+            settings.len(),
+            tree.as_ptr(),
+            tree.len(),
+            ends.as_mut_ptr(),
         )
     })
 }

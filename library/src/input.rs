@@ -1,7 +1,7 @@
 //! Settings and tree together, as bytes.
 
 use crate::calls;
-use crate::records::{Folded, LeafPlace, LeafRecord, Marked, Place, SizeRecord};
+use crate::records::{Folded, LeafPlace, LeafRecord, Marked, Place, Planned, SizeRecord};
 use crate::refusal::Refusal;
 use crate::tree;
 
@@ -26,7 +26,7 @@ const MARGIN_TAG: u8 = 0x11;
 pub struct Input<'a> {
     /// The settings record, with the margin's field or without.
     pub settings: &'a [u8],
-    /// The tree.
+    /// The tree; for [`plan`](Input::plan) the planning tree.
     pub tree: &'a [u8],
 }
 
@@ -119,6 +119,16 @@ impl<'a> Input<'a> {
         let (settings, tree) = (self.settings, self.tree);
         let count = calls::fold(settings, tree, width, budget, &mut columns, &mut found)?;
         Ok(Folded::from_numbers(&columns[..count], found))
+    }
+
+    /// How large the sheet of the planning tree will be.
+    ///
+    /// # Errors
+    /// 1 to 5, 17.
+    pub fn plan(self) -> Result<Planned, Refusal> {
+        let mut ends = [0; calls::ENDS];
+        calls::plan(self.settings, self.tree, &mut ends)?;
+        Ok(Planned::from_numbers(ends))
     }
 }
 

@@ -19,7 +19,7 @@
 //! # Ok::<(), Refusal>(())
 //! ```
 //!
-//! The functions here take [`Settings`] and a [`Tree`] and answer values; those of [`Input`] take the two as bytes; those of [`calls`] take bytes and
+//! The functions here take [`Settings`] and a [`Tree`], or a [`Plan`] of one, and answer values; those of [`Input`] take the two as bytes; those of [`calls`] take bytes and
 //! write to buffers that the caller lends. Under all three are the same proved functions, which decide every refusal and write every byte: this crate
 //! puts values into bytes and makes values of what was written.
 
@@ -27,6 +27,7 @@
 
 pub mod calls;
 mod input;
+mod plan;
 mod raw;
 mod records;
 mod refusal;
@@ -35,16 +36,17 @@ mod tree;
 mod values;
 
 pub use input::Input;
+pub use plan::Plan;
 pub use records::{
     next_sibling, CutAnswer, CutPair, CutParts, Flags, Folded, LeafPlace, LeafRecord, List, Marked,
-    Place, Positions, ShortParts, SizeRecord, SplitList,
+    Place, Planned, Positions, ShortParts, SizeRecord, SplitList,
 };
 pub use refusal::Refusal;
 pub use settings::{Alignment, Priority, Settings, Sides};
 pub use tree::Tree;
 pub use values::{
-    fold, leaf_record, place, places, print_leaf, print_sheet, share, short_splits, short_splits3,
-    short_splits3_in_place, sizes,
+    fold, leaf_record, place, places, plan, print_leaf, print_sheet, share, short_splits,
+    short_splits3, short_splits3_in_place, sizes,
 };
 
 /// The examples of the README are run, too.

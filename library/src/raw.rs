@@ -90,6 +90,14 @@ extern "C" {
         found: *mut u64,
     ) -> u64;
 
+    pub fn leg_plan(
+        settings: *const u8,
+        settings_len: usize,
+        tree: *const u8,
+        tree_len: usize,
+        ends: *mut u32,
+    ) -> u64;
+
     pub fn leg_short_splits3(
         pieces: *const u16,
         pieces_len: usize,

@@ -1,9 +1,9 @@
 //! What the calls answer, as values; `from_numbers` makes them of the numbers that a call on lent lists has written.
 
 use std::fmt;
-use std::ops::Deref;
+use std::ops::{Deref, RangeInclusive};
 
-use crate::calls::{CUT, FOUND, LENT_CUT, LIST, PIECES, PLACE, RECORD, SIZES};
+use crate::calls::{CUT, ENDS, FOUND, LENT_CUT, LIST, PIECES, PLACE, RECORD, SIZES};
 
 /// A node's size, and how many nodes are below it.
 #[derive(Debug, Clone, Copy, Default, PartialEq, Eq, Hash)]
@@ -281,6 +281,29 @@ impl Folded {
             height,
             tries,
             miss,
+        }
+    }
+}
+
+/// How large a planned sheet will be, its margin included: whatever texts within the ranges are put in, it lies between these ends, and each of them is reached by
+/// some texts.
+#[derive(Debug, Clone, PartialEq, Eq, Hash)]
+pub struct Planned {
+    /// The columns of the sheet.
+    pub width: RangeInclusive<usize>,
+    /// The lines of the sheet.
+    pub height: RangeInclusive<usize>,
+}
+
+impl Planned {
+    /// What [`calls::plan`](crate::calls::plan) has written.
+    #[must_use]
+    pub fn from_numbers(ends: [u32; ENDS]) -> Planned {
+        let [least_width, greatest_width, least_height, greatest_height] =
+            ends.map(|number| number as usize);
+        Planned {
+            width: least_width..=greatest_width,
+            height: least_height..=greatest_height,
         }
     }
 }

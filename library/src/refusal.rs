@@ -69,6 +69,7 @@ refusals! {
     14 TooManyPlaces "there are over 256 places",
     15 NotAList "the tree is no Column of 1 to 200 Cells",
     16 TooWide "a cell is wider than the given width",
+    17 BadRange "a range has a least above its greatest, or no line",
 }
 
 impl Refusal {
@@ -97,7 +98,7 @@ mod tests {
     #[test]
     fn the_table_is_by_number() {
         let numbers = Refusal::TABLE.iter().map(|refusal| refusal.number());
-        assert!(numbers.eq((1..=16).filter(|&number| number != 7)));
+        assert!(numbers.eq((1..=17).filter(|&number| number != 7)));
         for &refusal in Refusal::TABLE {
             assert_eq!(Refusal::of_word(u64::from(refusal.number()) << 32), refusal);
         }

@@ -98,31 +98,29 @@ impl Tree {
         element(&mut &bytes[..])
     }
 
-    fn tag(&self) -> u8 {
-        match self {
-            Tree::Cell(_) => 1,
-            Tree::Row(_) => 2,
-            Tree::Column(_) => 3,
-        }
-    }
-
-    /// Puts the element behind the bytes, as far as they are not too many for a tree yet. Too many are refused for that alone, so that it does not matter then
-    /// which length stands where.
     fn put(&self, bytes: &mut Vec<u8>) {
-        if bytes.len() > BYTES {
-            return;
-        }
-        let start = bytes.len() + 3;
-        bytes.extend([self.tag(), 0, 0]);
+        let list = |bytes: &mut Vec<u8>, children: &[Tree]| {
+            children.iter().for_each(|child| child.put(bytes));
+        };
         match self {
-            Tree::Cell(text) => bytes.extend(text.bytes()),
-            Tree::Row(children) | Tree::Column(children) => {
-                children.iter().for_each(|child| child.put(bytes));
-            }
+            Tree::Cell(text) => put(bytes, 1, |bytes| bytes.extend(text.bytes())),
+            Tree::Row(children) => put(bytes, 2, |bytes| list(bytes, children)),
+            Tree::Column(children) => put(bytes, 3, |bytes| list(bytes, children)),
         }
-        let length = (bytes.len() - start) as u16;
-        bytes[start - 2..start].copy_from_slice(&length.to_be_bytes());
     }
+}
+
+/// Puts an element behind the bytes, as far as they are not too many for a tree yet. Too many are refused for that alone, so that it does not matter then
+/// which length stands where.
+pub(crate) fn put(bytes: &mut Vec<u8>, tag: u8, contents: impl FnOnce(&mut Vec<u8>)) {
+    if bytes.len() > BYTES {
+        return;
+    }
+    let start = bytes.len() + 3;
+    bytes.extend([tag, 0, 0]);
+    contents(bytes);
+    let length = (bytes.len() - start) as u16;
+    bytes[start - 2..start].copy_from_slice(&length.to_be_bytes());
 }
 
 /// Takes so many bytes off the front.

@@ -2,8 +2,10 @@
 
 use crate::calls::{self, CUT, LENT_CUT, LIST};
 use crate::input::Input;
+use crate::plan::Plan;
 use crate::records::{
-    CutAnswer, CutParts, Folded, LeafPlace, LeafRecord, List, Marked, Place, ShortParts, SizeRecord,
+    CutAnswer, CutParts, Folded, LeafPlace, LeafRecord, List, Marked, Place, Planned, ShortParts,
+    SizeRecord,
 };
 use crate::refusal::Refusal;
 use crate::settings::{Priority, Settings};
@@ -175,6 +177,28 @@ pub fn fold(
     budget: usize,
 ) -> Result<Folded, Refusal> {
     on_bytes(settings, tree, |input| input.fold(width, budget))
+}
+
+/// How large a sheet will be whose texts are not all known yet: whatever texts within the ranges are put in, its columns and lines, the margin included, lie between
+/// the ends, and each end is reached by some texts. A sheet too large to be printed is planned, too.
+///
+/// ```
+/// use leg_sheet::{plan, Plan, Settings};
+///
+/// let name = Plan::range(2..=6, 1..=1);
+/// let planned = plan(&Settings::default(), &Plan::column(["abcd".into(), name]))?;
+/// assert_eq!((planned.width, planned.height), (8..=10, 5..=5));
+/// # Ok::<(), leg_sheet::Refusal>(())
+/// ```
+///
+/// # Errors
+/// 2 to 5, 17.
+pub fn plan(settings: &Settings, plan: &Plan) -> Result<Planned, Refusal> {
+    let input = Input {
+        settings: &settings.to_bytes(),
+        tree: &plan.to_bytes()?,
+    };
+    input.plan()
 }
 
 /// Cuts a list of pieces at a width, a line between neighbours.

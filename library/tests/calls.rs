@@ -1,10 +1,10 @@
 //! The calls on lent buffers by themselves: figure F1 of document 01, refusals, what they leave of a lent output, where the pair of a cut stands, the leaves of
-//! places, a list folded, and priorities that no settings have.
+//! places, a list folded, a sheet planned, and priorities that no settings have.
 
 use leg_sheet::calls::{
-    fold, leaf_record, place, places, print_sheet, read_margin, read_settings, share,
-    short_splits3, short_splits3_lent, sizes, CELLS, CUT, FOUND, LENT_CUT, LIST, MARGIN, PLACE,
-    RECORD, SETTINGS, SIZES,
+    fold, leaf_record, place, places, plan, print_leaf, print_sheet, read_margin, read_settings,
+    read_tree, share, short_splits3, short_splits3_lent, sizes, CELLS, CUT, ENDS, FOUND, LENT_CUT,
+    LIST, MARGIN, PLACE, RECORD, SETTINGS, SIZES,
 };
 use leg_sheet::{Place, Refusal};
 
@@ -223,6 +223,62 @@ fn a_list_has_200_cells() {
     assert_eq!((columns, found), ([1; CELLS], [1, 398, 0]));
     let refused = fold(D, &more, 599, 398, &mut columns, &mut found);
     assert_eq!(refused, Err(Refusal::NotAList));
+}
+
+/// A text of 2 to 5 columns and 1 to 3 lines.
+const RANGE: &[u8] = b"\x04\x00\x04\x02\x05\x01\x03";
+
+/// The ends of a range alone, with a margin, and of 511 greatest ones; a refusal leaves all.
+#[test]
+fn a_sheet_is_planned() {
+    let edged = [&D[..], b"\x11\x00\x08\x01\x02\x03\x04lrtb"].concat();
+    let read = |settings: &[u8], tree: &[u8]| {
+        let mut ends = [0xA5A5; ENDS];
+        let answer = plan(settings, tree, &mut ends);
+        (answer.map_err(Refusal::number), ends)
+    };
+    let refused = |number: u8| (Err(number), [0xA5A5; ENDS]);
+    assert_eq!(read(D, RANGE), (Ok(4), [6, 9, 3, 5]));
+    assert_eq!(read(&edged, RANGE), (Ok(4), [9, 12, 10, 12]));
+    assert_eq!(read(D, AB), (Ok(4), [6, 6, 3, 3]));
+    let greatest = b"\x04\x00\x04\xFF\xFF\xFF\xFF".repeat(511);
+    let row = [b"\x02\x0D\xF9", &greatest[..]].concat();
+    assert_eq!(read(D, &row), (Ok(4), [131_839, 131_839, 257, 257]));
+
+    assert_eq!(read(&D[..30], RANGE), refused(1));
+    assert_eq!(read(D, &RANGE[..6]), refused(2));
+    assert_eq!(read(D, b"\x04\x00\x03\x00\x00\x01"), refused(2));
+    assert_eq!(read(D, b"\x01\x00\x01\x09"), refused(3));
+    assert_eq!(read(D, b"\x04\x00\x04\x03\x02\x01\x01"), refused(17));
+    assert_eq!(read(D, b"\x04\x00\x04\x00\x00\x02\x01"), refused(17));
+    assert_eq!(read(D, b"\x04\x00\x04\x00\x00\x00\x01"), refused(17));
+    // The first fault in node order.
+    let (bad, tab) = (
+        &b"\x04\x00\x04\x03\x02\x01\x01"[..],
+        &b"\x01\x00\x01\x09"[..],
+    );
+    let row = |elements: [&[u8]; 2]| [b"\x02\x00\x0B", &elements.concat()[..]].concat();
+    assert_eq!(read(D, &row([bad, tab])), refused(17));
+    assert_eq!(read(D, &row([tab, bad])), refused(3));
+}
+
+/// Every other call refuses a range with 2.
+#[test]
+fn a_range_is_no_tree() {
+    let (mut bytes, mut numbers, mut read) = ([0; 99], [0; RECORD], 0);
+    let mut found = [0; FOUND];
+    for answer in [
+        read_tree(RANGE),
+        sizes(D, RANGE, &mut numbers),
+        leaf_record(D, RANGE, 0, &mut numbers),
+        print_leaf(D, RANGE, 0, &mut bytes),
+        print_sheet(D, RANGE, &mut bytes),
+        place(D, RANGE, 0, 0, &mut numbers),
+        places(D, RANGE, &[], &mut [], &mut read),
+        fold(D, RANGE, 9, 9, &mut numbers, &mut found),
+    ] {
+        assert_eq!(answer, Err(Refusal::BadTree));
+    }
 }
 
 /// The header: 'Priority 0 is First, 1 Last, 2 and every other number List.'

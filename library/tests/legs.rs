@@ -6,6 +6,9 @@ use std::process::{Command, Output, Stdio};
 /// Figure F2 of document 01.
 const FIGURE_2: &str = "1--------2\n( abcdef )\n7----3---8\n( a  ( b )\n4____6___5\n";
 
+/// The record of the defaults.
+const DEFAULTS: &[u8; 31] = b"\x10\x00\x1C--||-|+++++++++\x01\x01\x00\x00    \x00\x00\x00\x01\x02";
+
 /// Runs the command with these words, in the folder of the examples, and this on standard input.
 fn legs(words: &[&str], input: &[u8]) -> Output {
     let mut child = Command::new(env!("CARGO_BIN_EXE_legs"))
@@ -196,11 +199,62 @@ fn folds_are_refused() {
     fails(&["fold", "list.legs", "16", "0"], narrow, 1);
 
     // A Row of 200 Columns fits the width, but no sheet.
-    let settings = b"\x10\x00\x1C--||-|+++++++++\x01\x01\x00\x00    \x00\x00\x00\x01\x02";
-    let list = [&settings[..], b"\x03\x02\x58", &b"\x01\x00\x00".repeat(200)].concat();
+    let list = [&DEFAULTS[..], b"\x03\x02\x58", &b"\x01\x00\x00".repeat(200)].concat();
     let (_, message, status) = said(&["fold", "-", "600"], &list);
     assert!(message.contains("standard input: refused 6"), "{message}");
     assert_eq!(status, Some(1));
+}
+
+#[test]
+fn plan() {
+    answers(
+        &["plan", "flight.plan"],
+        "columns: 32 to 47\nlines: 12 to 16\n",
+    );
+    answers(&["plan", "figure2.legs"], "columns: 10\nlines: 5\n");
+    answers(
+        &["plan", "refused.legs"],
+        "columns: 406\nlines: 3\n\
+         too large with any texts: a sheet has up to 400 columns and 160 lines\n",
+    );
+    let planned = |range: &[u8; 4], answer: &str| {
+        let input = [&DEFAULTS[..], b"\x04\x00\x04", range].concat();
+        let answered = (answer.into(), String::new(), Some(0));
+        assert_eq!(said(&["plan", "-"], &input), answered);
+    };
+    planned(b"\x00\xFF\x01\x9E", "columns: 4 to 259\nlines: 3 to 160\n");
+    planned(
+        b"\x00\xFF\x01\x9F",
+        "columns: 4 to 259\nlines: 3 to 161\n\
+         too large with some texts: a sheet has up to 400 columns and 160 lines\n",
+    );
+    planned(
+        b"\x00\x00\x9F\xA0",
+        "columns: 4\nlines: 161 to 162\n\
+         too large with any texts: a sheet has up to 400 columns and 160 lines\n",
+    );
+}
+
+/// A range that is none, and a range where a tree belongs.
+#[test]
+fn plans_are_refused() {
+    let bad = [&DEFAULTS[..], b"\x04\x00\x04\x03\x02\x01\x01"].concat();
+    let (_, message, status) = said(&["plan", "-"], &bad);
+    let range = "refused 17: a range has a least above its greatest, or no line";
+    assert_eq!(message, format!("legs: standard input: {range}\n"));
+    assert_eq!(status, Some(1));
+    for words in [
+        &["print", "flight.plan"][..],
+        &["sizes", "flight.plan"],
+        &["leaf", "flight.plan", "0"],
+        &["place", "flight.plan", "0", "0"],
+        &["mark", "flight.plan"],
+        &["fold", "flight.plan", "60"],
+    ] {
+        let (_, message, status) = said(words, b"");
+        assert!(message.contains("flight.plan: refused 2: "), "{message}");
+        assert_eq!(status, Some(1));
+    }
 }
 
 #[test]
@@ -259,6 +313,7 @@ fn help() {
         "place FILE LINE COLUMN",
         "mark FILE",
         "fold FILE WIDTH [BUDGET]",
+        "plan FILE",
         "check FILE",
     ] {
         assert!(answer.contains(&format!("  legs {command} ")), "{command}");
@@ -291,6 +346,8 @@ fn usage() {
         &["fold", "a", "1", "2", "3"],
         "legs fold FILE WIDTH [BUDGET]",
     );
+    fails(&["plan"], "legs plan FILE");
+    fails(&["plan", "a", "b"], "legs plan FILE");
     fails(
         &["fold", "list.legs", "60", "x"],
         "\"x\" is no number from 0 on",

@@ -1,9 +1,11 @@
 //! Settings and trees as values, and what the calls on them answer.
 
+use std::ops::RangeInclusive;
+
 use leg_sheet::{
-    fold, leaf_record, next_sibling, place, places, print_leaf, print_sheet, share, short_splits,
-    short_splits3, short_splits3_in_place, sizes, Alignment, CutPair, Folded, Input, LeafPlace,
-    Marked, Place, Priority, Refusal, Settings, Sides, SizeRecord, Tree,
+    fold, leaf_record, next_sibling, place, places, plan, print_leaf, print_sheet, share,
+    short_splits, short_splits3, short_splits3_in_place, sizes, Alignment, CutPair, Folded, Input,
+    LeafPlace, Marked, Place, Plan, Planned, Priority, Refusal, Settings, Sides, SizeRecord, Tree,
 };
 
 /// The record of the defaults.
@@ -504,6 +506,103 @@ fn the_row_of_a_fold() {
     assert_eq!(Tree::from("a").folded(&[]), None);
 }
 
+/// The least and the greatest columns, then lines; or the number.
+fn planned(settings: &Settings, tree: &Plan) -> Result<[RangeInclusive<usize>; 2], u8> {
+    plan(settings, tree)
+        .map(|Planned { width, height }| [width, height])
+        .map_err(Refusal::number)
+}
+
+/// Document 02, 10: the ends of ranges alone and in groups.
+#[test]
+fn sheets_are_planned() {
+    let (d, name) = (Settings::default(), Plan::range(2..=5, 1..=3));
+    let pair = Plan::row([Plan::range(1..=2, 1..=4), Plan::range(0..=9, 2..=3)]);
+    let beside = |width: RangeInclusive<u8>| {
+        let range = Plan::range(width, 1..=1);
+        Plan::column(["abcd".into(), range])
+    };
+    for (tree, width, height) in [
+        (name.clone(), 6..=9, 3..=5),
+        (Plan::range(0..=0, 1..=1), 4..=4, 3..=3),
+        (Plan::range(3..=3, 2..=2), 7..=7, 4..=4),
+        (beside(2..=6), 8..=10, 5..=5),
+        (beside(0..=3), 8..=8, 5..=5),
+        (pair, 8..=18, 4..=6),
+        ("ab".into(), 6..=6, 3..=3),
+        (Plan::Row(vec![]), 4..=4, 3..=3),
+        (figure_2().into(), 10..=10, 5..=5),
+    ] {
+        assert_eq!(planned(&d, &tree), Ok([width, height]), "{tree:?}");
+    }
+
+    let edged = Sides {
+        left: 1,
+        right: 2,
+        top: 3,
+        bottom: 4,
+    };
+    let edged = d.with_margin(edged).expect("within the ranges");
+    assert_eq!(planned(&edged, &name), Ok([9..=12, 10..=12]));
+
+    // Nothing is too large, and the numbers are past 16 bits.
+    let greatest = Plan::range(255..=255, 255..=255);
+    let row = Plan::row(vec![greatest; 511]);
+    assert_eq!(planned(&d, &row), Ok([131_839..=131_839, 257..=257]));
+}
+
+/// Document 02, 10: 17 'in the element's turn after depth and count'.
+#[test]
+fn other_ranges_are_not_planned() {
+    let d = Settings::default();
+    let number = |tree: &Plan| planned(&d, tree).expect_err("a refusal");
+    let (one, down) = (1..=1, RangeInclusive::new(2, 1));
+    let bad = Plan::range(down.clone(), one.clone());
+    assert_eq!(number(&bad), 17);
+    assert_eq!(number(&Plan::range(one.clone(), down)), 17);
+    assert_eq!(number(&Plan::range(one, 0..=1)), 17);
+    assert_eq!(bad.to_bytes(), Err(Refusal::BadRange));
+
+    assert_eq!(number(&Plan::row([bad.clone(), "\t".into()])), 17);
+    assert_eq!(number(&Plan::row(["\t".into(), bad.clone()])), 3);
+    let deep = (1..17).fold(bad.clone(), |inner, _| Plan::row([inner]));
+    assert_eq!(number(&deep), 5);
+    let many = vec![""; 511].into_iter().map(Plan::from);
+    assert_eq!(number(&Plan::row(many.chain([bad]))), 4);
+    assert_eq!(number(&"x".repeat(32_766).into()), 2);
+}
+
+/// A tree's bytes are those of its planning tree.
+#[test]
+fn a_tree_is_a_plan() {
+    for tree in [figure_2(), Tree::from("two\nlines"), Tree::Column(vec![])] {
+        assert_eq!(Plan::from(tree.clone()).to_bytes(), tree.to_bytes());
+    }
+}
+
+/// The sheet of each choice of two texts lies between the ends, and they are reached.
+#[test]
+fn the_sheets_of_a_plan() {
+    let settings = Settings::default();
+    let late = Plan::row([Plan::range(0..=3, 1..=2), Plan::range(4..=6, 1..=3)]);
+    let tree = Plan::column(["abcdefgh".into(), late]);
+    let Planned { width, height } = plan(&settings, &tree).expect("a plan");
+    let text = |width: usize, lines: usize| "x".repeat(width) + &"\n".repeat(lines - 1);
+    let mut seen = Vec::new();
+    for (a, b) in (0..=3).flat_map(|a| (4..=6).map(move |b| (a, b))) {
+        for (m, n) in (1..=2).flat_map(|m| (1..=3).map(move |n| (m, n))) {
+            let row = Tree::row([text(a, m), text(b, n)]);
+            let sheet = print_sheet(&settings, &Tree::column(["abcdefgh".into(), row]));
+            let sheet = sheet.expect("a sheet");
+            let columns = sheet.lines().next().map_or(0, str::len);
+            seen.push((columns, sheet.lines().count()));
+        }
+    }
+    let (columns, lines): (Vec<usize>, Vec<usize>) = seen.into_iter().unzip();
+    let ends = |list: Vec<usize>| Some(*list.iter().min()?..=*list.iter().max()?);
+    assert_eq!((ends(columns), ends(lines)), (Some(width), Some(height)));
+}
+
 /// Document 02, 8: a zero-wide leaf prints its marks around no columns.
 #[test]
 fn a_remark_left_blank() {
@@ -594,6 +693,7 @@ fn every_call_is_refused() {
     assert_eq!(places(&settings, &wide, &many), Err(Refusal::TooLarge));
     assert_eq!(fold(&settings, &bad, 9, 9), Err(Refusal::BadText));
     assert_eq!(fold(&settings, &group, 9, 9), Err(Refusal::NotAList));
+    assert_eq!(plan(&settings, &bad.into()), Err(Refusal::BadText));
     assert_eq!(share(7, 0, Priority::List, 0), Err(Refusal::NoChild));
     assert_eq!(short_splits3(&[1; 513], 0), Err(Refusal::TooManyPieces));
     assert_eq!(short_splits(&[1; 513], 0), Err(Refusal::TooManyPieces));

@@ -3,7 +3,7 @@
 //!
 //! On a refusal every field beside the number is 0 or no, and no lent list or output is written.
 
-use crate::form::{CutPair, Flags, Margin, Owner, Settings};
+use crate::form::{CutPair, Ends, Flags, Margin, Owner, Settings};
 use crate::judge;
 
 /// A number and the settings.
@@ -117,6 +117,13 @@ pub struct Folded {
     pub miss: usize,
 }
 
+/// A number, and the least and the greatest W and H.
+#[derive(Debug, Clone, Copy, Default, PartialEq, Eq)]
+pub struct Planned {
+    pub number: u8,
+    pub ends: Ends,
+}
+
 /// What `short_splits3` answers.
 #[derive(Debug, Clone, PartialEq, Eq)]
 pub struct CutParts {
@@ -196,6 +203,9 @@ pub trait Calls {
         budget: usize,
         columns: &mut [u16],
     ) -> Folded;
+
+    /// The ends of W and H, of the bytes of a planning tree.
+    fn plan(&mut self, settings: &[u8], tree: &[u8]) -> Planned;
 
     fn short_splits3(&mut self, list: &SplitList, width: u16) -> CutParts;
 

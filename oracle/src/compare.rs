@@ -6,7 +6,7 @@ use std::fmt;
 use crate::calls::{Calls, SizeRecord, SplitList};
 use crate::folding;
 use crate::form::{
-    encode_margin, encode_settings, encode_tree, Fold, Margin, Owner, Settings, Tree,
+    encode_margin, encode_plan, encode_settings, encode_tree, Fold, Margin, Owner, Settings, Tree,
 };
 use crate::gen::{self, Case, Margins, Rng};
 use crate::judge;
@@ -51,7 +51,7 @@ impl Counts {
 }
 
 /// The numbers that each call can give, by the documents' tables.
-pub const NUMBERS: [(&str, &[u8]); 14] = [
+pub const NUMBERS: [(&str, &[u8]); 15] = [
     ("settings", &[0, 1]),
     ("margin", &[0, 1]),
     ("tree", &[0, 2, 3, 4, 5]),
@@ -62,6 +62,7 @@ pub const NUMBERS: [(&str, &[u8]); 14] = [
     ("place", &[0, 1, 2, 3, 4, 5, 6, 12, 13]),
     ("places", &[0, 1, 2, 3, 4, 5, 6, 8, 12, 13, 14]),
     ("fold", &[0, 1, 2, 3, 4, 5, 8, 15, 16]),
+    ("plan", &[0, 1, 2, 3, 4, 5, 17]),
     ("short_splits3", &[0, 10]),
     ("short_splits3, lent", &[0, 10]),
     ("short_splits", &[0, 10]),
@@ -95,7 +96,7 @@ pub type Part = (
     fn(&mut Comparison, &mut Rng, usize) -> Result<(), Difference>,
 );
 
-pub const PARTS: [Part; 16] = [
+pub const PARTS: [Part; 20] = [
     ("settings records", |c, _, _| c.settings_records()),
     ("short and faulty trees", |c, _, _| c.faulty_trees()),
     ("all trees of up to 5 nodes", |c, _, _| {
@@ -127,6 +128,16 @@ pub const PARTS: [Part; 16] = [
     ("folds of lists", |c, rng, rounds| c.folds(rng, 30 * rounds)),
     ("folds of damaged bytes", |c, rng, rounds| {
         c.any_folds(rng, 300 * rounds)
+    }),
+    ("short and faulty planning trees", |c, _, _| {
+        c.faulty_plans(7)
+    }),
+    ("plans of all trees of up to 4 nodes", |c, _, _| {
+        c.small_plans(4, &gen::few_settings())
+    }),
+    ("plans", |c, rng, rounds| c.plans(rng, 100 * rounds)),
+    ("plans of damaged bytes", |c, rng, rounds| {
+        c.any_plans(rng, 300 * rounds)
     }),
 ];
 
@@ -459,6 +470,18 @@ impl<'a> Comparison<'a> {
         Ok(())
     }
 
+    /// The ends of a planning tree.
+    fn plan(&mut self, settings: &[u8], tree: &[u8]) -> Result<(), Difference> {
+        self.call(
+            "plan",
+            || format!("{} {}", bytes(settings), bytes(tree)),
+            |side| {
+                let answer = side.plan(settings, tree);
+                (answer.number, answer)
+            },
+        )
+    }
+
     /// Every call, once.
     pub fn case(&mut self, case: &Case) -> Result<(), Difference> {
         let (settings, tree) = (&case.settings, &case.tree);
@@ -664,6 +687,51 @@ impl<'a> Comparison<'a> {
             };
             let length = gen::around(rng, needed);
             self.fold(&settings, &tree, (width, budget), length)?;
+        }
+        Ok(())
+    }
+
+    /// All bytes of up to `most` that look like a planning tree; elements with several faults, ranges of every byte; trees too long.
+    pub fn faulty_plans(&mut self, most: usize) -> Result<(), Difference> {
+        let settings = encode_settings(&Settings::M);
+        let long = gen::plan_faults().into_iter().chain(gen::long_trees());
+        for bytes in gen::short_bytes(most).chain(gen::faults()).chain(long) {
+            self.plan(&settings, &bytes)?;
+        }
+        Ok(())
+    }
+
+    /// Every planning tree of up to `nodes` nodes with a few texts and ranges, under each of the settings.
+    pub fn small_plans(&mut self, nodes: usize, settings: &[Settings]) -> Result<(), Difference> {
+        for plan in (1..=nodes).flat_map(gen::small_plans) {
+            for settings in settings {
+                self.plan(&encode_settings(settings), &encode_plan(&plan))?;
+            }
+        }
+        Ok(())
+    }
+
+    /// The greatest planning trees, then so many random ones.
+    pub fn plans(&mut self, rng: &mut Rng, rounds: usize) -> Result<(), Difference> {
+        for (settings, plan) in gen::great_plans() {
+            self.plan(&encode_settings(&settings), &encode_plan(&plan))?;
+        }
+        for _ in 0..rounds {
+            let (settings, plan) = gen::plan(rng);
+            self.plan(&encode_settings(&settings), &encode_plan(&plan))?;
+        }
+        Ok(())
+    }
+
+    /// So many planning trees of any kind, damaged bytes among them; each is handed to every other call, too, which takes no range.
+    pub fn any_plans(&mut self, rng: &mut Rng, rounds: usize) -> Result<(), Difference> {
+        for _ in 0..rounds {
+            let (settings, tree) = gen::any_plan(rng);
+            self.plan(&settings, &tree)?;
+            self.fold(&settings, &tree, (usize::MAX, 9), 1)?;
+            let case = gen::case(rng, settings, tree);
+            self.case(&case)?;
+            self.any_places(rng, &case)?;
         }
         Ok(())
     }

@@ -124,6 +124,66 @@ impl Tree {
     }
 }
 
+/// Texts that are to come (document 02, 10): 'least and greatest text width, then least and greatest line count, a byte each'.
+#[derive(Debug, Clone, Copy, PartialEq, Eq)]
+pub struct Range {
+    pub width: [u8; 2],
+    pub lines: [u8; 2],
+}
+
+/// A planning tree: a tree that has ranges, too.
+#[derive(Debug, Clone, PartialEq, Eq)]
+pub enum Plan {
+    Cell(Vec<u8>),
+    Range(Range),
+    Row(Vec<Plan>),
+    Column(Vec<Plan>),
+}
+
+impl Plan {
+    /// A tree, with what `leaf` makes of each text in its Cell's place.
+    pub fn of(tree: &Tree, leaf: &mut impl FnMut(&[u8]) -> Plan) -> Plan {
+        let mut list = |children: &[Tree]| children.iter().map(|c| Plan::of(c, leaf)).collect();
+        match tree {
+            Tree::Cell(text) => leaf(text),
+            Tree::Row(children) => Plan::Row(list(children)),
+            Tree::Column(children) => Plan::Column(list(children)),
+        }
+    }
+
+    /// The tree with the next of these texts in each range's place.
+    pub fn with(&self, texts: &mut impl Iterator<Item = Vec<u8>>) -> Tree {
+        let mut list = |children: &[Plan]| children.iter().map(|c| c.with(texts)).collect();
+        match self {
+            Plan::Cell(text) => Tree::Cell(text.clone()),
+            Plan::Range(_) => Tree::Cell(texts.next().expect("a text for each range")),
+            Plan::Row(children) => Tree::Row(list(children)),
+            Plan::Column(children) => Tree::Column(list(children)),
+        }
+    }
+
+    /// Its Cells and ranges in node order.
+    pub fn cells_mut(&mut self) -> Vec<&mut Plan> {
+        match self {
+            Plan::Cell(_) | Plan::Range(_) => vec![self],
+            Plan::Row(children) | Plan::Column(children) => {
+                children.iter_mut().flat_map(Plan::cells_mut).collect()
+            }
+        }
+    }
+
+    /// Its ranges in node order.
+    pub fn ranges(&self) -> Vec<Range> {
+        match self {
+            Plan::Cell(_) => Vec::new(),
+            Plan::Range(range) => vec![*range],
+            Plan::Row(children) | Plan::Column(children) => {
+                children.iter().flat_map(Plan::ranges).collect()
+            }
+        }
+    }
+}
+
 /// The first field's 31 bytes, and the second's 11 where there is a margin.
 pub fn encode_settings(settings: &Settings) -> Vec<u8> {
     let mut bytes = encode_record(settings);
@@ -176,6 +236,24 @@ pub fn encode_tree(tree: &Tree) -> Vec<u8> {
     let mut bytes = Vec::with_capacity(tree.bytes());
     put(tree, &mut bytes);
     bytes
+}
+
+/// A tag, a two-byte length and the contents. Panics where these are too long for it.
+pub fn encode_element(tag: u8, contents: &[u8]) -> Vec<u8> {
+    let length = u16::try_from(contents.len()).expect("a length has two bytes");
+    [&[tag][..], &length.to_be_bytes(), contents].concat()
+}
+
+/// 'In a planning tree an element of tag 4, length 4' is a range. Panics as `encode_tree` does.
+pub fn encode_plan(plan: &Plan) -> Vec<u8> {
+    let list = |children: &[Plan]| children.iter().flat_map(encode_plan).collect();
+    let (tag, contents) = match plan {
+        Plan::Cell(text) => (1, text.clone()),
+        Plan::Row(children) => (2, list(children)),
+        Plan::Column(children) => (3, list(children)),
+        Plan::Range(Range { width, lines }) => (4, [*width, *lines].concat()),
+    };
+    encode_element(tag, &contents)
 }
 
 /// The five numbers of a node.
@@ -247,6 +325,13 @@ pub struct Fold {
     pub columns: Vec<usize>,
     /// The Row's width inside: the Columns' and the separators between them.
     pub width: usize,
+}
+
+/// The least and the greatest W and H of a planning tree.
+#[derive(Debug, Clone, Copy, Default, PartialEq, Eq)]
+pub struct Ends {
+    pub width: [usize; 2],
+    pub height: [usize; 2],
 }
 
 /// What there is to know of one table.

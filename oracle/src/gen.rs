@@ -1,6 +1,9 @@
 //! Inputs: exhaustive small ones, random ones, those on each side of each limit, damaged ones.
 
-use crate::form::{encode_settings, encode_tree, Fold, Margin, Settings, Tree};
+use crate::form::{
+    encode_element, encode_plan, encode_settings, encode_tree, Fold, Margin, Plan, Range, Settings,
+    Tree,
+};
 use crate::judge;
 use crate::paper;
 
@@ -194,30 +197,71 @@ pub fn short_bytes(most: usize) -> impl Iterator<Item = Vec<u8>> {
     })
 }
 
-fn element(tag: u8, contents: &[u8]) -> Vec<u8> {
-    let length = u16::try_from(contents.len()).expect("a length has two bytes");
-    [&[tag][..], &length.to_be_bytes(), contents].concat()
-}
+/// Elements with a fault or none.
+const LASTS: [&[u8]; 8] = [
+    b"\x01\x00\x00",
+    b"\x02\x00\x00",
+    b"\x01\x00\x01a",
+    b"\x01\x00\x01\x07",
+    b"\x07\x00\x00",
+    b"\x01\x00\x02a",
+    b"\x01\x00",
+    b"\x01",
+];
+
+/// Elements of tag 4 with a fault or none: the good ones first, then a least above its greatest, no line, a wrong length, too few bytes.
+const RANGES: [&[u8]; 9] = [
+    b"\x04\x00\x04\x00\x00\x01\x01",
+    b"\x04\x00\x04\x02\x05\x01\x03",
+    b"\x04\x00\x04\x03\x02\x01\x01",
+    b"\x04\x00\x04\x00\x00\x02\x01",
+    b"\x04\x00\x04\x00\x00\x00\x01",
+    b"\x04\x00\x03\x00\x00\x01",
+    b"\x04\x00\x05\x00\x00\x01\x01\x01",
+    b"\x04\x01\x04\x00\x00\x01\x01",
+    b"\x04\x00\x04\x00\x00\x01",
+];
 
 /// Elements with a fault or none, each as node 512 or 513, at depth 16 or 17, both or neither: behind so many Cells of a Row, inside so
 /// many Rows more.
 pub fn faults() -> Vec<Vec<u8>> {
-    let lasts: [&[u8]; 8] = [
-        b"\x01\x00\x00",
-        b"\x02\x00\x00",
-        b"\x01\x00\x01a",
-        b"\x01\x00\x01\x07",
-        b"\x07\x00\x00",
-        b"\x01\x00\x02a",
-        b"\x01\x00",
-        b"\x01",
-    ];
+    faults_of(&LASTS)
+}
+
+/// The same of ranges; then Rows of two elements, a range among them, each with a fault or none; then ranges of every byte, and of the least and greatest ones.
+pub fn plan_faults() -> Vec<Vec<u8>> {
+    let mut list = faults_of(&RANGES);
+    for range in RANGES {
+        for other in [&LASTS[..], &RANGES].concat() {
+            list.push(encode_element(2, &[range, other].concat()));
+            list.push(encode_element(2, &[other, range].concat()));
+        }
+    }
+    for at in 0..4 {
+        for byte in 0..=255 {
+            let mut contents = [7; 4];
+            contents[at] = byte;
+            list.push(encode_element(4, &contents));
+        }
+    }
+    const FEW: [u8; 5] = [0, 1, 2, 254, 255];
+    for number in 0..FEW.len().pow(4) {
+        let digit = |at: u32| FEW[number / FEW.len().pow(at) % FEW.len()];
+        list.push(encode_element(4, &[0, 1, 2, 3].map(digit)));
+    }
+    list
+}
+
+fn faults_of(lasts: &[&[u8]]) -> Vec<Vec<u8>> {
     let mut list = Vec::new();
     for cells in [0, 495, 496, 497, 498, 509, 510, 511, 512] {
         for rows in [0, 1, 13, 14, 15] {
             for last in lasts {
-                let inner = (0..rows).fold(last.to_vec(), |inner, _| element(2, &inner));
-                list.push(element(2, &[[1, 0, 0].repeat(cells), inner].concat()));
+                let inner = (0..rows).fold(last.to_vec(), |inner, _| encode_element(2, &inner));
+                list.push(encode_element(
+                    2,
+                    &[[1, 0, 0].repeat(cells), inner].concat(),
+                ));
             }
         }
     }
@@ -230,7 +274,7 @@ pub fn long_trees() -> Vec<Vec<u8>> {
     let mut list = Vec::new();
     for text in [32_764, 32_765, 32_766, 65_535] {
         for byte in [b'a', 0x07] {
-            let tree = element(1, &vec![byte; text]);
+            let tree = encode_element(1, &vec![byte; text]);
             list.push([&tree[..], &[0]].concat());
             list.push(tree);
         }
@@ -713,6 +757,163 @@ pub fn any_list(rng: &mut Rng) -> (Vec<u8>, Vec<u8>) {
             let case = any_case(rng, Margins::Half);
             (settings, tree) = (case.settings, case.tree);
         }
+        _ => {}
+    }
+    (settings, tree)
+}
+
+// Planning trees
+
+/// Every planning tree of exactly so many nodes whose leaves are empty groups, two texts and three ranges.
+pub fn small_plans(nodes: usize) -> Vec<Plan> {
+    const RANGES: [Range; 3] = [
+        Range {
+            width: [0, 2],
+            lines: [1, 2],
+        },
+        Range {
+            width: [1, 1],
+            lines: [2, 3],
+        },
+        Range {
+            width: [3, 5],
+            lines: [1, 1],
+        },
+    ];
+    let mut leaf = |text: &[u8]| match text {
+        [digit @ b'0'..=b'2'] => Plan::Range(RANGES[usize::from(digit - b'0')]),
+        _ => Plan::Cell(text.to_vec()),
+    };
+    let trees = small_trees(nodes, &["", "e\nfg", "0", "1", "2"]);
+    trees.iter().map(|tree| Plan::of(tree, &mut leaf)).collect()
+}
+
+/// A range whose leasts are no more than `most`, and its greatests no more than `spread` above them.
+fn range(rng: &mut Rng, most: usize, spread: usize) -> Range {
+    let mut ends = |least: usize| {
+        let least = rng.between(least, most.max(least));
+        let greatest = rng.between(least, (least + spread).min(255));
+        [least as u8, greatest as u8]
+    };
+    Range {
+        width: ends(0),
+        lines: ends(1),
+    }
+}
+
+/// Ranges and a Cell that fills up: a planning tree of exactly so many bytes.
+fn plan_of_bytes(rng: &mut Rng, bytes: usize) -> Plan {
+    let ranges = rng.between(1, 40);
+    let range = |_| Plan::Range(range(rng, 255, 255));
+    let mut children: Vec<Plan> = (0..ranges).map(range).collect();
+    let width = rng.pick(&[0, 60, 255, bytes]);
+    let text = long_text(rng, bytes - 3 - 7 * ranges - 3, width);
+    children.insert(rng.between(0, ranges), Plan::Cell(text));
+    rng.pick(&[Plan::Row(children.clone()), Plan::Column(children)])
+}
+
+/// Settings and a planning tree: mostly of a few nodes and small ranges, so that every choice of texts can be tried; else of more, or −2 to 2 from a limit on nodes,
+/// depth or bytes.
+pub fn plan(rng: &mut Rng) -> (Settings, Plan) {
+    let (most, spread) = rng.pick(&[(2, 1), (4, 1), (9, 2), (60, 9), (255, 255)]);
+    let growth = Growth { width: 9, lines: 3 };
+    let (settings, tree) = match rng.below(16) {
+        0 => {
+            let offset = rng.between(0, 4) as isize - 2;
+            let limit = rng.pick(&[Limit::Nodes, Limit::Depth]);
+            near(rng, Margins::Half, limit, offset)
+        }
+        1 => {
+            let bytes = judge::TREE_BYTES - 2 + rng.between(0, 4);
+            return (settings(rng, Margins::Half), plan_of_bytes(rng, bytes));
+        }
+        2..=4 => table(rng, Margins::Half),
+        _ => {
+            let (nodes, depth) = (rng.between(1, 8), rng.between(2, 5));
+            (
+                settings(rng, Margins::Half),
+                tree(rng, nodes, depth, growth),
+            )
+        }
+    };
+    let one_in = rng.pick(&[1, 2, 2, 4]);
+    let mut leaf = |text: &[u8]| {
+        if rng.one_in(one_in) {
+            Plan::Range(range(rng, most, spread))
+        } else {
+            Plan::Cell(text.to_vec())
+        }
+    };
+    (settings, Plan::of(&tree, &mut leaf))
+}
+
+/// As many ranges as there may be, of the greatest texts, with the greatest padding and margin; in the last two one of them is a Cell of all bytes that are left.
+pub fn great_plans() -> Vec<(Settings, Plan)> {
+    let settings = Settings {
+        padding: [16; 4],
+        margin: Margin {
+            sizes: [16; 4],
+            fills: *b"LRTB",
+        },
+        ..Settings::M
+    };
+    let greatest = Plan::Range(Range {
+        width: [0, 255],
+        lines: [1, 255],
+    });
+    let ranges = vec![greatest; judge::NODES - 1];
+    let left = judge::TREE_BYTES - 3 - 7 * (judge::NODES - 2) - 3;
+    let beside = |byte: u8| [&ranges[1..], &[Plan::Cell(vec![byte; left])]].concat();
+    let plans = [
+        Plan::Row(ranges.clone()),
+        Plan::Column(ranges.clone()),
+        Plan::Row(beside(b'w')),
+        Plan::Column(beside(0x0A)),
+    ];
+    plans.map(|plan| (settings, plan)).to_vec()
+}
+
+/// A forbidden text, or a range of any bytes, mostly a faulty one.
+fn bad_cell(rng: &mut Rng) -> Plan {
+    if rng.one_in(3) {
+        return Plan::Cell(vec![rng.pick(b"\x07\x1f\x7f")]);
+    }
+    let mut ends = || [0; 2].map(|_: u8| rng.pick(&[0, 1, 2, 3, 254, 255]));
+    Plan::Range(Range {
+        width: ends(),
+        lines: ends(),
+    })
+}
+
+/// The planning tree with such a one in the place of one or two of its Cells and ranges.
+fn spoilt(rng: &mut Rng, mut plan: Plan) -> Plan {
+    let mut cells = plan.cells_mut();
+    if !cells.is_empty() {
+        for _ in 0..rng.between(1, 2) {
+            let at = rng.below(cells.len());
+            *cells[at] = bad_cell(rng);
+        }
+    }
+    plan
+}
+
+/// The bytes of settings and of a planning tree, mostly with a fault.
+pub fn any_plan(rng: &mut Rng) -> (Vec<u8>, Vec<u8>) {
+    let (settings, plan) = plan(rng);
+    let (mut settings, mut tree) = (encode_settings(&settings), encode_plan(&plan));
+    match rng.below(10) {
+        0 => settings = damaged(rng, &settings),
+        1 | 2 => tree = damaged(rng, &tree),
+        3 => {
+            settings = damaged(rng, &settings);
+            tree = damaged(rng, &tree);
+        }
+        4 | 5 => tree = encode_plan(&spoilt(rng, plan)),
+        6 => {
+            tree = encode_plan(&spoilt(rng, plan));
+            tree = damaged(rng, &tree);
+        }
+        7 => tree = element_like(rng),
         _ => {}
     }
     (settings, tree)

@@ -4,6 +4,7 @@
 use crate::folding;
 use crate::form::{Margin, Settings, Size, Tree};
 use crate::paper;
+use crate::planning;
 
 pub const TREE_BYTES: usize = 32_768;
 pub const NODES: usize = 512;
@@ -402,6 +403,11 @@ pub fn fold(settings: &[u8], tree: &[u8], width: usize, budget: usize, list: usi
         }
         Ok(())
     }))
+}
+
+/// The plan of a sheet.
+pub fn plan(settings: &[u8], tree: &[u8]) -> u8 {
+    number(planning::read(settings, tree))
 }
 
 /// Either cut of a list with so many pieces.

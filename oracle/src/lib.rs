@@ -11,11 +11,13 @@ mod lines;
 pub mod original;
 pub mod paper;
 pub mod places;
+pub mod planning;
+pub mod plans;
 pub mod replay;
 pub mod sides;
 
 pub use form::{
-    encode_margin, encode_settings, encode_tree, Answer, CutPair, Flags, Fold, Leaf, Margin, Owner,
-    Owners, Settings, Size, Tree,
+    encode_margin, encode_plan, encode_settings, encode_tree, Answer, CutPair, Ends, Flags, Fold,
+    Leaf, Margin, Owner, Owners, Plan, Range, Settings, Size, Tree,
 };
 pub use original::{answer, cut, cut3};

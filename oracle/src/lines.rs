@@ -1,7 +1,7 @@
 //! Lines for a test program: what they give, and the crate's answers.
 
-use crate::calls::{Calls, Folded, LeafRecord, Marked, SizeRecord, SplitList};
-use crate::form::Owner;
+use crate::calls::{Calls, Folded, LeafRecord, Marked, Planned, SizeRecord, SplitList};
+use crate::form::{Ends, Owner};
 use crate::judge;
 use crate::sides::Original;
 
@@ -203,6 +203,14 @@ impl Lines {
             'c',
             &format!("{room} {width} {budget}, {found}, {}", words(&cells)),
         );
+    }
+
+    /// The number, then the least and the greatest W, the least and the greatest H.
+    pub fn plan(&mut self) {
+        let Planned { number, ends } = self.original.plan(&self.settings, &self.tree);
+        let Ends { width, height } = ends;
+        let ends = [&[number.into()][..], &width, &height].concat();
+        self.line('e', &words(&ends));
     }
 
     pub fn both(&mut self, node: usize) {

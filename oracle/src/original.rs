@@ -2,8 +2,9 @@
 
 use crate::folding;
 use crate::form::{
-    Answer, Cut, Cut3, CutPair, Flags, Fold, Leaf, Owner, Owners, Settings, Size, Tree,
+    Answer, Cut, Cut3, CutPair, Ends, Flags, Fold, Leaf, Owner, Owners, Plan, Settings, Size, Tree,
 };
+use crate::planning;
 
 /// The same few lines over the types of each of the two builds.
 macro_rules! build {
@@ -311,6 +312,26 @@ pub fn folds(settings: &Settings, cells: &[Tree]) -> Vec<Fold> {
         });
     }
     folds
+}
+
+/// The least and the greatest W and H of a planning tree (document 02, 10), by trying: the original measures the tree of each choice of texts, where there are not too
+/// many, else those of the end choices.
+pub fn ends(settings: &Settings, plan: &Plan) -> Ends {
+    let [left, right, top, bottom] = settings.margin.sizes.map(usize::from);
+    let mut found: Option<Ends> = None;
+    for choice in planning::choices(&plan.ranges()) {
+        let (w, h) = naturals(settings, &planning::chosen(plan, &choice))[0];
+        let (w, h) = (left + 1 + w + 1 + right, top + 1 + h + 1 + bottom);
+        let Ends { width, height } = found.unwrap_or(Ends {
+            width: [w, w],
+            height: [h, h],
+        });
+        found = Some(Ends {
+            width: [width[0].min(w), width[1].max(w)],
+            height: [height[0].min(h), height[1].max(h)],
+        });
+    }
+    found.expect("there is a choice")
 }
 
 /// `short_splits3`. It does not say the pair, but shows it: the pieces taken are counted, and where nothing was removed the list left begins with the

@@ -1,13 +1,15 @@
 //! Two sides of the calls: the crate and the documents. Both refuse as the judge says.
 
 use crate::calls::{
-    Calls, Counted, CutParts, CutPositions, Folded, LeafPlace, LeafRecord, Marked, ReadMargin,
-    ReadSettings, Shared, SizeRecord, SplitList,
+    Calls, Counted, CutParts, CutPositions, Folded, LeafPlace, LeafRecord, Marked, Planned,
+    ReadMargin, ReadSettings, Shared, SizeRecord, SplitList,
 };
 use crate::folding::{self, Chosen};
-use crate::form::{Answer, Cut, Cut3, CutPair, Flags, Fold, Owner, Owners, Settings, Tree};
+use crate::form::{
+    Answer, Cut, Cut3, CutPair, Ends, Flags, Fold, Owner, Owners, Plan, Settings, Tree,
+};
 use crate::judge;
-use crate::{original, paper};
+use crate::{original, paper, planning};
 
 /// Where the answers of a side come from; the refusals are the judge's.
 pub trait Answers {
@@ -16,6 +18,7 @@ pub trait Answers {
     fn owners(&self, settings: &Settings, tree: &Tree, answer: &Answer) -> Owners;
     /// Every fold of a list of Cells, from the one-Column height down to the tallest of them.
     fn folds(&self, settings: &Settings, cells: &[Tree]) -> Vec<Fold>;
+    fn ends(&self, settings: &Settings, plan: &Plan) -> Ends;
     fn cut3(&self, list: &[usize], width: usize) -> Cut3;
     fn cut(&self, list: &[usize], width: usize) -> Cut;
     fn part(&self, spare: usize, n: usize, priority: u8, index: usize) -> usize;
@@ -41,6 +44,10 @@ impl Answers for Crate {
 
     fn folds(&self, settings: &Settings, cells: &[Tree]) -> Vec<Fold> {
         original::folds(settings, cells)
+    }
+
+    fn ends(&self, settings: &Settings, plan: &Plan) -> Ends {
+        original::ends(settings, plan)
     }
 
     fn cut3(&self, list: &[usize], width: usize) -> Cut3 {
@@ -71,6 +78,10 @@ impl Answers for Document {
 
     fn folds(&self, settings: &Settings, cells: &[Tree]) -> Vec<Fold> {
         folding::folds(settings, cells)
+    }
+
+    fn ends(&self, settings: &Settings, plan: &Plan) -> Ends {
+        planning::ends(settings, plan)
     }
 
     fn cut3(&self, list: &[usize], width: usize) -> Cut3 {
@@ -391,6 +402,19 @@ impl<A: Answers> Calls for Side<A> {
                 number,
                 ..Folded::default()
             })
+    }
+
+    fn plan(&mut self, settings: &[u8], tree: &[u8]) -> Planned {
+        match planning::read(settings, tree) {
+            Ok((settings, plan)) => Planned {
+                number: 0,
+                ends: self.answers.ends(&settings, &plan),
+            },
+            Err(number) => Planned {
+                number,
+                ..Planned::default()
+            },
+        }
     }
 
     fn short_splits3(&mut self, list: &SplitList, width: u16) -> CutParts {

@@ -1,13 +1,16 @@
 //! The crate against documents 01 and 02, and what the oracle itself rests on. `oracle agree` does more of the first.
 
 use oracle::calls::{
-    Calls, Counted, CutParts, CutPositions, Folded, LeafPlace, LeafRecord, Marked, ReadMargin,
-    ReadSettings, Shared, SizeRecord, SplitList,
+    Calls, Counted, CutParts, CutPositions, Folded, LeafPlace, LeafRecord, Marked, Planned,
+    ReadMargin, ReadSettings, Shared, SizeRecord, SplitList,
 };
 use oracle::compare::{Comparison, Difference, NUMBERS};
 use oracle::gen::{self, Margins, Rng};
 use oracle::sides::{Original, Paper};
-use oracle::{folding, judge, original, paper, CutPair, Fold, Margin, Owner, Settings, Tree};
+use oracle::{
+    folding, judge, original, paper, planning, CutPair, Ends, Fold, Margin, Owner, Plan, Range,
+    Settings, Tree,
+};
 
 fn agree(run: impl Fn(&mut Comparison) -> Result<(), Difference>) {
     let (mut one, mut other) = (Original::default(), Paper::default());
@@ -68,6 +71,15 @@ fn folds() {
 }
 
 #[test]
+fn plans() {
+    agree(|comparison| comparison.faulty_plans(5));
+    agree(|comparison| comparison.small_plans(3, &gen::few_settings()));
+    agree(|comparison| comparison.small_plans(4, &gen::few_settings()[3..4]));
+    agree(|comparison| comparison.plans(&mut Rng::new(26), 200));
+    agree(|comparison| comparison.any_plans(&mut Rng::new(27), 400));
+}
+
+#[test]
 fn lists() {
     agree(|comparison| comparison.lists(&mut Rng::new(14), 500));
 }
@@ -95,6 +107,7 @@ fn every_number_is_reached() {
     let run = comparison
         .cases(&mut Rng::new(1), 4000)
         .and_then(|()| comparison.any_folds(&mut Rng::new(1), 400))
+        .and_then(|()| comparison.any_plans(&mut Rng::new(1), 400))
         .and_then(|()| comparison.lists(&mut Rng::new(1), 10))
         .and_then(|()| comparison.shares(&mut Rng::new(1), 3));
     run.expect("a side agrees with itself");
@@ -188,7 +201,7 @@ struct Faulty {
     fault: u8,
 }
 
-const FAULTS: u8 = 74;
+const FAULTS: u8 = 92;
 
 /// The judge's numbers with the margin and without it: whether only the margin makes a sheet too large.
 fn is_large_by_margin(number: u8, settings: &[u8], tree: &[u8]) -> bool {
@@ -201,6 +214,17 @@ fn has_blank(settings: &[u8], tree: &[u8]) -> bool {
         let mut leaves = judge::leaves(&read.tree).into_iter();
         leaves.any(|leaf| read.sizes[leaf].allotted_width == 0)
     })
+}
+
+/// Whether a planning tree has a range.
+fn has_range(tree: &[u8]) -> bool {
+    planning::read_plan(tree).is_ok_and(|plan| !plan.ranges().is_empty())
+}
+
+/// Whether a range with its least above its greatest stands somewhere in the bytes.
+fn has_bad_range(tree: &[u8]) -> bool {
+    let mut parts = tree.windows(7);
+    parts.any(|part| matches!(part, [4, 0, 4, a, b, c, d] if a > b || c > d))
 }
 
 impl Calls for Faulty {
@@ -224,8 +248,11 @@ impl Calls for Faulty {
 
     fn read_tree(&mut self, tree: &[u8]) -> Counted {
         let mut answer = self.paper.read_tree(tree);
-        if self.fault == 1 && answer.number == 3 {
-            answer.number = 2;
+        match self.fault {
+            1 if answer.number == 3 => answer.number = 2,
+            // A planning tree taken.
+            74 if has_range(tree) => answer.number = 0,
+            _ => {}
         }
         answer
     }
@@ -432,6 +459,10 @@ impl Calls for Faulty {
         let lent = columns.to_vec();
         let mut answer = self.paper.fold(settings, tree, width, budget, columns);
         let Folded { number, count, .. } = answer;
+        // A planning tree as another kind of tree.
+        if self.fault == 75 && has_range(tree) {
+            answer = refused(15);
+        }
         let read = match judge::read(settings, tree) {
             Ok(read) if self.fault < FAULTS => read,
             _ => return answer,
@@ -490,6 +521,70 @@ impl Calls for Faulty {
         answer
     }
 
+    fn plan(&mut self, settings: &[u8], tree: &[u8]) -> Planned {
+        let refused = |number: u8| Planned {
+            number,
+            ..Planned::default()
+        };
+        let narrow = |sizes: [usize; 2]| sizes.map(|size| size as u16 as usize);
+        let mut answer = self.paper.plan(settings, tree);
+        let number = answer.number;
+        let Ends { width, height } = &mut answer.ends;
+        match self.fault {
+            // A range where it stands alone: of another length 17; without a line, or without a column, 0 or 17; of one size 17.
+            76 if number == 2 && tree.first() == Some(&4) => answer = refused(17),
+            77 if number == 17 && matches!(tree, [4, 0, 4, a, b, 0, _] if a <= b) => {
+                answer.number = 0;
+            }
+            78 if number == 0 && matches!(tree, [4, 0, 4, 0, ..]) => answer = refused(17),
+            79 if number == 0 && matches!(tree, [4, 0, 4, a, b, ..] if a == b) => {
+                answer = refused(17);
+            }
+            // 17 before 5, before 4, and before what stands in a node before it; 6 for what is no sheet; ends beside a refusal.
+            80 if number == 5 && has_bad_range(tree) => answer = refused(17),
+            81 if number == 4 && has_bad_range(tree) => answer = refused(17),
+            82 if number == 3 && has_bad_range(tree) => answer = refused(17),
+            83 if number == 0 && (width[0] > 400 || height[0] > 160) => answer = refused(6),
+            84 if number == 17 => width[0] = 1,
+            // The margin, or the edges, left out; 16 bits; width and height exchanged; the ends exchanged.
+            85 => answer = self.paper.plan(&settings[..settings.len().min(31)], tree),
+            86 if number == 0 => *width = width.map(|width| width - 2),
+            87 => (*width, *height) = (narrow(*width), narrow(*height)),
+            88 => std::mem::swap(width, height),
+            89 => width.reverse(),
+            _ => {}
+        }
+        let Ok((settings, plan)) = planning::read(settings, tree) else {
+            return answer;
+        };
+        let changed = |change: fn(&Range) -> Range| {
+            let mut plan = plan.clone();
+            for cell in plan.cells_mut() {
+                if let Plan::Range(range) = cell {
+                    *range = change(range);
+                }
+            }
+            planning::ends(&settings, &plan)
+        };
+        match self.fault {
+            // The widths' ends for the line counts, too; a range of no columns as one of one.
+            90 => {
+                answer.ends = changed(|range| Range {
+                    lines: range.width.map(|width| width.max(1)),
+                    ..*range
+                });
+            }
+            91 => {
+                answer.ends = changed(|range| Range {
+                    width: range.width.map(|width| width.max(1)),
+                    ..*range
+                });
+            }
+            _ => {}
+        }
+        answer
+    }
+
     fn short_splits3(&mut self, list: &SplitList, width: u16) -> CutParts {
         let mut answer = self.paper.short_splits3(list, width);
         match self.fault {
@@ -539,7 +634,11 @@ fn faults_are_found() {
         let (mut one, mut other) = (Paper::default(), Faulty { paper, fault });
         let mut comparison = Comparison::new(&mut one, &mut other);
         let run = comparison
-            .small_tables(3, &[Settings::M])
+            .faulty_plans(3)
+            .and_then(|()| comparison.small_plans(2, &gen::few_settings()))
+            .and_then(|()| comparison.any_plans(&mut Rng::new(18), 200))
+            .and_then(|()| comparison.plans(&mut Rng::new(18), 50))
+            .and_then(|()| comparison.small_tables(3, &[Settings::M]))
             .and_then(|()| comparison.tables(&mut Rng::new(18), 20))
             .and_then(|()| comparison.cases(&mut Rng::new(18), 300))
             .and_then(|()| comparison.lists(&mut Rng::new(18), 100))

@@ -5,6 +5,7 @@ mod fold;
 mod leaf;
 mod mark;
 mod place;
+mod plan;
 mod print;
 mod sizes;
 
@@ -23,6 +24,7 @@ pub const COMMANDS: &[Command] = &[
     place::COMMAND,
     mark::COMMAND,
     fold::COMMAND,
+    plan::COMMAND,
     check::COMMAND,
 ];
 
@@ -75,6 +77,7 @@ pub fn help() -> String {
     format!(
         "Prints leg sheets: bordered tables of nested rows and columns.\n\n{commands}\n\
          FILE is a settings record, with the margin's field or without, then a tree, as examples/encode.py writes them; - is standard input.\n\
+         For plan the tree may have ranges, where texts are to come; no other command takes them.\n\
          Nodes are numbered from 0, a parent before its children, these from left to right.\n\
          Lines and columns are counted from 0, in the sheet as it is printed.\n\
          WIDTH is of the sheet inside its edges and margin. BUDGET limits the heights that are tried.\n\n\
