@@ -1,8 +1,9 @@
 // The calls of document 02 from request 9 on, against its words. The cases are the lines of standard input (the file `stdin`): by hand first, then those that the
 // oracle answers. A line is a letter, a space and its contents; in contents, `\` and two hex digits stand for a byte:
 //   # a title, which is echoed     = the settings' bytes     : the tree's bytes     + N, bytes: these go on the tree N times
-//   c a list folded into Columns (folds.rt)     e the ends of a planning tree (plans.rt)
+//   c a list folded into Columns (folds.rt)     e the ends of a planning tree (plans.rt)     n the Cells nearest to widening the sheet (nearest.rt)
 mod folds;
+mod nearest;
 mod plans;
 
 use libc::STDIN_FILENO;
@@ -17,6 +18,7 @@ fn ask(kind: u8, settings: &[u8], tree: &[u8], want: &[u8]) {
         b'#' => tell::line(want),
         b'c' => folds::fold(settings, tree, want),
         b'e' => plans::plan(settings, tree, want),
+        b'n' => nearest::seek(settings, tree, want),
         _ => tell::failed(b"unknown kind of line"),
     }
 }
@@ -69,6 +71,6 @@ fn main() {
     }
     let mut settings = [0u8; 64];
     let mut tree = [0u8; 33000];
-    let mut want = [0u8; 2000];
+    let mut want = [0u8; 6000];
     run(&input[..n], &mut settings, &mut tree, &mut want);
 }

@@ -1,6 +1,6 @@
 // Small functions that every layer uses.
 ghost use mathlib.Core.Path.{_≡_};
-ghost use Prim.Native.Nat.{_<_, max};
+ghost use Prim.Native.Nat.{_≤_, _<_, max, min};
 ghost use Rattle.common.specs.Choice as choice;
 
 pub fn wide(x: u8) -> usize
@@ -17,10 +17,30 @@ pub fn wide16(x: u16) -> usize
     x as usize
 }
 
+pub fn wide32(x: u32) -> usize
+    ensures { λ r. ⌜ r ≡ x ⌝ }
+    ensures small { λ r. ⌜ r < 4294967296 ⌝ }
+{
+    x as usize
+}
+
+pub fn lesser(a: usize, b: usize) -> usize
+    ensures { λ r. ⌜ r ≡ min a b ⌝ }
+{
+    if a < b { a } else { b }
+}
+
 pub fn greater(a: usize, b: usize) -> usize
     ensures { λ r. ⌜ r ≡ max a b ⌝ }
 {
     if a < b { b } else { a }
+}
+
+pub fn one_if(b: bool) -> usize
+    ensures { λ r. ⌜ r ≡ choice.pick b 1 0 ⌝ }
+    ensures small { λ r. ⌜ r ≤ 1 ⌝ }
+{
+    if b { 1 } else { 0 }
 }
 
 pub fn both(a: bool, b: bool) -> bool

@@ -23,6 +23,7 @@ ghost use Rattle.places.specs.Places.{leafPlaceOf};
 ghost use Rattle.places.specs.Together.{findsOf};
 ghost use Rattle.fold.specs.Answers.{foldOf};
 ghost use Rattle.plan.specs.Answers.{planInput, plannedOf};
+ghost use Rattle.widen.specs.Answers.{nearestOf};
 
 #[no_mangle]
 pub extern "C" fn leg_read_settings(bytes: &[u8], out: &mut [u16]) -> u64
@@ -192,6 +193,21 @@ pub extern "C" fn leg_plan(settings: &[u8], tree: &[u8], ends: &mut [u32; 4]) ->
     }
     fields::put_ends(p, ends);
     pack(0, 4)
+}
+
+#[no_mangle]
+pub extern "C" fn leg_widen(
+    settings: &[u8],
+    tree: &[u8],
+    nodes: &mut [u16],
+    letters: &mut [u32],
+) -> u64
+    ensures { λ r. ⌜ r ≡ packed (nearestOf (inputOf (now (settings .entry)) (now (tree .entry))) (now (nodes .entry)) (now (letters .entry)) .answer .number) (nearestOf (inputOf (now (settings .entry)) (now (tree .entry))) (now (nodes .entry)) (now (letters .entry)) .answer .count) ⌝ }
+    ensures nodes { λ _. ⌜ now (nodes .exit) ≡ nearestOf (inputOf (now (settings .entry)) (now (tree .entry))) (now (nodes .entry)) (now (letters .entry)) .nodes ⌝ }
+    ensures letters { λ _. ⌜ now (letters .exit) ≡ nearestOf (inputOf (now (settings .entry)) (now (tree .entry))) (now (nodes .entry)) (now (letters .entry)) .letters ⌝ }
+{
+    let r = widen::nearest_cells(settings, tree, nodes, letters);
+    pack(r.number, r.count)
 }
 
 #[no_mangle]

@@ -1,13 +1,10 @@
 -- Which trees are lists, as the code looks through their bytes. Assumes nothing.
 use mathlib.Core.Path.{_≡_, refl, sym, _∙_}
-use Prim.Native.Nat.{ℕ, _+_, _-_, _≤_, _<_, max}
+use Prim.Native.Nat.{ℕ, _+_, _-_, _≤_, _<_}
 use native.Mathlib.Omega.{arith}
 use mathlib.Core.Bool.{Bool, true, false}
 use mathlib.Core.List.{List}
-use lib.ListN.{length, getD, take, drop, drop-of-length-le}
-use lib.Seq.{drop-cons}
-use native.Mathlib.Numerals.{add-one}
-use Rattle.sizes.specs.Text.{greatest}
+use lib.ListN.{length, getD, take, drop}
 use Rattle.sizes.specs.Allotting.{ReadyCount}
 use Rattle.tree.specs.Tree.{across, down, Tree, cell, group, Trees, more}
 use Rattle.tree.specs.Bytes.{Is, Are, lengthAt, contents}
@@ -57,14 +54,6 @@ module _ (s : List ℕ) (all : Trees) (at : ℕ) (k : Some (Looking s all at)) w
   look-end h = over s at (Looking s all at) (λ rest l. l .passing) k h .same
 
 -- ---- the tallest
-
-pub greatest-next : (hs : List ℕ) (m i : ℕ) → i < length hs → max m (greatest (drop i hs)) ≡ max (max m (getD hs i 0)) (greatest (drop (i + 1) hs))
-unfolding greatest
-greatest-next hs m i h = rw (add-one i, drop-cons hs i 0) (omega arith)
-
-pub greatest-over : (hs : List ℕ) (m i : ℕ) → length hs ≤ i → max m (greatest (drop i hs)) ≡ m
-unfolding greatest
-greatest-over hs m i h = rw (drop-of-length-le hs {i = i} h) (omega arith)
 
 -- ---- a list by its bytes
 

@@ -2,7 +2,7 @@
 use sizes::axis::separator;
 use sizes::measure_tree;
 ghost use mathlib.Core.Path.{_≡_};
-ghost use Prim.Native.Nat.{_+_, _-_, _≤_, _<_, min};
+ghost use Prim.Native.Nat.{_+_, _-_, _≤_, _<_};
 ghost use lib.Dec.{ltb};
 ghost use Rattle.common.specs.Choice.{pick};
 ghost use Rattle.sizes.specs.Text.{greatest};
@@ -111,12 +111,6 @@ fn try_height(
     }
 }
 
-fn lesser(a: usize, b: usize) -> usize
-    ensures { λ r. ⌜ r ≡ min a b ⌝ }
-{
-    if a < b { a } else { b }
-}
-
 // Tries the heights under that of one Column, one lower each time, down to the tallest cell's.
 fn find_height(
     widths: &[u16],
@@ -131,7 +125,7 @@ fn find_height(
     ensures { λ r. ⌜ ((q : Range (now (widths .entry)) (now (heights .entry)) sep one least) → r ≡ fold.find (q .known .settings) width (q .known .cells) budget) ⌝ }
 {
     let steps = one - least;
-    let limit = lesser(budget, steps);
+    let limit = common::lesser(budget, steps);
     let mut f = Tried {
         best: one,
         tries: 0,
