@@ -127,6 +127,12 @@ uint64_t leg_fold(const uint8_t *settings, size_t settings_len, const uint8_t *t
  * the tree with its texts are put aside. Counts LEG_ENDS. */
 uint64_t leg_plan(const uint8_t *settings, size_t settings_len, const uint8_t *tree, size_t tree_len, uint32_t *ends);
 
+/* The letters that widen the sheet: for each Cell the smallest number of letters which, added to its longest line alone, makes W larger. No smaller addition to that Cell
+ * alone changes W; the limits on W and the tree's bytes are put aside. 1 to 5; 8 last, where `nodes` or `letters` has fewer numbers than there are Cells. Writes for each
+ * Cell its node to `nodes` and the number of letters to `letters`, at the same index: the smallest number first, equal ones by node. Empty Rows and Columns are not
+ * listed. Counts the Cells, 512 at the most. */
+uint64_t leg_widen(const uint8_t *settings, size_t settings_len, const uint8_t *tree, size_t tree_len, uint16_t *nodes, size_t nodes_len, uint32_t *letters, size_t letters_len);
+
 /* Cuts the list of the first `count` of `pieces` at `w`; numbers past them are not looked at. 10; 8 where `pieces` has under `count` numbers or `out` under
  * LEG_CUT. Writes yes or no (1 or 0); the cut's pair: how many pieces it took, and the length left of the first piece not taken, 0 if there is none or it
  * was removed; the list taken, the list left, each a count and 512 entries with 0 past the count. Counts LEG_CUT. */

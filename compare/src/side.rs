@@ -255,6 +255,31 @@ impl Calls for Library {
         }
     }
 
+    /// Three numbers more stand behind either list, and must stay.
+    fn widen(
+        &mut self,
+        settings: &[u8],
+        tree: &[u8],
+        nodes: &mut [u16],
+        letters: &mut [u32],
+    ) -> Counted {
+        let mut lent = Lent::new(nodes, nodes.len() + MORE);
+        let mut other = Lent::new(letters, letters.len() + MORE);
+        let (list, numbers) = (
+            &mut lent.list[..nodes.len()],
+            &mut other.list[..letters.len()],
+        );
+        let answer = calls::widen(settings, tree, list, numbers);
+        nodes.copy_from_slice(list);
+        letters.copy_from_slice(numbers);
+        let Counted { number, count } = counted(answer);
+        let is_kept = lent.kept(nodes.len()) && other.kept(letters.len());
+        Counted {
+            number: sound(number, is_kept),
+            count,
+        }
+    }
+
     fn short_splits3(&mut self, list: &SplitList, width: u16) -> CutParts {
         let writes = Writes {
             left: false,

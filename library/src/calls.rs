@@ -277,6 +277,32 @@ pub fn plan(settings: &[u8], tree: &[u8], ends: &mut [u32; ENDS]) -> Result<usiz
     })
 }
 
+/// Writes for each Cell the fewest letters that, added to its longest line alone, make the sheet wider: its node to `nodes` and the number to `letters`, at the same
+/// index, the fewest letters first, equal ones by node. Counts the Cells, [`NODES`] at the most. Nothing is too large here.
+///
+/// # Errors
+/// 1 to 5; 8 where either list has fewer numbers than there are Cells.
+pub fn widen(
+    settings: &[u8],
+    tree: &[u8],
+    nodes: &mut [u16],
+    letters: &mut [u32],
+) -> Result<usize, Refusal> {
+    // SAFETY: pointers and lengths of slices that are borrowed here.
+    answer(unsafe {
+        raw::leg_widen(
+            settings.as_ptr(),
+            settings.len(),
+            tree.as_ptr(),
+            tree.len(),
+            nodes.as_mut_ptr(),
+            nodes.len(),
+            letters.as_mut_ptr(),
+            letters.len(),
+        )
+    })
+}
+
 /// Cuts the list of the first `count` pieces at `width` and writes [`CUT`] numbers.
 ///
 /// # Errors

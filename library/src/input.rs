@@ -1,7 +1,7 @@
 //! Settings and tree together, as bytes.
 
 use crate::calls;
-use crate::records::{Folded, LeafPlace, LeafRecord, Marked, Place, Planned, SizeRecord};
+use crate::records::{Folded, LeafPlace, LeafRecord, Marked, Need, Place, Planned, SizeRecord};
 use crate::refusal::Refusal;
 use crate::tree;
 
@@ -129,6 +129,19 @@ impl<'a> Input<'a> {
         let mut ends = [0; calls::ENDS];
         calls::plan(self.settings, self.tree, &mut ends)?;
         Ok(Planned::from_numbers(ends))
+    }
+
+    /// For each Cell the fewest letters that, added to its longest line alone, make the sheet wider; the fewest first, equal ones by node.
+    ///
+    /// # Errors
+    /// 1 to 5.
+    pub fn widen(self) -> Result<Vec<Need>, Refusal> {
+        let (mut nodes, mut letters) = ([0; calls::NODES], [0; calls::NODES]);
+        let count = calls::widen(self.settings, self.tree, &mut nodes, &mut letters)?;
+        let entries = nodes.into_iter().zip(letters).take(count);
+        Ok(entries
+            .map(|(node, letters)| Need::from_numbers(node, letters))
+            .collect())
     }
 }
 

@@ -39,14 +39,14 @@ pub use input::Input;
 pub use plan::Plan;
 pub use records::{
     next_sibling, CutAnswer, CutPair, CutParts, Flags, Folded, LeafPlace, LeafRecord, List, Marked,
-    Place, Planned, Positions, ShortParts, SizeRecord, SplitList,
+    Need, Place, Planned, Positions, ShortParts, SizeRecord, SplitList,
 };
 pub use refusal::Refusal;
 pub use settings::{Alignment, Priority, Settings, Sides};
 pub use tree::Tree;
 pub use values::{
     fold, leaf_record, place, places, plan, print_leaf, print_sheet, share, short_splits,
-    short_splits3, short_splits3_in_place, sizes,
+    short_splits3, short_splits3_in_place, sizes, widen,
 };
 
 /// The examples of the README are run, too.

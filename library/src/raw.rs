@@ -98,6 +98,17 @@ extern "C" {
         ends: *mut u32,
     ) -> u64;
 
+    pub fn leg_widen(
+        settings: *const u8,
+        settings_len: usize,
+        tree: *const u8,
+        tree_len: usize,
+        nodes: *mut u16,
+        nodes_len: usize,
+        letters: *mut u32,
+        letters_len: usize,
+    ) -> u64;
+
     pub fn leg_short_splits3(
         pieces: *const u16,
         pieces_len: usize,

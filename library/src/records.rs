@@ -308,6 +308,26 @@ impl Planned {
     }
 }
 
+/// A Cell, and the fewest letters that, added to its longest line alone, make the sheet wider.
+#[derive(Debug, Clone, Copy, PartialEq, Eq, Hash)]
+pub struct Need {
+    /// The Cell's number.
+    pub node: usize,
+    /// The letters it needs, 1 or more.
+    pub letters: usize,
+}
+
+impl Need {
+    /// An entry of the two lists that [`calls::widen`](crate::calls::widen) has written.
+    #[must_use]
+    pub const fn from_numbers(node: u16, letters: u32) -> Need {
+        Need {
+            node: node as usize,
+            letters: letters as usize,
+        }
+    }
+}
+
 /// What `short_splits3` answers.
 #[derive(Debug, Clone, Copy, PartialEq, Eq, Hash)]
 pub struct CutParts {

@@ -4,8 +4,8 @@ use crate::calls::{self, CUT, LENT_CUT, LIST};
 use crate::input::Input;
 use crate::plan::Plan;
 use crate::records::{
-    CutAnswer, CutParts, Folded, LeafPlace, LeafRecord, List, Marked, Place, Planned, ShortParts,
-    SizeRecord,
+    CutAnswer, CutParts, Folded, LeafPlace, LeafRecord, List, Marked, Need, Place, Planned,
+    ShortParts, SizeRecord,
 };
 use crate::refusal::Refusal;
 use crate::settings::{Priority, Settings};
@@ -199,6 +199,25 @@ pub fn plan(settings: &Settings, plan: &Plan) -> Result<Planned, Refusal> {
         tree: &plan.to_bytes()?,
     };
     input.plan()
+}
+
+/// Which Cell is nearest to widening the sheet: for each the fewest letters that, added to its longest line alone, make the sheet wider; the fewest first, equal ones by
+/// node. Fewer letters in that Cell alone leave the width as it is. Empty Rows and Columns are not listed. A sheet too large to be printed has its list, too.
+///
+/// ```
+/// use leg_sheet::{widen, Settings, Tree};
+///
+/// let tree = Tree::column(["abc".into(), Tree::row(["a", "b"])]);
+/// let needs = widen(&Settings::default(), &tree)?;
+/// let nearest: Vec<(usize, usize)> = needs.iter().map(|need| (need.node, need.letters)).collect();
+/// assert_eq!(nearest, [(3, 1), (4, 1), (1, 3)]);
+/// # Ok::<(), leg_sheet::Refusal>(())
+/// ```
+///
+/// # Errors
+/// 2 to 5.
+pub fn widen(settings: &Settings, tree: &Tree) -> Result<Vec<Need>, Refusal> {
+    on_bytes(settings, tree, |input| input.widen())
 }
 
 /// Cuts a list of pieces at a width, a line between neighbours.

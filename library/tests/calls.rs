@@ -1,10 +1,10 @@
 //! The calls on lent buffers by themselves: figure F1 of document 01, refusals, what they leave of a lent output, where the pair of a cut stands, the leaves of
-//! places, a list folded, a sheet planned, and priorities that no settings have.
+//! places, a list folded, a sheet planned, the letters that widen it, and priorities that no settings have.
 
 use leg_sheet::calls::{
     fold, leaf_record, place, places, plan, print_leaf, print_sheet, read_margin, read_settings,
-    read_tree, share, short_splits3, short_splits3_lent, sizes, CELLS, CUT, ENDS, FOUND, LENT_CUT,
-    LIST, MARGIN, PLACE, RECORD, SETTINGS, SIZES,
+    read_tree, share, short_splits3, short_splits3_lent, sizes, widen, CELLS, CUT, ENDS, FOUND,
+    LENT_CUT, LIST, MARGIN, NODES, PLACE, RECORD, SETTINGS, SIZES,
 };
 use leg_sheet::{Place, Refusal};
 
@@ -266,7 +266,7 @@ fn a_sheet_is_planned() {
 #[test]
 fn a_range_is_no_tree() {
     let (mut bytes, mut numbers, mut read) = ([0; 99], [0; RECORD], 0);
-    let mut found = [0; FOUND];
+    let (mut found, mut letters) = ([0; FOUND], [0; 9]);
     for answer in [
         read_tree(RANGE),
         sizes(D, RANGE, &mut numbers),
@@ -276,9 +276,49 @@ fn a_range_is_no_tree() {
         place(D, RANGE, 0, 0, &mut numbers),
         places(D, RANGE, &[], &mut [], &mut read),
         fold(D, RANGE, 9, 9, &mut numbers, &mut found),
+        widen(D, RANGE, &mut numbers, &mut letters),
     ] {
         assert_eq!(answer, Err(Refusal::BadTree));
     }
+}
+
+/// Column[`abc`, ``, Row[`a`, `b`]]: the nodes and the letters, the fewest first; what is past the Cells stays in both lists, and a refusal leaves all. 8 comes last.
+#[test]
+fn cells_widen_the_sheet() {
+    let tree = b"\x03\x00\x14\x01\x00\x03abc\x01\x00\x00\x02\x00\x08\x01\x00\x01a\x01\x00\x01b";
+    const LENT: u32 = 0xA5A5_A5A5;
+    let read = |settings: &[u8], tree: &[u8], lent: (usize, usize)| {
+        let (mut nodes, mut letters) = ([0xA5A5; 6], [LENT; 6]);
+        let (list, numbers) = (&mut nodes[..lent.0], &mut letters[..lent.1]);
+        let answer = widen(settings, tree, list, numbers);
+        (answer.map_err(Refusal::number), nodes, letters)
+    };
+    let refused = |number: u8| (Err(number), [0xA5A5; 6], [LENT; 6]);
+    let (nodes, letters) = ([4, 5, 1, 2, 0xA5A5, 0xA5A5], [1, 1, 3, 6, LENT, LENT]);
+    for lent in [(4, 4), (6, 4), (4, 5), (6, 6)] {
+        assert_eq!(read(D, tree, lent), (Ok(4), nodes, letters));
+    }
+    let none = (Ok(0), [0xA5A5; 6], [LENT; 6]);
+    assert_eq!(read(D, b"\x02\x00\x00", (0, 0)), none);
+
+    for lent in [(3, 4), (4, 3), (0, 6), (6, 0)] {
+        assert_eq!(read(D, tree, lent), refused(8));
+    }
+    assert_eq!(read(D, b"\x01\x00\x01\x09", (0, 0)), refused(3));
+    assert_eq!(read(D, &tree[..22], (0, 0)), refused(2));
+    assert_eq!(read(&D[..30], b"", (0, 0)), refused(1));
+}
+
+/// As many Cells as there may be, each as near as the others, in a sheet too wide to be printed.
+#[test]
+fn a_tree_has_511_cells() {
+    let row = [b"\x02\x05\xFD", &b"\x01\x00\x00".repeat(511)[..]].concat();
+    let (mut nodes, mut letters) = ([0; NODES], [0; NODES]);
+    assert_eq!(widen(D, &row, &mut nodes, &mut letters), Ok(511));
+    assert!(nodes[..511].iter().copied().eq(1..=511));
+    assert_eq!((letters[0], letters[510], letters[511]), (1, 1, 0));
+    let refused = widen(D, &row, &mut nodes, &mut letters[..510]);
+    assert_eq!(refused, Err(Refusal::TooShort));
 }
 
 /// The header: 'Priority 0 is First, 1 Last, 2 and every other number List.'

@@ -4,8 +4,9 @@ use std::ops::RangeInclusive;
 
 use leg_sheet::{
     fold, leaf_record, next_sibling, place, places, plan, print_leaf, print_sheet, share,
-    short_splits, short_splits3, short_splits3_in_place, sizes, Alignment, CutPair, Folded, Input,
-    LeafPlace, Marked, Place, Plan, Planned, Priority, Refusal, Settings, Sides, SizeRecord, Tree,
+    short_splits, short_splits3, short_splits3_in_place, sizes, widen, Alignment, CutPair, Folded,
+    Input, LeafPlace, Marked, Need, Place, Plan, Planned, Priority, Refusal, Settings, Sides,
+    SizeRecord, Tree,
 };
 
 /// The record of the defaults.
@@ -603,6 +604,79 @@ fn the_sheets_of_a_plan() {
     assert_eq!((ends(columns), ends(lines)), (Some(width), Some(height)));
 }
 
+/// The node and the letters of each Cell, in the order of the list; or the number.
+fn nearest(settings: &Settings, tree: &Tree) -> Result<Vec<(usize, usize)>, u8> {
+    let pairs = |needs: Vec<Need>| needs.into_iter().map(|need| (need.node, need.letters));
+    widen(settings, tree)
+        .map(|needs| pairs(needs).collect())
+        .map_err(Refusal::number)
+}
+
+/// Document 02, 11: the fewest letters first, equal ones by node; no empty Rows and Columns.
+#[test]
+fn cells_are_listed_by_their_letters() {
+    let d = Settings::default();
+    let pair = || Tree::row(["a", "b"]);
+    let bbc = Tree::column(["bb", "c"]);
+    let beside = Tree::row(["a".into(), bbc]);
+    for (tree, list) in [
+        ("ab".into(), vec![(0, 1)]),
+        (Tree::column(["abc", ""]), vec![(1, 1), (2, 4)]),
+        (
+            Tree::column(["abc".into(), "".into(), pair()]),
+            vec![(4, 1), (5, 1), (1, 3), (2, 6)],
+        ),
+        (Tree::column(["a\nbcdef", "xyz\n\nu"]), vec![(1, 1), (2, 3)]),
+        (
+            Tree::column([beside, "dddddddd".into()]),
+            vec![(6, 1), (2, 3), (4, 3), (5, 4)],
+        ),
+        (Tree::Row(vec![]), vec![]),
+        (Tree::column([Tree::Row(vec![]), "ab".into()]), vec![(2, 1)]),
+        (Tree::column(["".into(), Tree::Row(vec![])]), vec![(1, 1)]),
+        ("a".repeat(500).into(), vec![(0, 1)]),
+        (figure_2(), vec![(1, 1), (3, 2), (4, 2)]),
+    ] {
+        assert_eq!(nearest(&d, &tree), Ok(list), "{tree:?}");
+    }
+    let edged = d.with_margin(Sides::all(9)).expect("within the ranges");
+    let tree = Tree::column(["abc".into(), pair()]);
+    assert_eq!(nearest(&edged, &tree), nearest(&d, &tree));
+
+    assert_eq!(nearest(&d, &Tree::row(vec![""; 512])), Err(4));
+    assert_eq!(nearest(&d, &nested(17)), Err(5));
+}
+
+/// One letter less than a Cell's number leaves the printed sheet as wide as it was, and the number makes it wider.
+#[test]
+fn letters_widen_the_printed_sheet() {
+    let settings = Settings::default();
+    let with = |letters: [usize; 5]| {
+        let texts = ["aa", "", "a\nbbb", "a b", "abcdefg"];
+        let [a, b, c, d, e] =
+            [0, 1, 2, 3, 4].map(|n| Tree::from(format!("{}{}", texts[n], "x".repeat(letters[n]))));
+        let left = Tree::column([a, Tree::row([b, c])]);
+        Tree::row([left, Tree::column([d, e])])
+    };
+    let width = |letters: [usize; 5]| {
+        let sheet = print_sheet(&settings, &with(letters)).expect("a sheet");
+        sheet.lines().next().map_or(0, str::len)
+    };
+    let (tree, natural) = (with([0; 5]), width([0; 5]));
+    let cells = [2, 4, 5, 7, 8];
+    let needs = widen(&settings, &tree).expect("a list");
+    assert_eq!(needs.len(), cells.len());
+    for Need { node, letters } in needs {
+        let at = cells.iter().position(|&cell| cell == node);
+        let mut added = [0; 5];
+        let own = &mut added[at.expect("a Cell")];
+        *own = letters - 1;
+        assert_eq!(width(added), natural);
+        added[at.expect("a Cell")] = letters;
+        assert_eq!(width(added), natural + 1);
+    }
+}
+
 /// Document 02, 8: a zero-wide leaf prints its marks around no columns.
 #[test]
 fn a_remark_left_blank() {
@@ -693,6 +767,7 @@ fn every_call_is_refused() {
     assert_eq!(places(&settings, &wide, &many), Err(Refusal::TooLarge));
     assert_eq!(fold(&settings, &bad, 9, 9), Err(Refusal::BadText));
     assert_eq!(fold(&settings, &group, 9, 9), Err(Refusal::NotAList));
+    assert_eq!(widen(&settings, &bad), Err(Refusal::BadText));
     assert_eq!(plan(&settings, &bad.into()), Err(Refusal::BadText));
     assert_eq!(share(7, 0, Priority::List, 0), Err(Refusal::NoChild));
     assert_eq!(short_splits3(&[1; 513], 0), Err(Refusal::TooManyPieces));

@@ -207,6 +207,15 @@ pub trait Calls {
     /// The ends of W and H, of the bytes of a planning tree.
     fn plan(&mut self, settings: &[u8], tree: &[u8]) -> Planned;
 
+    /// The Cells with the letters that each needs to widen the sheet; writes a node and a number for each. Answers the count of both.
+    fn widen(
+        &mut self,
+        settings: &[u8],
+        tree: &[u8],
+        nodes: &mut [u16],
+        letters: &mut [u32],
+    ) -> Counted;
+
     fn short_splits3(&mut self, list: &SplitList, width: u16) -> CutParts;
 
     fn short_splits(&mut self, list: &SplitList, width: u16) -> CutPositions;

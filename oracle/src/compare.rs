@@ -10,6 +10,7 @@ use crate::form::{
 };
 use crate::gen::{self, Case, Margins, Rng};
 use crate::judge;
+use crate::widening;
 
 /// Where two sides part.
 #[derive(Debug, Clone, PartialEq, Eq)]
@@ -51,7 +52,7 @@ impl Counts {
 }
 
 /// The numbers that each call can give, by the documents' tables.
-pub const NUMBERS: [(&str, &[u8]); 15] = [
+pub const NUMBERS: [(&str, &[u8]); 16] = [
     ("settings", &[0, 1]),
     ("margin", &[0, 1]),
     ("tree", &[0, 2, 3, 4, 5]),
@@ -63,6 +64,7 @@ pub const NUMBERS: [(&str, &[u8]); 15] = [
     ("places", &[0, 1, 2, 3, 4, 5, 6, 8, 12, 13, 14]),
     ("fold", &[0, 1, 2, 3, 4, 5, 8, 15, 16]),
     ("plan", &[0, 1, 2, 3, 4, 5, 17]),
+    ("widen", &[0, 1, 2, 3, 4, 5, 8]),
     ("short_splits3", &[0, 10]),
     ("short_splits3, lent", &[0, 10]),
     ("short_splits", &[0, 10]),
@@ -96,7 +98,7 @@ pub type Part = (
     fn(&mut Comparison, &mut Rng, usize) -> Result<(), Difference>,
 );
 
-pub const PARTS: [Part; 20] = [
+pub const PARTS: [Part; 23] = [
     ("settings records", |c, _, _| c.settings_records()),
     ("short and faulty trees", |c, _, _| c.faulty_trees()),
     ("all trees of up to 5 nodes", |c, _, _| {
@@ -139,6 +141,15 @@ pub const PARTS: [Part; 20] = [
     ("plans of damaged bytes", |c, rng, rounds| {
         c.any_plans(rng, 300 * rounds)
     }),
+    ("letters of all trees of up to 5 nodes", |c, _, _| {
+        c.small_needs(5, &gen::few_settings())
+    }),
+    ("letters of tables", |c, rng, rounds| {
+        c.needs(rng, 30 * rounds)
+    }),
+    ("letters of damaged bytes", |c, rng, rounds| {
+        c.any_needs(rng, 300 * rounds)
+    }),
 ];
 
 fn bytes(bytes: &[u8]) -> String {
@@ -175,9 +186,14 @@ fn junk_owners(length: usize) -> Vec<Owner> {
         .collect()
 }
 
-/// What a lent list of Columns holds before a call.
+/// What a lent list of Columns, or of nodes, holds before a call.
 fn junk_columns(length: usize) -> Vec<u16> {
     (0..length).map(|at| (at as u16) ^ 0xA5A5).collect()
+}
+
+/// What a lent list of letters holds before a call.
+fn junk_letters(length: usize) -> Vec<u32> {
+    (0..length).map(|at| (at as u32) ^ 0xA5A5_A5A5).collect()
 }
 
 /// The folds of a list that has them.
@@ -482,6 +498,44 @@ impl<'a> Comparison<'a> {
         )
     }
 
+    /// The letters that widen a sheet, with so many nodes and so many numbers lent.
+    fn widen(
+        &mut self,
+        settings: &[u8],
+        tree: &[u8],
+        lent: (usize, usize),
+    ) -> Result<(), Difference> {
+        self.call(
+            "widen",
+            || format!("{} {} lent {lent:?}", bytes(settings), bytes(tree)),
+            |side| {
+                let (mut nodes, mut letters) = (junk_columns(lent.0), junk_letters(lent.1));
+                let answer = side.widen(settings, tree, &mut nodes, &mut letters);
+                (answer.number, (answer, nodes, letters))
+            },
+        )
+    }
+
+    /// Both lists three entries longer than there are Cells, as long, and either one longer; either one shorter, and empty; both empty.
+    fn every_need(&mut self, settings: &Settings, tree: &Tree) -> Result<(), Difference> {
+        let cells = widening::cells(tree).len();
+        let (settings, tree) = (encode_settings(settings), encode_tree(tree));
+        for (nodes, letters) in [
+            (cells + 3, cells + 3),
+            (cells, cells),
+            (cells + 1, cells),
+            (cells, cells + 1),
+            (cells.saturating_sub(1), cells),
+            (cells, cells.saturating_sub(1)),
+            (0, cells),
+            (cells, 0),
+            (0, 0),
+        ] {
+            self.widen(&settings, &tree, (nodes, letters))?;
+        }
+        Ok(())
+    }
+
     /// Every call, once.
     pub fn case(&mut self, case: &Case) -> Result<(), Difference> {
         let (settings, tree) = (&case.settings, &case.tree);
@@ -729,9 +783,42 @@ impl<'a> Comparison<'a> {
             let (settings, tree) = gen::any_plan(rng);
             self.plan(&settings, &tree)?;
             self.fold(&settings, &tree, (usize::MAX, 9), 1)?;
+            self.widen(&settings, &tree, (0, 9))?;
             let case = gen::case(rng, settings, tree);
             self.case(&case)?;
             self.any_places(rng, &case)?;
+        }
+        Ok(())
+    }
+
+    /// The letters of every tree of up to `nodes` nodes with a few texts, under each of the settings.
+    pub fn small_needs(&mut self, nodes: usize, settings: &[Settings]) -> Result<(), Difference> {
+        self.each(small_trees(nodes), settings, Comparison::every_need)
+    }
+
+    /// The letters of the greatest trees, then of so many random ones.
+    pub fn needs(&mut self, rng: &mut Rng, rounds: usize) -> Result<(), Difference> {
+        for (settings, tree) in gen::wide_tables() {
+            self.every_need(&settings, &tree)?;
+        }
+        for _ in 0..rounds {
+            let (settings, tree) = gen::wide_table(rng);
+            self.every_need(&settings, &tree)?;
+        }
+        Ok(())
+    }
+
+    /// The letters of elements with several faults, with no entry lent; then of so many trees of any kind, damaged bytes among them, with lists of random lengths.
+    pub fn any_needs(&mut self, rng: &mut Rng, rounds: usize) -> Result<(), Difference> {
+        let settings = encode_settings(&Settings::M);
+        for tree in gen::faults().into_iter().chain(gen::long_trees()) {
+            self.widen(&settings, &tree, (0, 0))?;
+        }
+        for _ in 0..rounds {
+            let (settings, tree) = gen::any_wide(rng);
+            let cells = judge::read_tree(&tree).map_or(1, |tree| widening::cells(&tree).len());
+            let lent = (gen::around(rng, cells), gen::around(rng, cells));
+            self.widen(&settings, &tree, lent)?;
         }
         Ok(())
     }

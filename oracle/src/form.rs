@@ -334,6 +334,13 @@ pub struct Ends {
     pub height: [usize; 2],
 }
 
+/// A Cell, and the letters that it needs to widen the sheet.
+#[derive(Debug, Clone, Copy, PartialEq, Eq)]
+pub struct Need {
+    pub node: usize,
+    pub letters: usize,
+}
+
 /// What there is to know of one table.
 #[derive(Debug, Clone, PartialEq, Eq)]
 pub struct Answer {

@@ -919,6 +919,79 @@ pub fn any_plan(rng: &mut Rng) -> (Vec<u8>, Vec<u8>) {
     (settings, tree)
 }
 
+// Trees to widen
+
+/// Stairs: a Column of so many Cells of 0, 1, 2 .. letters.
+fn stairs(cells: usize) -> Tree {
+    Tree::Column((0..cells).map(|n| Tree::Cell(vec![b'w'; n])).collect())
+}
+
+/// Settings and a tree: mostly of ordinary size, at times with long texts, or −2 to 2 from a limit on nodes, depth or width.
+pub fn wide_table(rng: &mut Rng) -> (Settings, Tree) {
+    match rng.below(32) {
+        0 => {
+            let offset = rng.between(0, 4) as isize - 2;
+            let limit = rng.pick(&[Limit::Nodes, Limit::Depth, Limit::Width]);
+            near(rng, Margins::Half, limit, offset)
+        }
+        1..=8 => {
+            let (nodes, depth) = (rng.between(1, 30), rng.between(2, judge::DEPTH));
+            let (width, lines) = rng.pick(&[(20, 3), (300, 4), (3, 12)]);
+            let growth = Growth { width, lines };
+            (
+                settings(rng, Margins::Half),
+                tree(rng, nodes, depth, growth),
+            )
+        }
+        _ => table(rng, Margins::Half),
+    }
+}
+
+/// As many Cells as there may be, side by side, one under another, and over a Cell of all bytes that are left; a Cell under a Row that is as wide as there is; stairs,
+/// and stairs beside stairs, level by level.
+pub fn wide_tables() -> Vec<(Settings, Tree)> {
+    let padded = |padding: u8| Settings {
+        padding: [padding; 4],
+        ..Settings::M
+    };
+    let empty = |cells: usize| vec![Tree::cell(""); cells];
+    let left = |nodes: usize| Tree::Cell(vec![b'w'; judge::TREE_BYTES - 3 * nodes]);
+    let over = [empty(judge::NODES - 2), vec![left(judge::NODES)]].concat();
+    let row = [empty(judge::NODES - 4), vec![left(judge::NODES)]].concat();
+    let levels = (1..8).fold(stairs(20), |inner, level| {
+        let row = Tree::Row(vec![stairs(level), inner]);
+        Tree::Column(vec![row, stairs(48)])
+    });
+    vec![
+        (padded(16), Tree::Row(empty(judge::NODES - 1))),
+        (padded(0), Tree::Column(empty(judge::NODES - 1))),
+        (padded(1), Tree::Column(over)),
+        (
+            padded(16),
+            Tree::Column(vec![Tree::cell(""), Tree::Row(row)]),
+        ),
+        (padded(1), stairs(240)),
+        (padded(1), levels),
+    ]
+}
+
+/// The bytes of settings and of such a tree, mostly with a fault.
+pub fn any_wide(rng: &mut Rng) -> (Vec<u8>, Vec<u8>) {
+    let (settings, tree) = wide_table(rng);
+    let (mut settings, mut tree) = (encode_settings(&settings), encode_tree(&tree));
+    match rng.below(8) {
+        0 => settings = damaged(rng, &settings),
+        1..=3 => tree = damaged(rng, &tree),
+        4 => {
+            settings = damaged(rng, &settings);
+            tree = damaged(rng, &tree);
+        }
+        5 => tree = element_like(rng),
+        _ => {}
+    }
+    (settings, tree)
+}
+
 // Damage
 
 /// The bytes with one fault more, as a rule.

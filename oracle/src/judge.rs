@@ -5,6 +5,7 @@ use crate::folding;
 use crate::form::{Margin, Settings, Size, Tree};
 use crate::paper;
 use crate::planning;
+use crate::widening;
 
 pub const TREE_BYTES: usize = 32_768;
 pub const NODES: usize = 512;
@@ -408,6 +409,17 @@ pub fn fold(settings: &[u8], tree: &[u8], width: usize, budget: usize, list: usi
 /// The plan of a sheet.
 pub fn plan(settings: &[u8], tree: &[u8]) -> u8 {
     number(planning::read(settings, tree))
+}
+
+/// The letters that widen a sheet, lent so many entries for the nodes and for the numbers: 'a short list is 8'. There is no 6: 'the limits on W and the tree's bytes put
+/// aside'.
+pub fn widen(settings: &[u8], tree: &[u8], nodes: usize, letters: usize) -> u8 {
+    number(read(settings, tree).and_then(|read| {
+        if nodes.min(letters) < widening::cells(&read.tree).len() {
+            return Err(8);
+        }
+        Ok(())
+    }))
 }
 
 /// Either cut of a list with so many pieces.

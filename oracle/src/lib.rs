@@ -15,9 +15,11 @@ pub mod planning;
 pub mod plans;
 pub mod replay;
 pub mod sides;
+pub mod widening;
+pub mod widths;
 
 pub use form::{
     encode_margin, encode_plan, encode_settings, encode_tree, Answer, CutPair, Ends, Flags, Fold,
-    Leaf, Margin, Owner, Owners, Plan, Range, Settings, Size, Tree,
+    Leaf, Margin, Need, Owner, Owners, Plan, Range, Settings, Size, Tree,
 };
 pub use original::{answer, cut, cut3};

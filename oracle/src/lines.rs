@@ -1,6 +1,6 @@
 //! Lines for a test program: what they give, and the crate's answers.
 
-use crate::calls::{Calls, Folded, LeafRecord, Marked, Planned, SizeRecord, SplitList};
+use crate::calls::{Calls, Counted, Folded, LeafRecord, Marked, Planned, SizeRecord, SplitList};
 use crate::form::{Ends, Owner};
 use crate::judge;
 use crate::sides::Original;
@@ -211,6 +211,23 @@ impl Lines {
         let Ends { width, height } = ends;
         let ends = [&[number.into()][..], &width, &height].concat();
         self.line('e', &words(&ends));
+    }
+
+    /// The letters that widen the sheet, with room for so many nodes and so many numbers; then the number and the count, and the node and the letters of each Cell.
+    pub fn widen(&mut self, (room, other): (usize, usize)) {
+        let (mut nodes, mut letters) = (vec![0; room], vec![0; other]);
+        let (settings, tree) = (&self.settings, &self.tree);
+        let Counted { number, count } =
+            self.original
+                .widen(settings, tree, &mut nodes, &mut letters);
+        let pairs = nodes.iter().zip(&letters).take(count);
+        let needs: Vec<usize> = pairs
+            .flat_map(|(&node, &letters)| [node.into(), letters as usize])
+            .collect();
+        self.line(
+            'n',
+            &format!("{room} {other}, {number} {count}, {}", words(&needs)),
+        );
     }
 
     pub fn both(&mut self, node: usize) {

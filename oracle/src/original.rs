@@ -2,9 +2,11 @@
 
 use crate::folding;
 use crate::form::{
-    Answer, Cut, Cut3, CutPair, Ends, Flags, Fold, Leaf, Owner, Owners, Plan, Settings, Size, Tree,
+    Answer, Cut, Cut3, CutPair, Ends, Flags, Fold, Leaf, Need, Owner, Owners, Plan, Settings, Size,
+    Tree,
 };
 use crate::planning;
+use crate::widening;
 
 /// The same few lines over the types of each of the two builds.
 macro_rules! build {
@@ -332,6 +334,22 @@ pub fn ends(settings: &Settings, plan: &Plan) -> Ends {
         });
     }
     found.expect("there is a choice")
+}
+
+/// The Cells with the letters that each needs to widen the sheet (document 02, 11). The number is guessed: of very many letters those that only filled up are missing in
+/// the width. Panics where by the original's sizes one letter less changes the width, or so many do not make it larger.
+pub fn needs(settings: &Settings, tree: &Tree) -> Vec<Need> {
+    let width = |tree: &Tree| naturals(settings, tree)[0].0;
+    let natural = width(tree);
+    widening::listed(tree, |node| {
+        let with = |letters: usize| width(&widening::widened(tree, node, letters));
+        // The Cell alone is then wider than the sheet.
+        let many = natural + 1;
+        let letters = many + 1 - (with(many) - natural);
+        assert_eq!(with(letters - 1), natural, "{letters} letters of {node}");
+        assert!(with(letters) > natural, "{letters} letters of {node}");
+        letters
+    })
 }
 
 /// `short_splits3`. It does not say the pair, but shows it: the pieces taken are counted, and where nothing was removed the list left begins with the

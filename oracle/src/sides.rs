@@ -6,10 +6,10 @@ use crate::calls::{
 };
 use crate::folding::{self, Chosen};
 use crate::form::{
-    Answer, Cut, Cut3, CutPair, Ends, Flags, Fold, Owner, Owners, Plan, Settings, Tree,
+    Answer, Cut, Cut3, CutPair, Ends, Flags, Fold, Need, Owner, Owners, Plan, Settings, Tree,
 };
 use crate::judge;
-use crate::{original, paper, planning};
+use crate::{original, paper, planning, widening};
 
 /// Where the answers of a side come from; the refusals are the judge's.
 pub trait Answers {
@@ -19,6 +19,8 @@ pub trait Answers {
     /// Every fold of a list of Cells, from the one-Column height down to the tallest of them.
     fn folds(&self, settings: &Settings, cells: &[Tree]) -> Vec<Fold>;
     fn ends(&self, settings: &Settings, plan: &Plan) -> Ends;
+    /// The Cells with the letters that widen the sheet, in the order of the answer.
+    fn needs(&self, settings: &Settings, tree: &Tree) -> Vec<Need>;
     fn cut3(&self, list: &[usize], width: usize) -> Cut3;
     fn cut(&self, list: &[usize], width: usize) -> Cut;
     fn part(&self, spare: usize, n: usize, priority: u8, index: usize) -> usize;
@@ -48,6 +50,10 @@ impl Answers for Crate {
 
     fn ends(&self, settings: &Settings, plan: &Plan) -> Ends {
         original::ends(settings, plan)
+    }
+
+    fn needs(&self, settings: &Settings, tree: &Tree) -> Vec<Need> {
+        original::needs(settings, tree)
     }
 
     fn cut3(&self, list: &[usize], width: usize) -> Cut3 {
@@ -82,6 +88,10 @@ impl Answers for Document {
 
     fn ends(&self, settings: &Settings, plan: &Plan) -> Ends {
         planning::ends(settings, plan)
+    }
+
+    fn needs(&self, settings: &Settings, tree: &Tree) -> Vec<Need> {
+        widening::needs(settings, tree)
     }
 
     fn cut3(&self, list: &[usize], width: usize) -> Cut3 {
@@ -121,14 +131,15 @@ impl<T> Last<T> {
     }
 }
 
-/// A side made of answers and the judge's refusals. It keeps its last answer, its last sheet and its last list: a comparison asks for every node of one table,
-/// for every place, and for many folds.
+/// A side made of answers and the judge's refusals. It keeps its last answer, its last sheet, its last list and its last needs: a comparison asks for every node of one
+/// table, for every place, for many folds, and with lists of many lengths.
 #[derive(Debug, Default)]
 pub struct Side<A> {
     answers: A,
     last: Option<Last<Answer>>,
     sheet: Option<Last<Result<Sheet, u8>>>,
     list: Option<Last<Result<List, u8>>>,
+    needs: Option<Last<Vec<Need>>>,
 }
 
 /// A sheet that can be printed.
@@ -232,6 +243,16 @@ impl<A: Answers> Side<A> {
         }
         let list = &self.list.as_ref().expect("a list was kept").kept;
         list.as_ref().map_err(|&number| number)
+    }
+
+    /// The letters that widen a sheet, for bytes that the judge has accepted.
+    fn needs_of(&mut self, settings: &[u8], tree: &[u8]) -> &[Need] {
+        if !Last::is_of(&self.needs, settings, tree) {
+            let read = judge::read(settings, tree).expect("only accepted bytes have needs");
+            let needs = self.answers.needs(&read.settings, &read.tree);
+            self.needs = Last::new(settings, tree, needs);
+        }
+        &self.needs.as_ref().expect("needs were kept").kept
     }
 }
 
@@ -414,6 +435,28 @@ impl<A: Answers> Calls for Side<A> {
                 number,
                 ..Planned::default()
             },
+        }
+    }
+
+    fn widen(
+        &mut self,
+        settings: &[u8],
+        tree: &[u8],
+        nodes: &mut [u16],
+        letters: &mut [u32],
+    ) -> Counted {
+        let number = judge::widen(settings, tree, nodes.len(), letters.len());
+        if number != 0 {
+            return Counted { number, count: 0 };
+        }
+        let needs = self.needs_of(settings, tree);
+        for ((node, number), need) in nodes.iter_mut().zip(letters).zip(needs) {
+            *node = narrow(need.node);
+            *number = u32::try_from(need.letters).expect("a number of letters has 32 bits");
+        }
+        Counted {
+            number: 0,
+            count: needs.len(),
         }
     }
 

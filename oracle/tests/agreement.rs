@@ -8,8 +8,8 @@ use oracle::compare::{Comparison, Difference, NUMBERS};
 use oracle::gen::{self, Margins, Rng};
 use oracle::sides::{Original, Paper};
 use oracle::{
-    folding, judge, original, paper, planning, CutPair, Ends, Fold, Margin, Owner, Plan, Range,
-    Settings, Tree,
+    encode_tree, folding, judge, original, paper, planning, widening, CutPair, Ends, Fold, Margin,
+    Owner, Plan, Range, Settings, Tree,
 };
 
 fn agree(run: impl Fn(&mut Comparison) -> Result<(), Difference>) {
@@ -80,6 +80,13 @@ fn plans() {
 }
 
 #[test]
+fn letters() {
+    agree(|comparison| comparison.small_needs(4, &gen::few_settings()));
+    agree(|comparison| comparison.needs(&mut Rng::new(28), 60));
+    agree(|comparison| comparison.any_needs(&mut Rng::new(29), 400));
+}
+
+#[test]
 fn lists() {
     agree(|comparison| comparison.lists(&mut Rng::new(14), 500));
 }
@@ -108,6 +115,7 @@ fn every_number_is_reached() {
         .cases(&mut Rng::new(1), 4000)
         .and_then(|()| comparison.any_folds(&mut Rng::new(1), 400))
         .and_then(|()| comparison.any_plans(&mut Rng::new(1), 400))
+        .and_then(|()| comparison.any_needs(&mut Rng::new(1), 400))
         .and_then(|()| comparison.lists(&mut Rng::new(1), 10))
         .and_then(|()| comparison.shares(&mut Rng::new(1), 3));
     run.expect("a side agrees with itself");
@@ -201,7 +209,7 @@ struct Faulty {
     fault: u8,
 }
 
-const FAULTS: u8 = 92;
+const FAULTS: u8 = 110;
 
 /// The judge's numbers with the margin and without it: whether only the margin makes a sheet too large.
 fn is_large_by_margin(number: u8, settings: &[u8], tree: &[u8]) -> bool {
@@ -225,6 +233,17 @@ fn has_range(tree: &[u8]) -> bool {
 fn has_bad_range(tree: &[u8]) -> bool {
     let mut parts = tree.windows(7);
     parts.any(|part| matches!(part, [4, 0, 4, a, b, c, d] if a > b || c > d))
+}
+
+/// The tree with an empty Cell in the place of each empty Row and Column.
+fn filled(tree: &Tree) -> Tree {
+    let list = |children: &[Tree]| children.iter().map(filled).collect();
+    match tree {
+        Tree::Row(children) if !children.is_empty() => Tree::Row(list(children)),
+        Tree::Column(children) if !children.is_empty() => Tree::Column(list(children)),
+        Tree::Cell(text) => Tree::Cell(text.clone()),
+        _ => Tree::cell(""),
+    }
 }
 
 impl Calls for Faulty {
@@ -585,6 +604,72 @@ impl Calls for Faulty {
         answer
     }
 
+    fn widen(
+        &mut self,
+        settings: &[u8],
+        tree: &[u8],
+        nodes: &mut [u16],
+        letters: &mut [u32],
+    ) -> Counted {
+        let refused = |number: u8| Counted { number, count: 0 };
+        let (lent_nodes, lent_letters) = (nodes.to_vec(), letters.to_vec());
+        let mut answer = self.paper.widen(settings, tree, nodes, letters);
+        let Counted { number, count } = answer;
+        match self.fault {
+            // The entries past the Cells cleared; all of the lent ones counted; an entry beside a refusal.
+            92 => nodes[count..].fill(0),
+            93 => letters[count..].fill(0),
+            94 if number == 0 => answer.count = nodes.len(),
+            95 if number == 8 && !nodes.is_empty() => nodes[0] = 0,
+            96 if number == 8 && !letters.is_empty() => letters[0] = 1,
+            // The letters that change nothing; one letter for every Cell.
+            97 => letters[..count].iter_mut().for_each(|n| *n -= 1),
+            98 => letters[..count].fill(1),
+            // A short list in the place of 2; a planning tree taken; a Cell alone not listed; no Cells as too short a list.
+            99 if number == 2 && nodes.is_empty() => answer = refused(8),
+            100 if has_range(tree) => answer = refused(0),
+            101 if tree.first() == Some(&1) && number == 0 => answer.count = 0,
+            102 if number == 0 && count == 0 && nodes.is_empty() => answer = refused(8),
+            // The letters added to the first line.
+            108 if number == 0 && tree == b"\x01\x00\x04e\nfg" => letters[0] = 2,
+            _ => {}
+        }
+        let Ok(tree_read) = judge::read_tree(tree) else {
+            return answer;
+        };
+        let cells = widening::cells(&tree_read).len();
+        let mut list: Vec<(u16, u32)> = (nodes.iter().copied())
+            .zip(letters.iter().copied())
+            .take(count)
+            .collect();
+        match self.fault {
+            // In node order; of equal numbers the last node first.
+            103 => list.sort(),
+            104 => list.sort_by_key(|&(node, letters)| (letters, std::cmp::Reverse(node))),
+            // The empty groups listed, too.
+            105 if number == 0 => {
+                let tree = encode_tree(&filled(&tree_read));
+                nodes.copy_from_slice(&lent_nodes);
+                letters.copy_from_slice(&lent_letters);
+                return self.paper.widen(settings, &tree, nodes, letters);
+            }
+            // 6 for what is no sheet.
+            109 if number == 0 && judge::sheet(settings, tree, usize::MAX) == 6 => {
+                nodes.copy_from_slice(&lent_nodes);
+                letters.copy_from_slice(&lent_letters);
+                return refused(6);
+            }
+            // One of the two lists not looked at.
+            106 if number == 8 && nodes.len() >= cells => answer = refused(0),
+            107 if number == 8 && letters.len() >= cells => answer = refused(0),
+            _ => return answer,
+        }
+        for ((node, letters), entry) in nodes.iter_mut().zip(letters).zip(list) {
+            (*node, *letters) = entry;
+        }
+        answer
+    }
+
     fn short_splits3(&mut self, list: &SplitList, width: u16) -> CutParts {
         let mut answer = self.paper.short_splits3(list, width);
         match self.fault {
@@ -634,7 +719,9 @@ fn faults_are_found() {
         let (mut one, mut other) = (Paper::default(), Faulty { paper, fault });
         let mut comparison = Comparison::new(&mut one, &mut other);
         let run = comparison
-            .faulty_plans(3)
+            .small_needs(2, &gen::few_settings())
+            .and_then(|()| comparison.any_needs(&mut Rng::new(18), 100))
+            .and_then(|()| comparison.faulty_plans(3))
             .and_then(|()| comparison.small_plans(2, &gen::few_settings()))
             .and_then(|()| comparison.any_plans(&mut Rng::new(18), 200))
             .and_then(|()| comparison.plans(&mut Rng::new(18), 50))

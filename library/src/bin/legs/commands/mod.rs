@@ -8,6 +8,7 @@ mod place;
 mod plan;
 mod print;
 mod sizes;
+mod widen;
 
 use std::ffi::OsString;
 use std::fmt::Display;
@@ -25,6 +26,7 @@ pub const COMMANDS: &[Command] = &[
     mark::COMMAND,
     fold::COMMAND,
     plan::COMMAND,
+    widen::COMMAND,
     check::COMMAND,
 ];
 

@@ -1,0 +1,55 @@
+use std::ffi::OsString;
+use std::fmt::Display;
+
+use leg_sheet::{Need, Tree};
+
+use super::{Answer, Command};
+use crate::fault::Fault;
+use crate::operands::File;
+
+pub const COMMAND: Command = Command {
+    name: "widen",
+    operands: &["FILE"],
+    about: "the fewest letters more that each Cell needs to widen the sheet, the fewest first",
+    run,
+};
+
+/// The letters of a text that are shown.
+const SHOWN: usize = 32;
+
+fn run(words: &[OsString]) -> Result<Answer, Fault> {
+    let file = File::read(&words[0])?;
+    let needs = file.call(|input| input.widen())?;
+    let tree = file.call(|input| Tree::from_bytes(input.tree))?;
+    let nodes = nodes(&tree);
+    let mut text = line("node", "letters", "text");
+    for Need { node, letters } in needs {
+        text += &line(node, letters, &beginning(nodes[node]));
+    }
+    Ok(Answer::accepted(text))
+}
+
+/// The nodes in their order.
+fn nodes(tree: &Tree) -> Vec<&Tree> {
+    let below = match tree {
+        Tree::Cell(_) => Vec::new(),
+        Tree::Row(children) | Tree::Column(children) => children.iter().flat_map(nodes).collect(),
+    };
+    [&[tree][..], &below].concat()
+}
+
+/// The beginning of a Cell's text: its first line, as far as it is shown, and two dots where the text goes on.
+fn beginning(cell: &Tree) -> String {
+    let Tree::Cell(text) = cell else {
+        return String::new();
+    };
+    let line = text.split('\n').next().unwrap_or_default();
+    let shown = &line[..line.len().min(SHOWN)];
+    let more = if shown == text { "" } else { " .." };
+    format!("{shown}{more}")
+}
+
+fn line<T: Display>(node: T, letters: T, text: &str) -> String {
+    let line = format!("{node:>4}{letters:>9}  {text}");
+    format!("{}\n", line.trim_end())
+}
