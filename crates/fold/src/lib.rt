@@ -12,7 +12,7 @@ ghost use Rattle.fold.specs.Fold as fold;
 ghost use Rattle.fold.specs.Answers.{cells?, noFold, finds, foldOf};
 ghost use Rattle.fold.specs.Running.{WholeTree, cellsOnly, Cells, Range, Narrow};
 
-pub mod run;
+mod run;
 
 use run::run_fold;
 use run::write_columns;

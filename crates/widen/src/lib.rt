@@ -1,6 +1,6 @@
 // Which Cell is nearest to widening the sheet.
-pub mod list;
-pub mod node;
+mod list;
+mod node;
 
 use list::cells_of;
 use list::list_needs;
