@@ -1,0 +1,4 @@
+pub mod Store
+pub mod Series
+pub mod Scanning
+pub mod Promises

@@ -1,0 +1,83 @@
+// Moves in a lent store.
+ghost use mathlib.Core.Path.{_≡_};
+ghost use Prim.Native.Nat.{_+_, _-_, _/_, _%_, _≤_};
+ghost use mathlib.Core.List.{_++_};
+ghost use lib.ListN.{length, set, take, drop, replicate};
+ghost use lib.Seq.{paste};
+ghost use Rattle.tree.specs.Accepted.{element};
+
+// The bytes from `at + size` on move down to `at`; those that they leave behind stay.
+fn move_down(s: &mut [u8], at: usize, size: usize)
+    requires { ⌜ at + size ≤ length (now s) ⌝ }
+    ensures { λ _. ⌜ now (s .exit) ≡ paste (now (s .entry)) at (drop (at + size) (now (s .entry))) (length (now (s .entry)) - (at + size)) ⌝ }
+{
+    let mut j = 0;
+    while j < s.len() - (at + size) {
+        s[at + j] = s[at + size + j];
+        j += 1;
+    }
+}
+
+// Zero bytes from `at` on.
+fn clear_from(s: &mut [u8], at: usize)
+    requires { ⌜ at ≤ length (now s) ⌝ }
+    ensures { λ _. ⌜ now (s .exit) ≡ take at (now (s .entry)) ++ replicate (length (now (s .entry)) - at) 0 ⌝ }
+{
+    let mut j = 0;
+    while j < s.len() - at {
+        s[at + j] = 0;
+        j += 1;
+    }
+}
+
+// The `size` bytes from `at` on are taken out: what follows them moves down, and zero bytes fill the end.
+fn close_gap(s: &mut [u8], at: usize, size: usize)
+    requires { ⌜ at + size ≤ length (now s) ⌝ }
+    ensures { λ _. ⌜ now (s .exit) ≡ take at (now (s .entry)) ++ (drop (at + size) (now (s .entry)) ++ replicate size 0) ⌝ }
+{
+    move_down(s, at, size);
+    let end = s.len() - size;
+    clear_from(s, end);
+}
+
+// The same where all bytes from `used` on are zero: these stay, and nothing is moved for no bytes.
+pub fn take_out(s: &mut [u8], at: usize, size: usize, used: usize)
+    requires { ⌜ (at + size ≤ used) × (used ≤ length (now s)) × (drop used (now s) ≡ replicate (length (now s) - used) 0) ⌝ }
+    ensures { λ _. ⌜ now (s .exit) ≡ take at (now (s .entry)) ++ (drop (at + size) (now (s .entry)) ++ replicate size 0) ⌝ }
+{
+    if size == 0 {
+        return;
+    }
+    close_gap(&mut s[..used], at, size);
+}
+
+// The bytes of `t` over those from `at` on.
+pub fn copy_in(t: &[u8], s: &mut [u8], at: usize)
+    requires { ⌜ at + length (now t) ≤ length (now s) ⌝ }
+    ensures { λ _. ⌜ now (s .exit) ≡ paste (now (s .entry)) at (now (t .entry)) (length (now (t .entry))) ⌝ }
+{
+    let mut j = 0;
+    while j < t.len() {
+        s[at + j] = t[j];
+        j += 1;
+    }
+}
+
+// The front of a field of n bytes.
+fn put_front(s: &mut [u8], at: usize, tag: u8, n: usize)
+    requires { ⌜ at + 3 ≤ length (now s) ⌝ }
+    ensures { λ _. ⌜ now (s .exit) ≡ set (set (set (now (s .entry)) at tag) (at + 1) (n / 256 % 256)) (at + 2) (n % 256) ⌝ }
+{
+    s[at] = tag;
+    s[at + 1] = (n / 256 % 256) as u8;
+    s[at + 2] = (n % 256) as u8;
+}
+
+// A field of that tag with the bytes of `t`, over those from `at` on.
+pub fn put_field(s: &mut [u8], at: usize, tag: u8, t: &[u8])
+    requires { ⌜ (at + (3 + length (now t)) ≤ length (now s)) × (length (now t) ≤ 65535) ⌝ }
+    ensures { λ _. ⌜ now (s .exit) ≡ take at (now (s .entry)) ++ (element tag (now (t .entry)) ++ drop (at + (3 + length (now (t .entry)))) (now (s .entry))) ⌝ }
+{
+    put_front(s, at, tag, t.len());
+    copy_in(t, s, at + 3);
+}
