@@ -9,17 +9,18 @@
  * each one 2, 5, 4, then 3 of a Cell or 17 of a range. A refusal writes to none of the lent lists; otherwise items past those said to be written stay as they were. The
  * functions keep nothing between calls and allocate nothing; on the stack they took up to 77 kilobytes (measured, at depth 16).
  *
- *   1   settings not of the form or ranges                   10   split list count over 512
- *   2   tree: too long, cut short, unknown tag ..            11   share: n = 0 or index >= n
- *   3   forbidden text byte                                  12   a line or column outside the printed sheet
- *   4   node 513 met                                         13   a place in the margin
- *   5   depth 17 met                                         14   over 256 places
- *   6   over 400 columns or 160 lines, the margin included   15   the tree is no Column of 1 to 200 Cells
- *   7   never occurs any more; the number is kept free       16   a cell is wider than the given width
- *   8   a lent list is shorter than needed                   17   a range with a least above its greatest, or no line
- *   9   the number names no leaf
+ *   1   settings not of the form or ranges                   11   share: n = 0 or index >= n
+ *   2   tree: too long, cut short, unknown tag ..            12   a line or column outside the printed sheet
+ *   3   forbidden text byte                                  13   a place in the margin
+ *   4   node 513 met                                         14   over 256 places
+ *   5   depth 17 met                                         15   the tree is no Column of 1 to 200 Cells
+ *   6   over 400 columns or 160 lines, the margin included   16   a cell is wider than the given width
+ *   7   never occurs any more; the number is kept free       17   a range with a least above its greatest, or no line
+ *   8   a lent list is shorter than needed                   18   a store of drafts not of the form
+ *   9   the number names no leaf                             19   a name other than A to H, or one without a draft
+ *  10   split list count over 512                            20   no room in a store beside its other drafts
  *
- * Settings and trees are bytes (hex below). docs/FORMS.md has them with pictures, examples and the meaning of each; examples/build.c builds a tree.
+ * Settings, trees and stores are bytes (hex below). docs/FORMS.md has them with pictures, examples and the meaning of each; examples/build.c builds a tree.
  *
  * Settings, 31 bytes, or 42 with a margin. 10 00 1C, then
  *   15 marks, 20 to 7E: top, bottom, left, right, horizontal, vertical (these two are never printed), top_left, top_right, top_intersection,
@@ -39,6 +40,10 @@
  * The root ends where the bytes end. Nodes are numbered from 0 in the order of their tags. Column[`ab`, `c`]: 03 00 09 01 00 02 61 62 01 00 01 63.
  * A planning tree, which leg_plan alone takes (to every other function the tag is unknown), has for texts that are to come also
  *   04 range, 4 bytes: the least and the greatest width of the text, the least and the greatest count of its lines (1 or more)
+ *
+ * A store of drafts, of any length: fields back to back, then 00 to its end; bytes that are all 00 are a store without a draft. A field is a tag, 20 to 27, the length of
+ * its contents in two bytes, the high one first, and its contents, a tree. Draft 'A', byte 41, has tag 20, and so on to 'H', byte 48, with tag 27; each stands there
+ * once at the most, in any order.
  */
 #ifndef LEG_SHEET_H
 #define LEG_SHEET_H
@@ -76,6 +81,10 @@ extern "C" {
 
 /* leg_fold takes lists of up to LEG_CELLS Cells, and writes no more Columns. */
 #define LEG_CELLS 200
+
+/* The most bytes of a tree, and so of a draft that was saved; a store of LEG_STORE bytes has room for any eight. */
+#define LEG_TREE 32768
+#define LEG_STORE (8 * (3 + LEG_TREE))
 
 /* Reads settings of 31 or 42 bytes. 1, 8. Writes the 28 numbers after the first tag and length: 15 marks; padding left, right, top, bottom;
  * their fills; horizontal and vertical alignment; line mode; width and height priority. Counts 28. */
@@ -132,6 +141,18 @@ uint64_t leg_plan(const uint8_t *settings, size_t settings_len, const uint8_t *t
  * Cell its node to `nodes` and the number of letters to `letters`, at the same index: the smallest number first, equal ones by node. Empty Rows and Columns are not
  * listed. Counts the Cells, 512 at the most. */
 uint64_t leg_widen(const uint8_t *settings, size_t settings_len, const uint8_t *tree, size_t tree_len, uint16_t *nodes, size_t nodes_len, uint32_t *letters, size_t letters_len);
+
+/* Saves a tree in a store under a name, 'A' to 'H': an older draft of that name is dropped, the drafts behind it close up, and the new one stands last; the other drafts keep
+ * their bytes. 18 (the trees inside are not read); 19; the tree's own 2 to 5; 20 where the other fields, 3 and `tree_len` are together more than `store_len`: the older
+ * draft is not counted, and stays. Writes the store. Counts 0. */
+uint64_t leg_save_draft(uint8_t *store, size_t store_len, uint8_t name, const uint8_t *tree, size_t tree_len);
+
+/* Forgets a draft: those behind it close up, and the bytes that are freed at the end are 00. 18, 19. Writes the store. Counts 0. */
+uint64_t leg_forget_draft(uint8_t *store, size_t store_len, uint8_t name);
+
+/* Returns to a draft: copies its tree to `out`. 18, 19; 8 where `out` has fewer bytes. After any calls of these three on a store that was all 00, this is the tree of the
+ * last accepted save under the name, unless it was forgotten since. Counts the bytes copied. */
+uint64_t leg_return_draft(const uint8_t *store, size_t store_len, uint8_t name, uint8_t *out, size_t out_len);
 
 /* Cuts the list of the first `count` of `pieces` at `w`; numbers past them are not looked at. 10; 8 where `pieces` has under `count` numbers or `out` under
  * LEG_CUT. Writes yes or no (1 or 0); the cut's pair: how many pieces it took, and the length left of the first piece not taken, 0 if there is none or it

@@ -93,6 +93,17 @@ pub fn record<const N: usize>(call: impl Fn(&mut [u16]) -> Answer) -> (u8, [u16;
     (sound(number, kept), long.written(number))
 }
 
+/// A call on bytes that stand between others, which must stay. Answers its number and its count.
+pub fn between(bytes: &mut [u8], call: impl FnOnce(&mut [u8]) -> Answer) -> (u8, usize) {
+    let around = [0xA5; MORE];
+    let mut lent = [&around, &*bytes, &around].concat();
+    let (start, end) = (MORE, MORE + bytes.len());
+    let answer = call(&mut lent[start..end]);
+    bytes.copy_from_slice(&lent[start..end]);
+    let kept = lent[..start] == around && lent[end..] == around;
+    (sound(number(answer), kept), answer.unwrap_or(0))
+}
+
 /// What a cut writes.
 pub struct Writes {
     /// Whether the list left takes the place of the pieces.
@@ -204,6 +215,26 @@ mod tests {
         };
         assert_eq!(record::<2>(spoil).0, BROKEN);
         assert_eq!(record::<2>(|_| DONE).0, BROKEN);
+    }
+
+    #[test]
+    fn bytes_around_stay() {
+        let mut bytes = [1, 2];
+        let call = |list: &mut [u8]| {
+            list.fill(7);
+            Ok(list.len())
+        };
+        assert_eq!((between(&mut bytes, call), bytes), ((0, 2), [7, 7]));
+        assert_eq!(between(&mut bytes, |_| REFUSED), (10, 0));
+        assert_eq!(between(&mut [], |_| SHORT), (8, 0));
+        let spoil = |at: isize| {
+            between(&mut [1, 2], |list| {
+                // SAFETY: three bytes more stand on both sides of the list.
+                unsafe { *list.as_mut_ptr().offset(at) = 0 };
+                DONE
+            })
+        };
+        assert_eq!([spoil(-1).0, spoil(0).0, spoil(2).0], [BROKEN, 0, BROKEN]);
     }
 
     /// Leaves the first `count` pieces, then 0, and writes 0 to two numbers of each list.

@@ -280,6 +280,25 @@ impl Calls for Library {
         }
     }
 
+    /// A save counts nothing.
+    fn save_draft(&mut self, store: &mut [u8], name: u8, tree: &[u8]) -> u8 {
+        let save = |store: &mut [u8]| calls::save_draft(store, name, tree);
+        let (number, count) = lent::between(store, save);
+        sound(number, count == 0)
+    }
+
+    fn forget_draft(&mut self, store: &mut [u8], name: u8) -> u8 {
+        let forget = |store: &mut [u8]| calls::forget_draft(store, name);
+        let (number, count) = lent::between(store, forget);
+        sound(number, count == 0)
+    }
+
+    fn return_draft(&mut self, store: &[u8], name: u8, output: &mut [u8]) -> Counted {
+        let copy = |out: &mut [u8]| calls::return_draft(store, name, out);
+        let (number, count) = lent::between(output, copy);
+        Counted { number, count }
+    }
+
     fn short_splits3(&mut self, list: &SplitList, width: u16) -> CutParts {
         let writes = Writes {
             left: false,

@@ -303,6 +303,50 @@ pub fn widen(
     })
 }
 
+/// Saves a tree in a store of drafts under a name, a letter's byte from A to H, and counts nothing: an older draft of that name is dropped, and the new one stands last.
+/// [`DraftStore`](crate::DraftStore) says more of a store.
+///
+/// # Errors
+/// 18, 19, the tree's 2 to 5, 20.
+pub fn save_draft(store: &mut [u8], name: u8, tree: &[u8]) -> Result<usize, Refusal> {
+    // SAFETY: pointers and lengths of slices that are borrowed here.
+    answer(unsafe {
+        raw::leg_save_draft(
+            store.as_mut_ptr(),
+            store.len(),
+            name,
+            tree.as_ptr(),
+            tree.len(),
+        )
+    })
+}
+
+/// Forgets a draft, and counts nothing: those behind it close up, and the bytes that are freed are zero.
+///
+/// # Errors
+/// 18, 19.
+pub fn forget_draft(store: &mut [u8], name: u8) -> Result<usize, Refusal> {
+    // SAFETY: pointer and length of a slice that is borrowed here.
+    answer(unsafe { raw::leg_forget_draft(store.as_mut_ptr(), store.len(), name) })
+}
+
+/// Copies a draft's tree out, and counts its bytes.
+///
+/// # Errors
+/// 18, 19, 8.
+pub fn return_draft(store: &[u8], name: u8, out: &mut [u8]) -> Result<usize, Refusal> {
+    // SAFETY: pointers and lengths of slices that are borrowed here.
+    answer(unsafe {
+        raw::leg_return_draft(
+            store.as_ptr(),
+            store.len(),
+            name,
+            out.as_mut_ptr(),
+            out.len(),
+        )
+    })
+}
+
 /// Cuts the list of the first `count` pieces at `width` and writes [`CUT`] numbers.
 ///
 /// # Errors

@@ -20,12 +20,13 @@
 //! ```
 //!
 //! The functions here take [`Settings`] and a [`Tree`], or a [`Plan`] of one, and answer values; those of [`Input`] take the two as bytes; those of [`calls`] take bytes and
-//! write to buffers that the caller lends. Under all three are the same proved functions, which decide every refusal and write every byte: this crate
-//! puts values into bytes and makes values of what was written.
+//! write to buffers that the caller lends. A [`DraftStore`] keeps trees in such a buffer. Under all of them are the same proved functions, which decide every refusal and
+//! write every byte: this crate puts values into bytes and makes values of what was written.
 
 #![deny(missing_docs, clippy::undocumented_unsafe_blocks)]
 
 pub mod calls;
+mod drafts;
 mod input;
 mod plan;
 mod raw;
@@ -35,6 +36,7 @@ mod settings;
 mod tree;
 mod values;
 
+pub use drafts::{Draft, DraftStore};
 pub use input::Input;
 pub use plan::Plan;
 pub use records::{

@@ -109,6 +109,24 @@ extern "C" {
         letters_len: usize,
     ) -> u64;
 
+    pub fn leg_save_draft(
+        store: *mut u8,
+        store_len: usize,
+        name: u8,
+        tree: *const u8,
+        tree_len: usize,
+    ) -> u64;
+
+    pub fn leg_forget_draft(store: *mut u8, store_len: usize, name: u8) -> u64;
+
+    pub fn leg_return_draft(
+        store: *const u8,
+        store_len: usize,
+        name: u8,
+        out: *mut u8,
+        out_len: usize,
+    ) -> u64;
+
     pub fn leg_short_splits3(
         pieces: *const u16,
         pieces_len: usize,

@@ -70,6 +70,9 @@ refusals! {
     15 NotAList "the tree is no Column of 1 to 200 Cells",
     16 TooWide "a cell is wider than the given width",
     17 BadRange "a range has a least above its greatest, or no line",
+    18 BadStore "the store's fields are not of their form",
+    19 NoDraft "the name is none of A to H, or no draft has it",
+    20 NoRoom "the store has no room for the tree beside the other drafts",
 }
 
 impl Refusal {
@@ -98,7 +101,7 @@ mod tests {
     #[test]
     fn the_table_is_by_number() {
         let numbers = Refusal::TABLE.iter().map(|refusal| refusal.number());
-        assert!(numbers.eq((1..=17).filter(|&number| number != 7)));
+        assert!(numbers.eq((1..=20).filter(|&number| number != 7)));
         for &refusal in Refusal::TABLE {
             assert_eq!(Refusal::of_word(u64::from(refusal.number()) << 32), refusal);
         }

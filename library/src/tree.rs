@@ -83,10 +83,16 @@ impl Tree {
     /// # Errors
     /// 2 to 5, as the proved reader says.
     pub fn to_bytes(&self) -> Result<Vec<u8>, Refusal> {
-        let mut bytes = Vec::new();
-        self.put(&mut bytes);
+        let bytes = self.unread();
         calls::read_tree(&bytes)?;
         Ok(bytes)
+    }
+
+    /// The tree's bytes, which no call has read.
+    pub(crate) fn unread(&self) -> Vec<u8> {
+        let mut bytes = Vec::new();
+        self.put(&mut bytes);
+        bytes
     }
 
     /// The tree of bytes that the proved reader accepts.

@@ -216,6 +216,15 @@ pub trait Calls {
         letters: &mut [u32],
     ) -> Counted;
 
+    /// Saves a tree in a store of drafts. Answers the number alone.
+    fn save_draft(&mut self, store: &mut [u8], name: u8, tree: &[u8]) -> u8;
+
+    /// Forgets a draft. Answers the number alone.
+    fn forget_draft(&mut self, store: &mut [u8], name: u8) -> u8;
+
+    /// Copies a draft's tree out. Answers its bytes.
+    fn return_draft(&mut self, store: &[u8], name: u8, output: &mut [u8]) -> Counted;
+
     fn short_splits3(&mut self, list: &SplitList, width: u16) -> CutParts;
 
     fn short_splits(&mut self, list: &SplitList, width: u16) -> CutPositions;

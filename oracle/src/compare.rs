@@ -1,5 +1,7 @@
 //! Two sides on the same inputs: every number, every field, and every lent entry, written or not.
 
+mod drafts;
+
 use std::collections::BTreeMap;
 use std::fmt;
 
@@ -52,7 +54,7 @@ impl Counts {
 }
 
 /// The numbers that each call can give, by the documents' tables.
-pub const NUMBERS: [(&str, &[u8]); 16] = [
+pub const NUMBERS: [(&str, &[u8]); 19] = [
     ("settings", &[0, 1]),
     ("margin", &[0, 1]),
     ("tree", &[0, 2, 3, 4, 5]),
@@ -65,6 +67,9 @@ pub const NUMBERS: [(&str, &[u8]); 16] = [
     ("fold", &[0, 1, 2, 3, 4, 5, 8, 15, 16]),
     ("plan", &[0, 1, 2, 3, 4, 5, 17]),
     ("widen", &[0, 1, 2, 3, 4, 5, 8]),
+    ("save", &[0, 2, 3, 4, 5, 18, 19, 20]),
+    ("forget", &[0, 18, 19]),
+    ("return", &[0, 8, 18, 19]),
     ("short_splits3", &[0, 10]),
     ("short_splits3, lent", &[0, 10]),
     ("short_splits", &[0, 10]),
@@ -98,7 +103,7 @@ pub type Part = (
     fn(&mut Comparison, &mut Rng, usize) -> Result<(), Difference>,
 );
 
-pub const PARTS: [Part; 23] = [
+pub const PARTS: [Part; 26] = [
     ("settings records", |c, _, _| c.settings_records()),
     ("short and faulty trees", |c, _, _| c.faulty_trees()),
     ("all trees of up to 5 nodes", |c, _, _| {
@@ -149,6 +154,13 @@ pub const PARTS: [Part; 23] = [
     }),
     ("letters of damaged bytes", |c, rng, rounds| {
         c.any_needs(rng, 300 * rounds)
+    }),
+    ("drafts in all small stores", |c, _, _| c.small_stores(4, 3)),
+    ("series of drafts", |c, rng, rounds| {
+        c.series(rng, 30 * rounds)
+    }),
+    ("drafts in damaged stores", |c, rng, rounds| {
+        c.any_stores(rng, 1000 * rounds)
     }),
 ];
 
@@ -237,6 +249,16 @@ impl<'a> Comparison<'a> {
         input: impl Fn() -> String,
         run: impl Fn(&mut dyn Calls) -> (u8, T),
     ) -> Result<(), Difference> {
+        self.agreed(call, input, run).map(|_| ())
+    }
+
+    /// The same, with the answer of both.
+    fn agreed<T: PartialEq + fmt::Debug>(
+        &mut self,
+        call: &'static str,
+        input: impl Fn() -> String,
+        run: impl Fn(&mut dyn Calls) -> (u8, T),
+    ) -> Result<(u8, T), Difference> {
         let one = run(self.one);
         let other = run(self.other);
         if one != other {
@@ -248,7 +270,7 @@ impl<'a> Comparison<'a> {
             });
         }
         *self.counts.0.entry((call, one.0)).or_default() += 1;
-        Ok(())
+        Ok(one)
     }
 
     fn read_settings(&mut self, settings: &[u8]) -> Result<(), Difference> {

@@ -1,5 +1,7 @@
 //! Inputs: exhaustive small ones, random ones, those on each side of each limit, damaged ones.
 
+pub mod stores;
+
 use crate::form::{
     encode_element, encode_plan, encode_settings, encode_tree, Fold, Margin, Plan, Range, Settings,
     Tree,

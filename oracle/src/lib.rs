@@ -2,6 +2,8 @@
 
 pub mod calls;
 pub mod compare;
+pub mod drafting;
+pub mod drafts;
 pub mod folding;
 pub mod folds;
 pub mod form;

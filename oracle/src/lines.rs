@@ -26,6 +26,11 @@ fn escaped(bytes: &[u8]) -> String {
         .collect()
 }
 
+/// The same with the space as hex digits, too: it is the tag of draft A.
+fn word(bytes: &[u8]) -> String {
+    escaped(bytes).replace(' ', "\\20")
+}
+
 /// Numbers with a space between them.
 fn words(numbers: &[usize]) -> String {
     if numbers.is_empty() {
@@ -228,6 +233,47 @@ impl Lines {
             'n',
             &format!("{room} {other}, {number} {count}, {}", words(&needs)),
         );
+    }
+
+    /// The store that the next call is about, where the last one has not left it so. It stands where settings do.
+    fn store(&mut self, store: &[u8]) {
+        if self.settings != store {
+            self.settings = store.to_vec();
+            self.line('=', &word(store));
+        }
+    }
+
+    /// A call that has left this store: the name; then the number, and the store, which is answered.
+    fn left(&mut self, kind: char, name: u8, number: u8, store: Vec<u8>) -> Vec<u8> {
+        self.line(kind, &format!("{name}, {number}, {}", word(&store)));
+        self.settings.clone_from(&store);
+        store
+    }
+
+    /// A tree saved in a store.
+    pub fn save(&mut self, store: &[u8], name: u8, tree: &[u8]) -> Vec<u8> {
+        self.store(store);
+        self.given(store, tree);
+        let mut after = store.to_vec();
+        let number = self.original.save_draft(&mut after, name, tree);
+        self.left('s', name, number, after)
+    }
+
+    /// A draft forgotten.
+    pub fn forget(&mut self, store: &[u8], name: u8) -> Vec<u8> {
+        self.store(store);
+        let mut after = store.to_vec();
+        let number = self.original.forget_draft(&mut after, name);
+        self.left('f', name, number, after)
+    }
+
+    /// A draft returned to: the name, and the room; then the number and the count, and the bytes copied.
+    pub fn return_to(&mut self, store: &[u8], name: u8, room: usize) {
+        self.store(store);
+        let mut out = vec![0; room];
+        let Counted { number, count } = self.original.return_draft(store, name, &mut out);
+        let copied = word(&out[..count]);
+        self.line('r', &format!("{name} {room}, {number} {count}, {copied}"));
     }
 
     pub fn both(&mut self, node: usize) {

@@ -6,7 +6,7 @@ use std::process::ExitCode;
 use oracle::calls::Calls;
 use oracle::compare::Comparison;
 use oracle::sides::{Answers, Crate, Original, Paper};
-use oracle::{folds, judge, places, plans, replay, widths};
+use oracle::{drafts, folds, judge, places, plans, replay, widths};
 
 const USAGE: &str = "oracle sheet             the sheet, as the sheet program prints it
 oracle leaves            every node's sizes, every leaf's record and block
@@ -16,7 +16,8 @@ oracle faults SEED       the same of crates/replay_faults
 oracle places SEED       places and their leaves as the input of the program crates/replay_places
 oracle folds SEED        folded lists as lines for the program crates/call_tests
 oracle plans SEED        planning trees as lines for the same program
-oracle widths SEED       the letters that widen a sheet, for it too";
+oracle widths SEED       the letters that widen a sheet, for it too
+oracle drafts SEED       drafts saved, forgotten and returned to, for it too";
 
 fn main() -> ExitCode {
     let arguments: Vec<String> = std::env::args().skip(1).collect();
@@ -30,6 +31,7 @@ fn main() -> ExitCode {
         ["folds", seed] => replayed(seed, folds::lines),
         ["plans", seed] => replayed(seed, plans::lines),
         ["widths", seed] => replayed(seed, widths::lines),
+        ["drafts", seed] => replayed(seed, drafts::lines),
         ["agree", ref rest @ ..] if rest.len() <= 2 => {
             let mut numbers = rest.iter().map(|word| word.parse::<u64>());
             let seed = numbers.next().unwrap_or(Ok(1));

@@ -1,4 +1,4 @@
-//! Two sides of the calls: the crate and the documents. Both refuse as the judge says.
+//! Two sides of the calls: the crate and the documents. Both refuse as the judge says, and keep drafts as `drafting` does: the crate has none.
 
 use crate::calls::{
     Calls, Counted, CutParts, CutPositions, Folded, LeafPlace, LeafRecord, Marked, Planned,
@@ -9,7 +9,7 @@ use crate::form::{
     Answer, Cut, Cut3, CutPair, Ends, Flags, Fold, Need, Owner, Owners, Plan, Settings, Tree,
 };
 use crate::judge;
-use crate::{original, paper, planning, widening};
+use crate::{drafting, original, paper, planning, widening};
 
 /// Where the answers of a side come from; the refusals are the judge's.
 pub trait Answers {
@@ -269,6 +269,17 @@ fn write(bytes: &[u8], output: &mut [u8]) -> Counted {
     }
 }
 
+/// The store as a call leaves it, and the call's number.
+fn keep(store: &mut [u8], after: Result<Vec<u8>, u8>) -> u8 {
+    match after {
+        Ok(after) => {
+            store.copy_from_slice(&after);
+            0
+        }
+        Err(number) => number,
+    }
+}
+
 impl<A: Answers> Calls for Side<A> {
     fn read_settings(&mut self, settings: &[u8]) -> ReadSettings {
         match judge::read_settings(settings) {
@@ -457,6 +468,21 @@ impl<A: Answers> Calls for Side<A> {
         Counted {
             number: 0,
             count: needs.len(),
+        }
+    }
+
+    fn save_draft(&mut self, store: &mut [u8], name: u8, tree: &[u8]) -> u8 {
+        keep(store, drafting::save(store, name, tree))
+    }
+
+    fn forget_draft(&mut self, store: &mut [u8], name: u8) -> u8 {
+        keep(store, drafting::forget(store, name))
+    }
+
+    fn return_draft(&mut self, store: &[u8], name: u8, output: &mut [u8]) -> Counted {
+        match drafting::returned(store, name, output.len()) {
+            Ok(tree) => write(&tree, output),
+            Err(number) => Counted { number, count: 0 },
         }
     }
 

@@ -1,5 +1,7 @@
 //! The crate against documents 01 and 02, and what the oracle itself rests on. `oracle agree` does more of the first.
 
+mod faulty;
+
 use oracle::calls::{
     Calls, Counted, CutParts, CutPositions, Folded, LeafPlace, LeafRecord, Marked, Planned,
     ReadMargin, ReadSettings, Shared, SizeRecord, SplitList,
@@ -87,6 +89,13 @@ fn letters() {
 }
 
 #[test]
+fn drafts() {
+    agree(|comparison| comparison.small_stores(3, 2));
+    agree(|comparison| comparison.series(&mut Rng::new(30), 20));
+    agree(|comparison| comparison.any_stores(&mut Rng::new(31), 400));
+}
+
+#[test]
 fn lists() {
     agree(|comparison| comparison.lists(&mut Rng::new(14), 500));
 }
@@ -116,6 +125,7 @@ fn every_number_is_reached() {
         .and_then(|()| comparison.any_folds(&mut Rng::new(1), 400))
         .and_then(|()| comparison.any_plans(&mut Rng::new(1), 400))
         .and_then(|()| comparison.any_needs(&mut Rng::new(1), 400))
+        .and_then(|()| comparison.any_stores(&mut Rng::new(1), 400))
         .and_then(|()| comparison.lists(&mut Rng::new(1), 10))
         .and_then(|()| comparison.shares(&mut Rng::new(1), 3));
     run.expect("a side agrees with itself");
@@ -209,7 +219,7 @@ struct Faulty {
     fault: u8,
 }
 
-const FAULTS: u8 = 110;
+const FAULTS: u8 = faulty::LAST + 1;
 
 /// The judge's numbers with the margin and without it: whether only the margin makes a sheet too large.
 fn is_large_by_margin(number: u8, settings: &[u8], tree: &[u8]) -> bool {
@@ -244,6 +254,17 @@ fn filled(tree: &Tree) -> Tree {
         Tree::Cell(text) => Tree::Cell(text.clone()),
         _ => Tree::cell(""),
     }
+}
+
+/// The store as a call leaves it, and the call's number.
+fn kept(store: &mut [u8], after: Result<Vec<u8>, u8>) -> u8 {
+    after.map_or_else(
+        |number| number,
+        |after| {
+            store.copy_from_slice(&after);
+            0
+        },
+    )
 }
 
 impl Calls for Faulty {
@@ -670,6 +691,23 @@ impl Calls for Faulty {
         answer
     }
 
+    fn save_draft(&mut self, store: &mut [u8], name: u8, tree: &[u8]) -> u8 {
+        let saved = faulty::save(self.fault, store, name, tree);
+        kept(store, saved)
+    }
+
+    fn forget_draft(&mut self, store: &mut [u8], name: u8) -> u8 {
+        let left = faulty::forget(self.fault, store, name);
+        kept(store, left)
+    }
+
+    fn return_draft(&mut self, store: &[u8], name: u8, output: &mut [u8]) -> Counted {
+        match faulty::return_to(self.fault, store, name, output) {
+            Ok(count) => Counted { number: 0, count },
+            Err(number) => Counted { number, count: 0 },
+        }
+    }
+
     fn short_splits3(&mut self, list: &SplitList, width: u16) -> CutParts {
         let mut answer = self.paper.short_splits3(list, width);
         match self.fault {
@@ -719,7 +757,9 @@ fn faults_are_found() {
         let (mut one, mut other) = (Paper::default(), Faulty { paper, fault });
         let mut comparison = Comparison::new(&mut one, &mut other);
         let run = comparison
-            .small_needs(2, &gen::few_settings())
+            .small_stores(3, 1)
+            .and_then(|()| comparison.any_stores(&mut Rng::new(18), 400))
+            .and_then(|()| comparison.small_needs(2, &gen::few_settings()))
             .and_then(|()| comparison.any_needs(&mut Rng::new(18), 100))
             .and_then(|()| comparison.faulty_plans(3))
             .and_then(|()| comparison.small_plans(2, &gen::few_settings()))

@@ -6,12 +6,14 @@
 mod commands;
 mod fault;
 mod operands;
+mod replace;
+mod store;
 
 use std::ffi::OsString;
 use std::io::{self, Write};
 use std::process::ExitCode;
 
-use commands::{help, Answer, COMMANDS};
+use commands::{find, help, Answer};
 use fault::Fault;
 
 /// Finds the command among the words and runs it on the others.
@@ -19,30 +21,24 @@ fn run(words: &[OsString]) -> Result<Answer, Fault> {
     if words.iter().any(|word| word == "--help") {
         return Ok(Answer::accepted(help()));
     }
-    let (name, operands) = words
-        .split_first()
-        .ok_or_else(|| Fault::Usage("no command".into()))?;
-    let command = COMMANDS
-        .iter()
-        .find(|command| name == command.name)
-        .ok_or_else(|| Fault::Usage(format!("no command {name:?}")))?;
+    let (command, operands) = find(words)?;
     if !command.takes(operands.len()) {
         return Err(Fault::Usage(command.usage()));
     }
     (command.run)(operands)
 }
 
-fn write(text: &str) -> Result<(), Fault> {
+fn write(bytes: &[u8]) -> Result<(), Fault> {
     let mut output = io::stdout().lock();
     output
-        .write_all(text.as_bytes())
+        .write_all(bytes)
         .and_then(|()| output.flush())
         .map_err(|error| Fault::Failed("standard output".into(), error))
 }
 
 fn main() -> ExitCode {
     let words: Vec<OsString> = std::env::args_os().skip(1).collect();
-    let status = run(&words).and_then(|answer| write(&answer.text).map(|()| answer.status));
+    let status = run(&words).and_then(|answer| write(&answer.bytes).map(|()| answer.status));
     ExitCode::from(status.unwrap_or_else(|fault| {
         // Where standard error fails too, the status is all that is left to say it.
         let _ = writeln!(io::stderr(), "legs: {fault}");

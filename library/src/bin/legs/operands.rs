@@ -1,4 +1,4 @@
-//! The operands of a command: files, numbers, and places on standard input.
+//! The operands of a command: files, numbers, names, and places on standard input.
 
 use std::ffi::OsStr;
 use std::fs;
@@ -10,7 +10,7 @@ use crate::fault::Fault;
 
 /// An input that was read, with its name for messages.
 pub struct File {
-    name: String,
+    pub name: String,
     bytes: Vec<u8>,
 }
 
@@ -39,6 +39,14 @@ impl File {
     /// What a call answers on its settings and tree.
     pub fn call<T>(&self, call: impl Fn(Input) -> Result<T, Refusal>) -> Result<T, Fault> {
         call(self.input()).map_err(|refusal| Fault::Refused(self.name.clone(), refusal))
+    }
+}
+
+/// The name of a draft: a letter's byte, of which the library says whether it is one.
+pub fn draft_name(word: &OsStr) -> Result<u8, Fault> {
+    match word.as_encoded_bytes() {
+        [name] => Ok(*name),
+        _ => Err(Fault::Usage(format!("{word:?} is no letter"))),
     }
 }
 

@@ -1,6 +1,7 @@
 //! The commands. One more is a file here with its `COMMAND`, and its name in the table.
 
 mod check;
+mod draft;
 mod fold;
 mod leaf;
 mod mark;
@@ -28,10 +29,16 @@ pub const COMMANDS: &[Command] = &[
     plan::COMMAND,
     widen::COMMAND,
     check::COMMAND,
+    draft::NEW,
+    draft::SAVE,
+    draft::FORGET,
+    draft::RETURN,
+    draft::LIST,
 ];
 
 pub struct Command {
-    pub name: &'static str,
+    /// One word, or more.
+    name: &'static str,
     /// The last may stand in brackets: it can be left out.
     operands: &'static [&'static str],
     /// What it does, for `--help`.
@@ -41,6 +48,19 @@ pub struct Command {
 }
 
 impl Command {
+    /// The words behind its name, where they begin with that.
+    fn operands<'a>(&self, words: &'a [OsString]) -> Option<&'a [OsString]> {
+        let mut rest = words;
+        for part in self.name.split(' ') {
+            let (word, after) = rest.split_first()?;
+            if word != part {
+                return None;
+            }
+            rest = after;
+        }
+        Some(rest)
+    }
+
     /// Whether so many words are its operands.
     pub fn takes(&self, count: usize) -> bool {
         let optional = self.operands.iter().filter(|name| name.starts_with('['));
@@ -53,20 +73,57 @@ impl Command {
     }
 }
 
+/// The command that the words begin with, and the words behind it.
+pub fn find(words: &[OsString]) -> Result<(&'static Command, &[OsString]), Fault> {
+    let mut found = (COMMANDS.iter())
+        .filter_map(|command| command.operands(words).map(|operands| (command, operands)));
+    found.next().ok_or_else(|| unknown(words))
+}
+
+/// What is wrong with words that begin with no command: the first is none, or has another behind it that is missing or unknown.
+fn unknown(words: &[OsString]) -> Fault {
+    let Some(first) = words.first() else {
+        return Fault::Usage("no command".into());
+    };
+    let of_first = COMMANDS.iter().filter_map(|command| {
+        let (name, second) = command.name.split_once(' ')?;
+        (first == name).then_some(second)
+    });
+    let seconds: Vec<&str> = of_first.collect();
+    if seconds.is_empty() {
+        return Fault::Usage(format!("no command {first:?}"));
+    }
+    Fault::Usage(format!(
+        "legs {} {}",
+        first.to_string_lossy(),
+        seconds.join(" | ")
+    ))
+}
+
 /// What goes to standard output, and the exit status.
 pub struct Answer {
-    pub text: String,
+    pub bytes: Vec<u8>,
     pub status: u8,
 }
 
 impl Answer {
     pub fn accepted(text: String) -> Answer {
-        Answer { text, status: 0 }
+        Answer::file(text.into())
+    }
+
+    /// Bytes that a command takes.
+    fn file(bytes: Vec<u8>) -> Answer {
+        Answer { bytes, status: 0 }
+    }
+
+    /// Nothing to say.
+    fn done() -> Answer {
+        Answer::accepted(String::new())
     }
 
     fn refused(text: String) -> Answer {
         Answer {
-            text,
+            bytes: text.into(),
             status: REFUSED,
         }
     }
@@ -74,7 +131,7 @@ impl Answer {
 
 /// What `--help` prints.
 pub fn help() -> String {
-    let line = |command: &Command| format!("  {:<32}{}\n", command.usage(), command.about);
+    let line = |command: &Command| format!("  {:<38}{}\n", command.usage(), command.about);
     let commands: String = COMMANDS.iter().map(line).collect();
     format!(
         "Prints leg sheets: bordered tables of nested rows and columns.\n\n{commands}\n\
@@ -82,7 +139,9 @@ pub fn help() -> String {
          For plan the tree may have ranges, where texts are to come; no other command takes them.\n\
          Nodes are numbered from 0, a parent before its children, these from left to right.\n\
          Lines and columns are counted from 0, in the sheet as it is printed.\n\
-         WIDTH is of the sheet inside its edges and margin. BUDGET limits the heights that are tried.\n\n\
+         WIDTH is of the sheet inside its edges and margin. BUDGET limits the heights that are tried.\n\
+         STORE is a file of drafts, up to eight, each under a NAME, A to H. A draft is a tree: no settings are saved, and a FILE that is written keeps its own.\n\
+         Whatever happens, a STORE or FILE that is written is there whole, as it was before or as it shall be.\n\n\
          Exit status: 0, or 1 refused, 2 usage, 3 input or output failed.\n"
     )
 }

@@ -1,0 +1,123 @@
+use std::ffi::{OsStr, OsString};
+use std::fmt::Display;
+use std::io::ErrorKind;
+use std::path::Path;
+
+use leg_sheet::{Draft, DraftStore, Refusal, Settings};
+
+use super::{Answer, Command};
+use crate::fault::Fault;
+use crate::operands::{draft_name, number, File};
+use crate::replace::replace;
+use crate::store::StoreFile;
+
+pub const NEW: Command = Command {
+    name: "draft new",
+    operands: &["STORE", "BYTES"],
+    about: "a new store of so many bytes, all of them free",
+    run: new,
+};
+
+pub const SAVE: Command = Command {
+    name: "draft save",
+    operands: &["STORE", "NAME", "FILE"],
+    about: "saves the tree of FILE as a draft; an older one of that name is dropped",
+    run: save,
+};
+
+pub const FORGET: Command = Command {
+    name: "draft forget",
+    operands: &["STORE", "NAME"],
+    about: "forgets a draft",
+    run: forget,
+};
+
+pub const RETURN: Command = Command {
+    name: "draft return",
+    operands: &["STORE", "NAME", "[FILE]"],
+    about: "puts a draft in the place of FILE's tree; without FILE it is printed, behind the default settings",
+    run: return_to,
+};
+
+pub const LIST: Command = Command {
+    name: "draft list",
+    operands: &["STORE"],
+    about: "the drafts' names and bytes, and how many are free",
+    run: list,
+};
+
+fn new(words: &[OsString]) -> Result<Answer, Fault> {
+    StoreFile::create(&words[0], number(&words[1])?)?;
+    Ok(Answer::done())
+}
+
+/// The settings are read, too: a file that has none is no sheet's, and where its tree begins is not known.
+fn save(words: &[OsString]) -> Result<Answer, Fault> {
+    let name = draft_name(&words[1])?;
+    let file = File::read(&words[2])?;
+    file.call(|input| Settings::from_bytes(input.settings))?;
+    let mut store = StoreFile::read(&words[0])?;
+    let saved = store.call(|store| store.save_bytes(name, file.input().tree));
+    saved.map_err(|fault| match fault {
+        Fault::Refused(_, refusal) if (2..=5).contains(&refusal.number()) => {
+            Fault::Refused(file.name.clone(), refusal)
+        }
+        fault => fault,
+    })?;
+    store.keep()?;
+    Ok(Answer::done())
+}
+
+fn forget(words: &[OsString]) -> Result<Answer, Fault> {
+    let name = draft_name(&words[1])?;
+    let mut store = StoreFile::read(&words[0])?;
+    store.call(|store| store.forget(name))?;
+    store.keep()?;
+    Ok(Answer::done())
+}
+
+fn return_to(words: &[OsString]) -> Result<Answer, Fault> {
+    let name = draft_name(&words[1])?;
+    let mut store = StoreFile::read(&words[0])?;
+    let tree = store.call(|store| store.return_bytes(name))?;
+    let Some(path) = words.get(2).filter(|&word| word != "-") else {
+        let settings = Settings::default().to_bytes();
+        return Ok(Answer::file([settings, tree].concat()));
+    };
+    let bytes = [settings_of(path)?, tree].concat();
+    let failed = |error| Fault::Failed(path.to_string_lossy().into(), error);
+    replace(Path::new(path), &bytes).map_err(failed)?;
+    Ok(Answer::done())
+}
+
+/// The settings that a file has, as they stand there; of one that is not there the default ones.
+fn settings_of(path: &OsStr) -> Result<Vec<u8>, Fault> {
+    match File::read(path) {
+        Ok(file) => {
+            file.call(|input| Settings::from_bytes(input.settings))?;
+            Ok(file.input().settings.to_vec())
+        }
+        Err(Fault::Failed(_, error)) if error.kind() == ErrorKind::NotFound => {
+            Ok(Settings::default().to_bytes())
+        }
+        Err(fault) => Err(fault),
+    }
+}
+
+fn list(words: &[OsString]) -> Result<Answer, Fault> {
+    let mut store = StoreFile::read(&words[0])?;
+    Ok(Answer::accepted(store.call(|store| lines(store))?))
+}
+
+fn lines(store: &DraftStore) -> Result<String, Refusal> {
+    let mut text = line("name", "bytes");
+    for Draft { name, length } in store.list()? {
+        text += &line(char::from(name), length);
+    }
+    let (free, all) = (store.free()?, store.bytes().len());
+    Ok(text + &format!("free: {free} of {all}\n"))
+}
+
+fn line(name: impl Display, bytes: impl Display) -> String {
+    format!("{name:<4}{bytes:>8}\n")
+}
