@@ -3,12 +3,14 @@ use mathlib.Core.Path.{_≡_, _∙_}
 use mathlib.Core.Logic.{_≢_}
 use Prim.Native.Nat.{ℕ}
 use native.Mathlib.Omega.{arith}
+use mathlib.Core.Bool.{true}
 use mathlib.Core.List.{List}
 use lib.ListN.{length, getD, set, length-set}
 use lib.Seq.{getD-set-same, getD-set-other}
 use Rattle.settings.specs.declared.Settings.{Settings}
 use Rattle.block.specs.Block.{Leaf, mark, topLeft, topRight, bottomLeft, topLine, middle, bottomLine}
 use Rattle.block.specs.Parts.{bordersOf, topOf, leftOf, rightOf, bottomOf, middleOf}
+use Rattle.sizes.proofs.Separator.{sep-one}
 
 -- ---- the altered copy
 
@@ -30,7 +32,7 @@ module _ (m : List ℕ) (long : length m ≡ 15) (a b d : ℕ) where
 
 -- ---- the parts of the block
 
-module _ (s : Settings) (l : Leaf) (long : length (s .marks) ≡ 15) where
+module _ (s : Settings) (l : Leaf) (lined : s .lines ≡ true) (long : length (s .marks) ≡ 15) where
   abbrev marks : List ℕ
   marks = set (set (set (s .marks) 6 (topLeft s (l .flags))) 7 (topRight s (l .flags))) 9 (bottomLeft s (l .flags))
 
@@ -42,6 +44,7 @@ module _ (s : Settings) (l : Leaf) (long : length (s .marks) ≡ 15) where
   unfolding topOf bordersOf topLine
   top-is =
       rw (
+        sep-one s lined,
         corner-6 (s .marks) long _ _ _,
         corner-7 (s .marks) long _ _ _,
         other 11 (λ e. omega arith) (λ e. omega arith) (λ e. omega arith),
@@ -52,6 +55,7 @@ module _ (s : Settings) (l : Leaf) (long : length (s .marks) ≡ 15) where
   unfolding middleOf leftOf rightOf bordersOf middle
   middle-is =
       rw (
+        sep-one s lined,
         other 13 (λ e. omega arith) (λ e. omega arith) (λ e. omega arith),
         other 2 (λ e. omega arith) (λ e. omega arith) (λ e. omega arith),
         other 3 (λ e. omega arith) (λ e. omega arith) (λ e. omega arith),
@@ -61,6 +65,7 @@ module _ (s : Settings) (l : Leaf) (long : length (s .marks) ≡ 15) where
   unfolding bottomOf bordersOf bottomLine
   bottom-is =
       rw (
+        sep-one s lined,
         corner-9 (s .marks) long _ _ _,
         other 1 (λ e. omega arith) (λ e. omega arith) (λ e. omega arith),
         other 10 (λ e. omega arith) (λ e. omega arith) (λ e. omega arith),

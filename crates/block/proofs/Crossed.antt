@@ -103,41 +103,41 @@ crossed-ruled ks n b c =
 -- ---- in a column
 
 -- a store at line k of a column
-set-column : (l o : List ℕ) (at step k b : ℕ) → 0 < step → k < length l → set (pasted o at step (column l)) (at + k * step) b ≡ pasted o at step (column (set l k b))
+set-column : (l o : List ℕ) (at step k b : ℕ) → 0 < step → k < length l → set (pasted o at step (column 1 l)) (at + k * step) b ≡ pasted o at step (column 1 (set l k b))
 unfolding pasted column
 set-column [] o at step k b s h = absurd (omega arith)
 set-column (x ∷ l) o at step zero b s h =
     let e : at + 0 * step ≡ at = omega arith in
-    rw (e, sets-pasted (column l) (b ∷ []) (set o at x) at (at + step) step (omega arith), set-set o at x b)
+    rw (e, sets-pasted (column 1 l) (b ∷ []) (set o at x) at (at + step) step (omega arith), set-set o at x b)
 set-column (x ∷ l) o at step (suc k) b s h =
     let e : at + suc k * step ≡ at + step + k * step = omega arith in
     rw e (set-column l (set o at x) (at + step) step k b s (omega arith))
 
-crossed-column : (ks l o : List ℕ) (at step n b : ℕ) → 0 < step → length l ≡ n → crossed (pasted o at step (column l)) at step n ks b ≡ pasted o at step (column (crossed l 0 1 n ks b))
+crossed-column : (ks l o : List ℕ) (at step n b : ℕ) → 0 < step → length l ≡ n → crossed (pasted o at step (column 1 l)) at step n ks b ≡ pasted o at step (column 1 (crossed l 0 1 n ks b))
 unfolding crossed
 crossed-column [] l o at step n b s h = refl
 crossed-column (k ∷ ks) l o at step n b s h = either n k
-    (λ j. crossed-out (pasted o at step (column l)) at step n b k ks j ∙ crossed-column ks l o at step n b s h ∙ rw (crossed-out l 0 1 n b k ks j))
+    (λ j. crossed-out (pasted o at step (column 1 l)) at step n b k ks j ∙ crossed-column ks l o at step n b s h ∙ rw (crossed-out l 0 1 n b k ks j))
     (λ j. let e : 0 + k * 1 ≡ k = omega arith in
-    crossed-in (pasted o at step (column l)) at step n b k ks j ∙ rw (set-column l o at step k b s (omega arith))
+    crossed-in (pasted o at step (column 1 l)) at step n b k ks j ∙ rw (set-column l o at step k b s (omega arith))
     (crossed-column ks (set l k b) o at step n b s (length-set l k b ∙ h) ∙ rw (crossed-in l 0 1 n b k ks j, e)))
 
-column-replicate : (n c : ℕ) → column (replicate n c) ≡ replicate n (c ∷ [])
+column-replicate : (n c : ℕ) → column 1 (replicate n c) ≡ replicate n (c ∷ [])
 unfolding column
 column-replicate zero c = refl
 column-replicate (suc n) c = ap (λ (x : List (List ℕ)). (c ∷ []) ∷ x) (column-replicate n c)
 
 -- n equal marks, one under another, and then crossed
-pub stack-crossed : (ks o : List ℕ) (at step n b c : ℕ) → 0 < step → crossed (pasted o at step (replicate n (c ∷ []))) at step n ks b ≡ pasted o at step (column (ruled ks b c 0 n))
+pub stack-crossed : (ks o : List ℕ) (at step n b c : ℕ) → 0 < step → crossed (pasted o at step (replicate n (c ∷ []))) at step n ks b ≡ pasted o at step (column 1 (ruled ks b c 0 n))
 stack-crossed ks o at step n b c h = rw (← (column-replicate n c), crossed-column ks (replicate n c) o at step n b h (length-replicate n c), crossed-ruled ks n b c)
 
 -- ---- in a row
 
 -- bytes in a row are a column whose lines are next to each other
-pasted-row : (l o : List ℕ) (at : ℕ) → pasted o at 1 (column l) ≡ sets o at l
+pasted-row : (l o : List ℕ) (at : ℕ) → pasted o at 1 (column 1 l) ≡ sets o at l
 unfolding pasted column
 pasted-row [] o at = refl
-pasted-row (b ∷ l) o at = ap (λ (k : ℕ). pasted (set o at b) k 1 (column l)) (add-one at) ∙ pasted-row l (set o at b) (suc at)
+pasted-row (b ∷ l) o at = ap (λ (k : ℕ). pasted (set o at b) k 1 (column 1 l)) (add-one at) ∙ pasted-row l (set o at b) (suc at)
 
 -- n equal marks between a corner and what stands after them, and then crossed
 pub row-crossed : (ks y o : List ℕ) (at n b c corner : ℕ) → crossed (sets o at (corner ∷ (replicate n c ++ y))) (at + 1) 1 n ks b ≡ sets o at (corner ∷ (ruled ks b c 0 n ++ y))

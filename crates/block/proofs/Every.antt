@@ -60,6 +60,10 @@ dims-append {x} {y} {w = w} p q = record {
   columns = every-append (λ l. length l ≡ w) x y (p .columns) (q .columns);
 }
 
+-- n equal lines
+pub dims-lines : (n : ℕ) (l : List ℕ) (w : ℕ) → length l ≡ w → Dims (replicate n l) n w
+dims-lines n l w e = record { lines = length-replicate n l; columns = every-replicate (λ x. length x ≡ w) n l e }
+
 pub dims-replicate : (n w b : ℕ) → Dims (replicate n (replicate w b)) n w
 dims-replicate n w b = record {
   lines = length-replicate n (replicate w b);

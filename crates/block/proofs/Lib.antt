@@ -5,6 +5,7 @@ pub mod Pasted
 pub mod Feeds
 pub mod TextLine
 pub mod Dims
+pub mod Cases
 pub mod Places
 pub mod NoFeed
 pub mod Room

@@ -12,6 +12,7 @@ use Rattle.common.specs.Choice.{pick, both}
 use Rattle.settings.specs.declared.Settings.{Settings}
 use Rattle.splits.specs.Splits.{named, isNamed}
 use Rattle.sizes.specs.declared.Size.{Size}
+use Rattle.sizes.specs.Sizes.{sep}
 use Rattle.sizes.specs.Text.{onto, lines, textWidth, textHeight}
 use Rattle.block.specs.declared.Flags.{Flags}
 use Rattle.block.specs.Content.{paired, column, ruled, feeds}
@@ -56,10 +57,10 @@ free-ruled ns i (suc n) p q = more (free-pick (isNamed i ns) p q) (free-ruled ns
 
 -- ---- contents
 
-free-column : {l : List ℕ} → Free l → NoFeed (column l)
+free-column : (n : ℕ) {l : List ℕ} → Free l → NoFeed (column n l)
 unfolding column
-free-column none = none
-free-column (more p h) = more (more p none) (free-column h)
+free-column n none = none
+free-column n (more p h) = more (free-replicate n p) (free-column n h)
 
 pub no-feed-append : {x y : List (List ℕ)} → NoFeed x → NoFeed y → NoFeed (x ++ y)
 no-feed-append none k = k
@@ -70,10 +71,6 @@ unfolding paired
 no-feed-paired none k = k
 no-feed-paired (more p h) none = more p h
 no-feed-paired (more p h) (more q k) = more (free-append p q) (no-feed-paired h k)
-
-no-feed-picked : (b : Bool) {x y : List (List ℕ)} → NoFeed x → NoFeed y → NoFeed (pick b x y)
-no-feed-picked true h k = h
-no-feed-picked false h k = k
 
 no-feed-replicate : (n : ℕ) {l : List ℕ} → Free l → NoFeed (replicate n l)
 no-feed-replicate zero p = none
@@ -116,9 +113,9 @@ module _ (s : Settings) (p : Plain s) where
   unfolding bottomLeft
   free-bottom-left f = free-pick (f .«first_col») (p .marks 9) (p .marks 11)
 
-  free-edge : (b : Bool) {m : ℕ} → m ≢ 10 → Free (edge b m)
+  free-edge : (n : ℕ) (b : Bool) {m : ℕ} → m ≢ 10 → Free (edge n b m)
   unfolding edge
-  free-edge b h = free-replicate (pick b 1 0) h
+  free-edge n b h = free-replicate (pick b n 0) h
 
   free-text-line : (inner widest : ℕ) (l : List ℕ) → Free l → Free (textLine s inner widest l)
   unfolding textLine
@@ -141,24 +138,24 @@ module _ (s : Settings) (p : Plain s) where
   free-top : (l : Leaf) → Free (topLine s l)
   unfolding topLine
   free-top l =
-      more (free-top-left (l .flags))
-      (free-append (free-ruled (named (l .size .width) (l .horizontal)) 0 (l .size .width) (free-mark 11) (free-mark 0)) (free-edge (l .flags .«last_col») (free-top-right (l .flags))))
+      free-append (free-replicate (sep s) (free-top-left (l .flags)))
+      (free-append (free-ruled (named (l .size .width) (l .horizontal)) 0 (l .size .width) (free-mark 11) (free-mark 0)) (free-edge (sep s) (l .flags .«last_col») (free-top-right (l .flags))))
 
   no-feed-middle : (l : Leaf) → NoFeed (middle s l)
   unfolding middle
   no-feed-middle l =
       let h = l .size .height in
-      no-feed-paired (free-column (free-ruled (named h (l .vertical)) 0 h (free-mark 13) (free-mark 2)))
-      (no-feed-paired (no-feed-body (l .text) (l .size)) (no-feed-replicate h (free-edge (l .flags .«last_col») (free-mark 3))))
+      no-feed-paired (free-column (sep s) (free-ruled (named h (l .vertical)) 0 h (free-mark 13) (free-mark 2)))
+      (no-feed-paired (no-feed-body (l .text) (l .size)) (no-feed-replicate h (free-edge (sep s) (l .flags .«last_col») (free-mark 3))))
 
   free-bottom : (l : Leaf) → Free (bottomLine s l)
   unfolding bottomLine
   free-bottom l =
-      more (free-bottom-left (l .flags)) (free-append (free-replicate (l .size .width) (free-mark 1)) (free-edge (l .flags .«last_col») (free-mark 10)))
+      free-append (free-replicate (sep s) (free-bottom-left (l .flags))) (free-append (free-replicate (l .size .width) (free-mark 1)) (free-edge (sep s) (l .flags .«last_col») (free-mark 10)))
 
   pub block-no-feed : (l : Leaf) → NoFeed (block s l)
   unfolding block
-  block-no-feed l = more (free-top l) (no-feed-append (no-feed-middle l) (no-feed-picked (l .flags .«last_row») (more (free-bottom l) none) none))
+  block-no-feed l = no-feed-append (no-feed-replicate (sep s) (free-top l)) (no-feed-append (no-feed-middle l) (no-feed-replicate (pick (l .flags .«last_row») (sep s) 0) (free-bottom l)))
 
 -- ---- parted at each 0A
 

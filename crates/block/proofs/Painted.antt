@@ -11,15 +11,16 @@ use Rattle.settings.specs.declared.Settings.{Settings}
 use Rattle.sizes.specs.declared.Size.{Size}
 use Rattle.block.specs.declared.Flags.{Flags}
 use Rattle.block.specs.declared.borders.Borders.{Borders}
-use Rattle.block.specs.Block.{topLine, middle, bottomLine, block, tall, wide}
+use Rattle.block.specs.Block.{body, topLine, middle, bottomLine, block, tall, wide}
 use Rattle.block.specs.Paint.{pasted, Room, Wrote, leafWith, Paintable}
 use Rattle.block.specs.Parts.{bordersOf, topOf, middleOf, bottomOf}
-use Rattle.block.proofs.Dims.{tall-is, wide-is, middle-dims}
+use Rattle.block.proofs.Dims.{middle-dims}
+use Rattle.block.proofs.Cases.{tall-is, wide-is, block-lined, bare-tall, bare-wide, block-bare}
 use Rattle.block.proofs.Left.{then-pasted, pasted-first}
 use Rattle.block.proofs.Corners.{top-is, middle-is, bottom-is}
 use Rattle.block.proofs.Places.{paintable-fits}
 
-module _ {s : Settings} {t : List ℕ} {n z : Size} {f : Flags} {h v : List ℕ} {base stride len : ℕ} (k : Paintable s t n z f h v base stride len) (b : Borders) (is : b ≡ bordersOf s f) where
+module _ {s : Settings} {t : List ℕ} {n z : Size} {f : Flags} {h v : List ℕ} {base stride len : ℕ} (k : Paintable s t n z f h v base stride len) (lined : s .lines ≡ true) (b : Borders) (is : b ≡ bordersOf s f) where
   right-is : b .right ≡ f .«last_col»
   unfolding bordersOf
   right-is = ap (λ (x : Borders). x .right) is
@@ -31,10 +32,10 @@ module _ {s : Settings} {t : List ℕ} {n z : Size} {f : Flags} {h v : List ℕ}
   -- ---- room
 
   columns : wide s z f ≡ 1 + (z .width + pick (b .right) 1 0)
-  columns = rw right-is (omega (arith, wide-is s z f))
+  columns = rw right-is (omega (arith, wide-is s lined z f))
 
   room : Room base stride (1 + (z .height + pick (f .«last_row») 1 0)) (1 + (z .width + pick (b .right) 1 0)) len
-  room = let e : tall s z f ≡ 1 + (z .height + pick (f .«last_row») 1 0) = omega (arith, tall-is s z f) in rw (← columns, ← e) (k .room)
+  room = let e : tall s z f ≡ 1 + (z .height + pick (f .«last_row») 1 0) = omega (arith, tall-is s lined z f) in rw (← columns, ← e) (k .room)
 
   pub block-apart : 1 + (z .width + pick (b .right) 1 0) ≤ stride
   block-apart = rw (← columns) (k .apart)
@@ -59,25 +60,25 @@ module _ {s : Settings} {t : List ℕ} {n z : Size} {f : Flags} {h v : List ℕ}
       (e₁ : o₁ ≡ sets o base (topOf b (z .width) h))
       (w : Wrote next (base + stride + z .height * stride) o₂ (pasted o₁ (base + stride) stride (middleOf s t z b v))) where
     first : o₁ ≡ sets o base (topLine s (leafWith t z f h v))
-    first = e₁ ∙ rw (is, top-is s (leafWith t z f h v) long)
+    first = e₁ ∙ rw (is, top-is s (leafWith t z f h v) lined long)
 
     then : Wrote next (base + stride + z .height * stride) o₂ (pasted o₁ (base + stride) stride (middle s (leafWith t z f h v)))
-    then = record { end-is = w .end-is; out-is = w .out-is ∙ rw (is, middle-is s (leafWith t z f h v) long) }
+    then = record { end-is = w .end-is; out-is = w .out-is ∙ rw (is, middle-is s (leafWith t z f h v) lined long) }
 
     whole : (last : Bool) → b .bottom ≡ last
         → pasted o base stride (block s (leafWith t z f h v))
         ≡ pasted o base stride (topLine s (leafWith t z f h v) ∷ (middle s (leafWith t z f h v) ++ pick last (bottomLine s (leafWith t z f h v) ∷ []) []))
-    unfolding block
     whole last l =
         let c = leafWith t z f h v in
-        ap (λ (x : Bool). pasted o base stride (topLine s c ∷ (middle s c ++ pick x (bottomLine s c ∷ []) []))) (sym bottom-side ∙ l)
+        ap (pasted o base stride)
+        (block-lined s c lined ∙ ap (λ (x : Bool). topLine s c ∷ (middle s c ++ pick x (bottomLine s c ∷ []) [])) (sym bottom-side ∙ l))
 
     -- with a bottom line
     pub painted-all : (o₃ : List ℕ) → b .bottom ≡ true → o₃ ≡ sets o₂ next (bottomOf b (z .width)) → o₃ ≡ pasted o base stride (block s (leafWith t z f h v))
     unfolding pasted
     painted-all o₃ l e₃ =
         let c = leafWith t z f h v in
-        let e : o₃ ≡ sets o₂ next (bottomLine s c) = e₃ ∙ rw (is, bottom-is s c long) in
+        let e : o₃ ≡ sets o₂ next (bottomLine s c) = e₃ ∙ rw (is, bottom-is s c lined long) in
         then-pasted (middle s c) (bottomLine s c ∷ []) o₁ o₂ o₃ (base + stride) next stride (z .height) (middle-dims s c (paintable-fits k) .lines) then e
         ∙ pasted-first (topLine s c) (middle s c ++ (bottomLine s c ∷ [])) o o₁ base stride first
         ∙ sym (whole true l)
@@ -89,3 +90,12 @@ module _ {s : Settings} {t : List ℕ} {n z : Size} {f : Flags} {h v : List ℕ}
         then .out-is
         ∙ pasted-first (topLine s c) (middle s c) o o₁ base stride first
         ∙ sym (whole false l ∙ rw append-nil)
+
+-- ---- without lines: the body alone
+
+module _ {s : Settings} {t : List ℕ} {n z : Size} {f : Flags} {h v : List ℕ} {base stride len : ℕ} (k : Paintable s t n z f h v base stride len) (bare : s .lines ≡ false) where
+  pub bare-room : Room base stride (z .height) (z .width) len
+  bare-room = rw (bare-tall s bare z f, bare-wide s bare z f) at (k .room)
+
+  pub bare-painted : (o o₁ : List ℕ) → o₁ ≡ pasted o base stride (body s t z) → o₁ ≡ pasted o base stride (block s (leafWith t z f h v))
+  bare-painted o o₁ e = e ∙ ap (pasted o base stride) (sym (block-bare s bare (leafWith t z f h v) (paintable-fits k)))

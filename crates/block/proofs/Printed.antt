@@ -12,9 +12,9 @@ use Rattle.block.specs.Content.{feeds}
 use Rattle.block.specs.Block.{block, tall, wide}
 use Rattle.block.specs.Paint.{pasted, leafWith, Paintable, Printed}
 use Rattle.block.proofs.Every.{Dims}
-use Rattle.block.proofs.Dims.{tall-is}
+use Rattle.block.proofs.Dims.{block-some}
 use Rattle.block.proofs.Feeds.{feeds-length, pasted-feeds}
-use Rattle.block.proofs.Places.{paintable-dims}
+use Rattle.block.proofs.Places.{paintable-fits, paintable-dims}
 
 -- n bytes of 0A from the first byte on
 fed : (n : ℕ) (o : List ℕ) → n ≤ length o → sets o 0 (replicate n 10) ≡ replicate n 10 ++ drop n o
@@ -31,7 +31,7 @@ fed-pasted x {w = w} d n e o o₁ o₂ l e₁ e₂ = e₂ ∙ rw (e₁, fed n o 
 
 module _ {s : Settings} {t : List ℕ} {n z : Size} {f : Flags} {h v : List ℕ} {len : ℕ} (k : Paintable s t n z f h v 0 (wide s z f + 1) len) (w : ℕ) (ew : w ≡ wide s z f) (a : ℕ) (ea : a ≡ tall s z f) where
   tall-some : 0 < tall s z f
-  tall-some = omega (arith, tall-is s z f)
+  tall-some = block-some s t z f (paintable-fits k)
 
   leaf-room : (a * (w + 1) + w < 18446744073709551616) × (a * (w + 1) ≤ len + 1) × (w + 1 ≤ a * (w + 1))
   leaf-room =

@@ -42,9 +42,9 @@ unfoldable pub bottomLeft : Settings → Flags → ℕ
 unfolding mark
 bottomLeft s f = pick (f .«first_col») (mark s 9) (mark s 11)
 
--- a mark where its side prints
-unfoldable pub edge : Bool → ℕ → List ℕ
-edge b m = replicate (pick b 1 0) m
+-- a mark, n columns wide, where its side prints
+unfoldable pub edge : ℕ → Bool → ℕ → List ℕ
+edge n b m = replicate (pick b n 0) m
 
 -- ---- the lines between the marks
 
@@ -80,32 +80,37 @@ body s t z =
     ++ (replicate (s .bottom) (replicate w (getD (s .fills) 3 0))
     ++ replicate (slack - before (s .vertical) slack) (replicate w 32))))
 
--- ---- the block
+-- ---- the block: its marks are as wide as the separator, and its top and bottom lines as many
 
 -- the top line: `print_top_line`
 unfoldable pub topLine : Settings → Leaf → List ℕ
 unfolding topLeft topRight ruled named mark edge
 topLine s l =
     let w = l .size .width in
-    topLeft s (l .flags) ∷ (ruled (named w (l .horizontal)) (mark s 11) (mark s 0) 0 w ++ edge (l .flags .«last_col») (topRight s (l .flags)))
+    replicate (sep s) (topLeft s (l .flags))
+    ++ (ruled (named w (l .horizontal)) (mark s 11) (mark s 0) 0 w
+    ++ edge (sep s) (l .flags .«last_col») (topRight s (l .flags)))
 
 -- the lines between the top and the bottom: left marks, body, right marks
 unfoldable pub middle : Settings → Leaf → List (List ℕ)
 unfolding ruled column paired body named mark edge
 middle s l =
     let h = l .size .height in
-    paired (column (ruled (named h (l .vertical)) (mark s 13) (mark s 2) 0 h))
-    (paired (body s (l .text) (l .size)) (replicate h (edge (l .flags .«last_col») (mark s 3))))
+    paired (column (sep s) (ruled (named h (l .vertical)) (mark s 13) (mark s 2) 0 h))
+    (paired (body s (l .text) (l .size)) (replicate h (edge (sep s) (l .flags .«last_col») (mark s 3))))
 
 -- the bottom line: `print_bottom_line`
 unfoldable pub bottomLine : Settings → Leaf → List ℕ
 unfolding bottomLeft mark edge
-bottomLine s l = bottomLeft s (l .flags) ∷ (replicate (l .size .width) (mark s 1) ++ edge (l .flags .«last_col») (mark s 10))
+bottomLine s l =
+    replicate (sep s) (bottomLeft s (l .flags))
+    ++ (replicate (l .size .width) (mark s 1)
+    ++ edge (sep s) (l .flags .«last_col») (mark s 10))
 
 -- a leaf of width 0 has its marks around no columns
 unfoldable pub block : Settings → Leaf → List (List ℕ)
 unfolding topLine middle bottomLine
-block s l = topLine s l ∷ (middle s l ++ pick (l .flags .«last_row») (bottomLine s l ∷ []) [])
+block s l = replicate (sep s) (topLine s l) ++ (middle s l ++ replicate (pick (l .flags .«last_row») (sep s) 0) (bottomLine s l))
 
 -- the lines and columns that a block covers
 unfoldable pub tall : Settings → Size → Flags → ℕ

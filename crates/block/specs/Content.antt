@@ -1,6 +1,7 @@
 -- Contents: lines of bytes, side by side, one under another, and joined by 0A.
 use Prim.Native.Nat.{ℕ, zero, suc}
 use mathlib.Core.List.{List, [], _∷_, _++_}
+use lib.ListN.{replicate}
 use Rattle.common.specs.Choice.{pick}
 use Rattle.splits.specs.Splits.{isNamed}
 
@@ -10,10 +11,10 @@ paired [] y = y
 paired (l ∷ x) [] = l ∷ x
 paired (l ∷ x) (m ∷ y) = (l ++ m) ∷ paired x y
 
--- bytes one under the other
-unfoldable pub column : List ℕ → List (List ℕ)
-column [] = []
-column (b ∷ l) = (b ∷ []) ∷ column l
+-- bytes one under the other, each n times
+unfoldable pub column : ℕ → List ℕ → List (List ℕ)
+column n [] = []
+column n (b ∷ l) = replicate n b ∷ column n l
 
 -- n marks from place i on: b at the places named, c at the others
 unfoldable pub ruled : List ℕ → ℕ → ℕ → ℕ → ℕ → List ℕ

@@ -1,4 +1,4 @@
--- What the painter's parts write.
+-- What the painter's parts write, where there are lines.
 use Prim.Native.Nat.{ℕ, _+_, _-_, _*_}
 use mathlib.Core.List.{List, [], _∷_, _++_}
 use lib.ListN.{getD, set, replicate}
@@ -40,19 +40,19 @@ bordersOf s f = record {
 -- the top line over w columns and the list ps, the left and the right marks of n lines, the bottom line
 unfoldable pub topOf : Borders → ℕ → List ℕ → List ℕ
 unfolding ruled named edge
-topOf b w ps = getD (b .marks) 6 0 ∷ (ruled (named w ps) (getD (b .marks) 11 0) (getD (b .marks) 0 0) 0 w ++ edge (b .right) (getD (b .marks) 7 0))
+topOf b w ps = getD (b .marks) 6 0 ∷ (ruled (named w ps) (getD (b .marks) 11 0) (getD (b .marks) 0 0) 0 w ++ edge 1 (b .right) (getD (b .marks) 7 0))
 
 unfoldable pub leftOf : Borders → ℕ → List ℕ → List (List ℕ)
 unfolding ruled named column
-leftOf b n ps = column (ruled (named n ps) (getD (b .marks) 13 0) (getD (b .marks) 2 0) 0 n)
+leftOf b n ps = column 1 (ruled (named n ps) (getD (b .marks) 13 0) (getD (b .marks) 2 0) 0 n)
 
 unfoldable pub rightOf : Borders → ℕ → List (List ℕ)
 unfolding edge
-rightOf b n = replicate n (edge (b .right) (getD (b .marks) 3 0))
+rightOf b n = replicate n (edge 1 (b .right) (getD (b .marks) 3 0))
 
 unfoldable pub bottomOf : Borders → ℕ → List ℕ
 unfolding edge
-bottomOf b w = getD (b .marks) 9 0 ∷ (replicate w (getD (b .marks) 1 0) ++ edge (b .right) (getD (b .marks) 10 0))
+bottomOf b w = getD (b .marks) 9 0 ∷ (replicate w (getD (b .marks) 1 0) ++ edge 1 (b .right) (getD (b .marks) 10 0))
 
 -- the lines between them
 unfoldable pub middleOf : Settings → List ℕ → Size → Borders → List ℕ → List (List ℕ)

@@ -1,6 +1,6 @@
 // Small functions that every layer uses.
 ghost use mathlib.Core.Path.{_≡_};
-ghost use Prim.Native.Nat.{_≤_, _<_, max, min};
+ghost use Prim.Native.Nat.{_-_, _≤_, _<_, max, min};
 ghost use Rattle.common.specs.Choice as choice;
 
 pub fn wide(x: u8) -> usize
@@ -41,6 +41,13 @@ pub fn one_if(b: bool) -> usize
     ensures small { λ r. ⌜ r ≤ 1 ⌝ }
 {
     if b { 1 } else { 0 }
+}
+
+// One less, and 0 of 0.
+pub fn less_one(n: usize) -> usize
+    ensures { λ r. ⌜ r ≡ n - 1 ⌝ }
+{
+    if n == 0 { 0 } else { n - 1 }
 }
 
 pub fn both(a: bool, b: bool) -> bool

@@ -20,7 +20,7 @@ use Rattle.sizes.specs.Collecting.{wide, tall}
 use Rattle.sizes.specs.Core.{coreOf, measuredOf, naturalWidth, naturalHeight}
 use Rattle.sizes.specs.Input.{inputOf}
 use Rattle.sizes.proofs.Fill.{length-naturals}
-use Rattle.sizes.proofs.Limits.{sep-small}
+use Rattle.sizes.proofs.Separator.{sep-small}
 use Rattle.sizes.proofs.Naturals.{group-natural}
 use Rattle.sizes.proofs.Nodes.{subtrees, subtrees*, tree-naturals}
 use Rattle.sizes.proofs.Given.{takes, Accepts, accepts, refuses}

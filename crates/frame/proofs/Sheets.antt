@@ -1,6 +1,6 @@
 -- The frame that the code works out is the sheet's. Assumes nothing.
 use mathlib.Core.Path.{_≡_, refl, ap, _∙_}
-use Prim.Native.Nat.{ℕ, _+_, _-_, _≤_}
+use Prim.Native.Nat.{ℕ, _+_, _-_, _*_, _≤_}
 use native.Mathlib.Omega.{arith}
 use mathlib.Core.Bool.{Bool, true, false}
 use mathlib.Core.List.{List, _++_, map}
@@ -27,12 +27,12 @@ root-first f s (cell t) r = refl
 root-first f s (group a ts) r = refl
 
 module _ (s : Settings) (t : Tree) (c : Core) (e : c ≡ coreOf s t) where
-  inside-wide : getD (c .«natural_widths») 0 0 + 2 ≡ insideW s t
-  unfolding coreOf insideW sep
+  inside-wide : getD (c .«natural_widths») 0 0 + 2 * sep s ≡ insideW s t
+  unfolding coreOf insideW
   inside-wide = rw (e, root-first (λ z. z .natural .width) s t (replicate (512 - length (map (λ z. z .natural .width) (treeSizes s t))) 0)) (omega arith)
 
-  inside-tall : getD (c .«natural_heights») 0 0 + 2 ≡ insideH s t
-  unfolding coreOf insideH sep
+  inside-tall : getD (c .«natural_heights») 0 0 + 2 * sep s ≡ insideH s t
+  unfolding coreOf insideH
   inside-tall = rw (e, root-first (λ z. z .natural .height) s t (replicate (512 - length (map (λ z. z .natural .height) (treeSizes s t))) 0)) (omega arith)
 
   pub frame-is : frameOf s c ≡ sheetFrame s t

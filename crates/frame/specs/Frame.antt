@@ -1,4 +1,4 @@
--- The printed sheet: W, H, the bytes from one line to the next and all bytes, with the margin, and the limits (documents 01, "Block and sheet", and 02, 1).
+-- The printed sheet: W, H, the bytes from one line to the next and all bytes, with the margin, and the limits (documents 01, "Block and sheet", and 02, 1 and 13).
 use Prim.Native.Nat.{ℕ, _+_, _-_, _*_}
 use mathlib.Core.Bool.{Bool, true}
 use lib.ListN.{getD}
@@ -8,6 +8,7 @@ use Rattle.settings.specs.declared.Settings.{Settings}
 use Rattle.settings.specs.declared.Margin.{Margin}
 use Rattle.tree.specs.Tree.{Tree}
 use Rattle.sizes.specs.declared.Core.{Core}
+use Rattle.sizes.specs.Sizes.{sep}
 use Rattle.layout.specs.Walk.{insideW, insideH}
 use Rattle.frame.specs.declared.Frame.{Frame}
 
@@ -46,9 +47,9 @@ around m w h = record {
   bytes = bytesOf (columnsOf m w) (linesOf m h);
 }
 
--- by the root's natural size
+-- by the root's natural size, with a mark at both ends
 abbrev pub frameOf : Settings → Core → Frame
-frameOf s c = around (s .margin) (getD (c .«natural_widths») 0 0 + 2) (getD (c .«natural_heights») 0 0 + 2)
+frameOf s c = around (s .margin) (getD (c .«natural_widths») 0 0 + 2 * sep s) (getD (c .«natural_heights») 0 0 + 2 * sep s)
 
 -- over 400 columns or over 160 lines
 abbrev pub largeOf : Frame → Bool

@@ -1,6 +1,7 @@
 // What stands below both printers: the frame of the printed sheet, with the margin, its limits, and a printer's answer.
 use settings::Settings;
 use sizes::Core;
+use sizes::axis::separator;
 ghost use mathlib.Core.Path.{_≡_};
 ghost use Rattle.frame.specs.Frame.{frameOf, largeOf};
 ghost use Rattle.frame.specs.Printer.{refusedWith};
@@ -21,15 +22,16 @@ pub struct Written {
     pub count: usize,
 }
 
-// The frame of the sheet whose sizes were measured: a mark at both ends, the margin around them, a 0A between the lines.
+// The frame of the sheet whose sizes were measured: a mark at both ends where there are lines, the margin around them, a 0A between the lines of text.
 pub fn frame_of(s: Settings, core: Core) -> Frame
     ensures { λ r. ⌜ r ≡ frameOf s core ⌝ }
 {
     let m = s.margin;
     let widths = core.natural_widths;
     let heights = core.natural_heights;
-    let wide = common::wide16(widths[0]) + 2;
-    let tall = common::wide16(heights[0]) + 2;
+    let edges = 2 * separator(s);
+    let wide = common::wide16(widths[0]) + edges;
+    let tall = common::wide16(heights[0]) + edges;
     let columns = common::wide(m.left) + wide + common::wide(m.right);
     let lines = common::wide(m.top) + tall + common::wide(m.bottom);
     let stride = columns + 1;
@@ -39,7 +41,7 @@ pub fn frame_of(s: Settings, core: Core) -> Frame
         columns: columns,
         lines: lines,
         stride: stride,
-        bytes: stride * lines - 1,
+        bytes: common::less_one(stride * lines),
     }
 }
 

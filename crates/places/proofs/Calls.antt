@@ -11,7 +11,7 @@ use Rattle.sizes.specs.declared.Measured.{Measured}
 use Rattle.sizes.specs.Sizes.{sep}
 use Rattle.sizes.specs.Input.{Input, refused, given, inputOf}
 use Rattle.sizes.proofs.Given.{Takes, takes}
-use Rattle.sizes.proofs.Limits.{sep-small}
+use Rattle.sizes.proofs.Separator.{sep-small}
 use Rattle.frame.specs.declared.Frame.{Frame}
 use Rattle.frame.specs.Frame.{W, H, frameOf, tooLarge}
 use Rattle.frame.proofs.Sheets.{frame-is, large-no}

@@ -17,7 +17,7 @@ use Rattle.places.specs.Locating.{Located, locate, rootAnchor}
 
 -- "one walk over the tree", "once the sizes are worked out"
 unfoldable pub located : Settings → Tree → Located
-unfolding locate treeSizes sep
+unfolding locate treeSizes
 located s t = locate (sep s) (map allottedWidth (treeSizes s t)) (map allottedHeight (treeSizes s t)) t 0 (rootAnchor s)
 
 -- "each exactly as if it had been put alone": place p's answer, as one number

@@ -4,7 +4,7 @@ use mathlib.Core.Bool.{Bool, true, false}
 use mathlib.Core.List.{List, [], _∷_, _++_, append-nil}
 use Prim.Native.Nat.{ℕ, suc, _+_, _≤_, _<_}
 use native.Mathlib.Omega.{arith}
-use lib.ListN.{length, getD, take, drop, replicate, length-append, drop-of-length-le}
+use lib.ListN.{length, getD, take, drop, replicate, length-append, List·getD-append, drop-of-length-le}
 use lib.Seq.{getD-drop, take-all, take-append-seam, drop-append-seam, drop-append-add}
 use lib.Dec.{eqb}
 use borrow.Author.Tests.{le-ltb}
@@ -13,7 +13,8 @@ use Rattle.settings.specs.declared.Settings.{Settings}
 use Rattle.settings.specs.declared.Margin.{Margin}
 use Rattle.settings.specs.declared.Alignment.{Alignment}
 use Rattle.settings.specs.declared.Priority.{Priority}
-use Rattle.settings.specs.Reading.{low, high, marginLow, marginHigh, within, alignmentOf, priorityOf, marginOf, noMargin, settingsOf, read, readBehind, readSettings, Printable, Ranges}
+use Rattle.settings.specs.Reading.{low, high, marginLow, marginHigh, within, alignmentOf, priorityOf, marginOf, noMargin, settingsOf, read, readBehind, readForm, readSettings, Bounded, Ranges}
+use Rattle.settings.proofs.Within.{bare-form, lined-form}
 use Rattle.settings.specs.Defaults.{alignmentNumber, priorityNumber, recordOf, marginBytes}
 
 -- ---- each byte of the record is within its bounds
@@ -32,8 +33,8 @@ bytes-within l h [] ls hs rest k = refl
 bytes-within l h (b ∷ bs) ls hs rest k =
     byte-within l h b _ _ _ (k 0 (omega arith) .0) (k 0 (omega arith) .1) ∙ bytes-within l h bs ls hs rest (λ i j. k (suc i) (omega arith))
 
-printable-within : (n : ℕ) (bs ls hs rest : List ℕ) → Printable n bs → within (replicate n 32 ++ ls) (replicate n 126 ++ hs) (bs ++ rest) ≡ within ls hs rest
-printable-within n bs ls hs rest p = rw (← p .many) (bytes-within 32 126 bs ls hs rest (λ i j. p .each i (omega (arith, p .many))))
+bounded-within : (n x y : ℕ) (bs ls hs rest : List ℕ) → Bounded n x y bs → within (replicate n x ++ ls) (replicate n y ++ hs) (bs ++ rest) ≡ within ls hs rest
+bounded-within n x y bs ls hs rest p = rw (← p .many) (bytes-within x y bs ls hs rest (λ i j. p .each i (omega (arith, p .many))))
 
 alignment-low : (a : Alignment) → alignmentNumber a ≤ 2
 alignment-low Alignment.Start = omega arith
@@ -50,17 +51,17 @@ mode-low true = omega arith
 mode-low false = omega arith
 
 module _ (s : Settings) (r : Ranges s) where
-  record-within : within low high (recordOf s) ≡ true
+  record-within : within (low (s .lines)) (high (s .lines)) (recordOf s) ≡ true
   record-within =
       byte-within 16 16 16 _ _ _ (omega arith) (omega arith)
       ∙ byte-within 0 0 0 _ _ _ (omega arith) (omega arith)
       ∙ byte-within 28 28 28 _ _ _ (omega arith) (omega arith)
-      ∙ printable-within 15 (s .marks) _ _ _ (r .marks)
+      ∙ bounded-within 15 (pick (s .lines) 32 0) (pick (s .lines) 126 0) (s .marks) _ _ _ (r .marks)
       ∙ byte-within 0 16 (s .left) _ _ _ (omega arith) (r .left)
       ∙ byte-within 0 16 (s .right) _ _ _ (omega arith) (r .right)
       ∙ byte-within 0 16 (s .top) _ _ _ (omega arith) (r .top)
       ∙ byte-within 0 16 (s .bottom) _ _ _ (omega arith) (r .bottom)
-      ∙ printable-within 4 (s .fills) _ _ _ (r .fills)
+      ∙ bounded-within 4 32 126 (s .fills) _ _ _ (r .fills)
       ∙ byte-within 0 2 (alignmentNumber (s .horizontal)) _ _ _ (omega arith) (alignment-low (s .horizontal))
       ∙ byte-within 0 2 (alignmentNumber (s .vertical)) _ _ _ (omega arith) (alignment-low (s .vertical))
       ∙ byte-within 0 1 (pick (s .«line_mode») 1 0) _ _ _ (omega arith) (mode-low (s .«line_mode»))
@@ -85,17 +86,22 @@ mode-read true = refl
 mode-read false = refl
 
 -- the first field, then what stands behind it
-read-front : (l f k : List ℕ) → take 31 l ≡ f → drop 31 l ≡ k → within low high f ≡ true → readSettings l ≡ readBehind f k
-unfolding readSettings
-read-front l f k e d h = rw (e, d, h)
+read-front : (lines : Bool) (l f k : List ℕ) → take 31 l ≡ f → drop 31 l ≡ k → within (low lines) (high lines) f ≡ true → readForm lines l ≡ readBehind lines f k
+unfolding readForm
+read-front lines l f k e d h = rw (e, d, h)
 
-read-margin : (l : List ℕ) (b : ℕ) (k : List ℕ) → within marginLow marginHigh (b ∷ k) ≡ true → readBehind l (b ∷ k) ≡ read (settingsOf (marginOf (b ∷ k)) l)
+read-margin : (lines : Bool) (l : List ℕ) (b : ℕ) (k : List ℕ) → within marginLow marginHigh (b ∷ k) ≡ true → readBehind lines l (b ∷ k) ≡ read (settingsOf lines (marginOf (b ∷ k)) l)
 unfolding readBehind
-read-margin l b k h = rw h
+read-margin lines l b k h = rw h
 
-read-none : (l : List ℕ) → readBehind l [] ≡ read (settingsOf noMargin l)
+read-none : (lines : Bool) (l : List ℕ) → readBehind lines l [] ≡ read (settingsOf lines noMargin l)
 unfolding readBehind
-read-none l = refl
+read-none lines l = refl
+
+-- the other form has another first mark
+read-either : (lines : Bool) (l : List ℕ) → (pick lines 32 0 ≤ getD l 3 0) × (getD l 3 0 ≤ pick lines 126 0) → readSettings l ≡ readForm lines l
+read-either true l h = lined-form l (λ e. omega (arith, h .0))
+read-either false l h = bare-form l (omega (arith, h .1))
 
 -- what stands behind n bytes
 behind : (n : ℕ) (xs ys : List ℕ) → length xs ≡ n → (i : ℕ) → drop (n + i) (xs ++ ys) ≡ drop i ys
@@ -129,7 +135,7 @@ module _ (s : Settings) (r : Ranges s) where
       ∙ number 4 (s .left ∷ s .right ∷ s .top ∷ s .bottom ∷ []) (s .fills ++ choices) refl (4 + i)
       ∙ number 4 (s .fills) choices (r .fills .many) i
 
-  fields-read : settingsOf (s .margin) (recordOf s) ≡ s
+  fields-read : settingsOf (s .lines) (s .margin) (recordOf s) ≡ s
   unfolding paddings choices
   fields-read =
       rw (
@@ -164,7 +170,7 @@ module _ (s : Settings) (r : Ranges s) where
       ∙ byte-within 0 16 (s .margin .right) _ _ _ (omega arith) (r .margin-right)
       ∙ byte-within 0 16 (s .margin .top) _ _ _ (omega arith) (r .margin-top)
       ∙ byte-within 0 16 (s .margin .bottom) _ _ _ (omega arith) (r .margin-bottom)
-      ∙ rw (← append-nil (s .margin .fills)) (printable-within 4 (s .margin .fills) [] [] [] (r .margin-fills))
+      ∙ rw (← append-nil (s .margin .fills)) (bounded-within 4 32 126 (s .margin .fills) [] [] [] (r .margin-fills))
       ∙ none-within
 
   margin-is : marginOf (marginBytes (s .margin)) ≡ s .margin
@@ -176,16 +182,24 @@ module _ (s : Settings) (r : Ranges s) where
   behind-is : (k : List ℕ) → drop 31 (recordOf s ++ k) ≡ k
   behind-is k = ap (λ (n : ℕ). drop n (recordOf s ++ k)) (sym record-long) ∙ drop-append-seam (recordOf s) k
 
+  first-mark : (k : List ℕ) → (pick (s .lines) 32 0 ≤ getD (recordOf s ++ k) 3 0) × (getD (recordOf s ++ k) 3 0 ≤ pick (s .lines) 126 0)
+  unfolding paddings
+  first-mark k =
+      let e : getD (recordOf s ++ k) 3 0 ≡ getD (s .marks) 0 0 = List·getD-append (recordOf s) k 0 3 (omega (arith, record-long)) ∙ List·getD-append (s .marks) paddings 0 0 (omega (arith, r .marks .many)) in
+      rw e (r .marks .each 0 (omega arith))
+
   -- with the margin's field
   pub settings-read : readSettings (recordOf s ++ marginBytes (s .margin)) ≡ read s
   settings-read =
-      read-front _ (recordOf s) (marginBytes (s .margin)) (front-is (marginBytes (s .margin))) (behind-is (marginBytes (s .margin))) (record-within s r)
-      ∙ read-margin (recordOf s) 17 _ margin-within
-      ∙ ap read (ap (λ (m : Margin). settingsOf m (recordOf s)) margin-is ∙ fields-read)
+      read-either (s .lines) _ (first-mark (marginBytes (s .margin)))
+      ∙ read-front (s .lines) _ (recordOf s) (marginBytes (s .margin)) (front-is (marginBytes (s .margin))) (behind-is (marginBytes (s .margin))) (record-within s r)
+      ∙ read-margin (s .lines) (recordOf s) 17 _ margin-within
+      ∙ ap read (ap (λ (m : Margin). settingsOf (s .lines) m (recordOf s)) margin-is ∙ fields-read)
 
   -- without it
   pub plain-read : s .margin ≡ noMargin → readSettings (recordOf s) ≡ read s
   plain-read e =
-      read-front _ (recordOf s) [] (take-all 31 (recordOf s) (omega (arith, record-long))) (drop-of-length-le (recordOf s) {i = 31} (omega (arith, record-long))) (record-within s r)
-      ∙ read-none (recordOf s)
-      ∙ ap read (ap (λ (m : Margin). settingsOf m (recordOf s)) (sym e) ∙ fields-read)
+      read-either (s .lines) (recordOf s) (rw (append-nil (recordOf s)) at (first-mark []))
+      ∙ read-front (s .lines) _ (recordOf s) [] (take-all 31 (recordOf s) (omega (arith, record-long))) (drop-of-length-le (recordOf s) {i = 31} (omega (arith, record-long))) (record-within s r)
+      ∙ read-none (s .lines) (recordOf s)
+      ∙ ap read (ap (λ (m : Margin). settingsOf (s .lines) m (recordOf s)) (sym e) ∙ fields-read)

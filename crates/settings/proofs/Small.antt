@@ -9,8 +9,8 @@ use lib.Seq.{getD-take, getD-drop, length-take-le}
 use Rattle.common.specs.Choice.{pick}
 use Rattle.settings.specs.declared.Settings.{Settings}
 use Rattle.settings.specs.declared.Margin.{Margin}
-use Rattle.settings.specs.Reading.{low, high, marginLow, marginHigh, within, marginOf, noMargin, settingsOf, refused, read, readBehind, readSettings, Printable, Ranges}
-use Rattle.settings.proofs.Within.{within-length, within-at}
+use Rattle.settings.specs.Reading.{low, high, marginLow, marginHigh, within, marginOf, noMargin, settingsOf, refused, read, readBehind, readSettings, Bounded, Printable, Ranges}
+use Rattle.settings.proofs.Within.{within-length, within-at, read-form, form-front}
 
 -- the number at k + i where n equal ones stand from k on
 bound-at : (l : List ℕ) (k n x : ℕ) (rest : List ℕ) → drop k l ≡ replicate n x ++ rest → (i : ℕ) → i < n → getD l (k + i) 0 ≡ x
@@ -19,14 +19,14 @@ bound-at l k n x rest e i h =
     ∙ List·getD-append (replicate n x) rest 0 i (rw length-replicate h) ∙ getD-replicate n i x 0 h
 
 module _ (ls hs l : List ℕ) (e : within ls hs l ≡ true) where
-  -- the n bytes from k on, whose bounds are hex 20 and 7E
-  printable : (k n : ℕ) (lr hr : List ℕ) → drop k ls ≡ replicate n 32 ++ lr → drop k hs ≡ replicate n 126 ++ hr → k + n ≤ length ls → Printable n (take n (drop k l))
-  printable k n lr hr p q h = record {
+  -- the n bytes from k on, which all have the same bounds
+  bounded : (k n x y : ℕ) (lr hr : List ℕ) → drop k ls ≡ replicate n x ++ lr → drop k hs ≡ replicate n y ++ hr → k + n ≤ length ls → Bounded n x y (take n (drop k l))
+  bounded k n x y lr hr p q h = record {
     many = length-take-le n (drop k l) (rw length-drop (omega (arith, within-length ls hs l e)));
     each = λ i j.
         let at = within-at ls hs l e (k + i) (omega arith) in
-        let a = bound-at ls k n 32 lr p i j in
-        let z = bound-at hs k n 126 hr q i j in
+        let a = bound-at ls k n x lr p i j in
+        let z = bound-at hs k n y hr q i j in
         rw (getD-take n (drop k l) i 0 j, getD-drop k l i 0) (omega (arith, at .0), omega (arith, at .1));
   }
 
@@ -47,7 +47,7 @@ edges l e = record {
   right = at-most marginLow marginHigh l e 4 (omega arith);
   top = at-most marginLow marginHigh l e 5 (omega arith);
   bottom = at-most marginLow marginHigh l e 6 (omega arith);
-  fills = printable marginLow marginHigh l e 7 4 [] [] refl refl (omega arith);
+  fills = bounded marginLow marginHigh l e 7 4 32 126 [] [] refl refl (omega arith);
 }
 
 space : (i : ℕ) → i < 4 → (32 ≤ getD (replicate 4 32) i 0) × (getD (replicate 4 32) i 0 ≤ 126)
@@ -56,34 +56,33 @@ space i h = let z : _≡_ {A = ℕ} (getD (replicate 4 32) i 0) 32 = getD-replic
 no-edges : Edges noMargin
 no-edges = record { left = omega arith; right = omega arith; top = omega arith; bottom = omega arith; fills = record { many = refl; each = space } }
 
-ranges : (l : List ℕ) → within low high l ≡ true → (m : Margin) → Edges m → Ranges (settingsOf m l)
-ranges l e m g = record {
-  marks = printable low high l e 3 15 (drop 18 low) (drop 18 high) refl refl (omega arith);
-  left = at-most low high l e 18 (omega arith);
-  right = at-most low high l e 19 (omega arith);
-  top = at-most low high l e 20 (omega arith);
-  bottom = at-most low high l e 21 (omega arith);
-  margin-left = g .left;
-  margin-right = g .right;
-  margin-top = g .top;
-  margin-bottom = g .bottom;
-  margin-fills = g .fills;
-  fills = printable low high l e 22 4 (drop 26 low) (drop 26 high) refl refl (omega arith);
-}
+module _ (lines : Bool) (l : List ℕ) (e : within (low lines) (high lines) l ≡ true) where
+  ranges : (m : Margin) → Edges m → Ranges (settingsOf lines m l)
+  ranges m g = record {
+    marks = bounded (low lines) (high lines) l e 3 15 (pick lines 32 0) (pick lines 126 0) (drop 18 (low lines)) (drop 18 (high lines)) refl refl (omega arith);
+    left = at-most (low lines) (high lines) l e 18 (omega arith);
+    right = at-most (low lines) (high lines) l e 19 (omega arith);
+    top = at-most (low lines) (high lines) l e 20 (omega arith);
+    bottom = at-most (low lines) (high lines) l e 21 (omega arith);
+    margin-left = g .left;
+    margin-right = g .right;
+    margin-top = g .top;
+    margin-bottom = g .bottom;
+    margin-fills = g .fills;
+    fills = bounded (low lines) (high lines) l e 22 4 32 126 (drop 26 (low lines)) (drop 26 (high lines)) refl refl (omega arith);
+  }
 
-second : (b : Bool) (l k : List ℕ) (s : Settings) → within low high l ≡ true → (b ≡ true → Edges (marginOf k)) → pick b (read (settingsOf (marginOf k) l)) refused ≡ read s → Ranges s
-second true l k s e g p = let z : settingsOf (marginOf k) l ≡ s = cc in rw z at (ranges l e (marginOf k) (g refl))
-second false l k s e g p = let z : _≡_ {A = ℕ} 0 1 = cc in absurd (omega arith)
+  second : (b : Bool) (k : List ℕ) (s : Settings) → (b ≡ true → Edges (marginOf k)) → pick b (read (settingsOf lines (marginOf k) l)) refused ≡ read s → Ranges s
+  second true k s g p = let z : settingsOf lines (marginOf k) l ≡ s = cc in rw z at (ranges (marginOf k) (g refl))
+  second false k s g p = let z : _≡_ {A = ℕ} 0 1 = cc in absurd (omega arith)
 
-behind : (l k : List ℕ) (s : Settings) → within low high l ≡ true → readBehind l k ≡ read s → Ranges s
-unfolding readBehind
-behind l [] s e p = let z : settingsOf noMargin l ≡ s = cc in rw z at (ranges l e noMargin no-edges)
-behind l (b ∷ k) s e p = second (within marginLow marginHigh (b ∷ k)) l (b ∷ k) s e (edges (b ∷ k)) p
-
-taken : (b : Bool) (l k : List ℕ) (s : Settings) → within low high l ≡ b → pick b (readBehind l k) refused ≡ read s → Ranges s
-taken true l k s e p = behind l k s e p
-taken false l k s e p = let z : _≡_ {A = ℕ} 0 1 = cc in absurd (omega arith)
+  behind : (k : List ℕ) (s : Settings) → readBehind lines l k ≡ read s → Ranges s
+  unfolding readBehind
+  behind [] s p = let z : settingsOf lines noMargin l ≡ s = cc in rw z at (ranges noMargin no-edges)
+  behind (b ∷ k) s p = second (within marginLow marginHigh (b ∷ k)) (b ∷ k) s (edges (b ∷ k)) p
 
 pub settings-small : (l : List ℕ) (s : Settings) → readSettings l ≡ read s → Ranges s
-unfolding readSettings
-settings-small l s e = taken (within low high (take 31 l)) (take 31 l) (drop 31 l) s refl e
+settings-small l s e =
+    let f = read-form l s e in
+    let b = form-front (f .lines) l s (f .is) in
+    behind (f .lines) (take 31 l) (b .0) (drop 31 l) s (b .1)

@@ -1,16 +1,17 @@
 -- Bytes within their bounds, byte by byte. Assumes nothing.
-use mathlib.Core.Path.{_≡_, refl, ap}
+use mathlib.Core.Path.{_≡_, refl, ap, _∙_}
 use mathlib.Core.Bool.{Bool, true, false}
 use mathlib.Core.List.{List, [], _∷_}
 use Prim.Native.Nat.{ℕ, zero, suc, _+_, _≤_, _<_}
 use native.Mathlib.Omega.{arith}
 use native.Mathlib.Numerals.{add-one}
-use lib.ListN.{length, getD, drop, drop-of-length-le}
-use lib.Seq.{drop-cons}
+use lib.ListN.{length, getD, take, drop, length-take, drop-of-length-le}
+use lib.Seq.{drop-cons, getD-take}
 use lib.Dec.{ltb}
 use borrow.Author.Tests.{ltb-false}
 use Rattle.common.specs.Choice.{pick}
-use Rattle.settings.specs.Reading.{within}
+use Rattle.settings.specs.declared.Settings.{Settings}
+use Rattle.settings.specs.Reading.{low, high, within, Parsed, refused, read, readBehind, readForm, orElse, readSettings}
 
 -- a byte is tested, then those after it
 pub within-next : (ls hs bs : List ℕ) (i : ℕ) → i < length ls → i < length hs → i < length bs
@@ -50,3 +51,52 @@ within-at (l ∷ ls) [] bs e i p = let z : _≡_ {A = ℕ} 0 1 = cc in absurd (o
 within-at (l ∷ ls) (h ∷ hs) [] e i p = let z : _≡_ {A = ℕ} 0 1 = cc in absurd (omega arith)
 within-at (l ∷ ls) (h ∷ hs) (b ∷ bs) e zero p = (ltb-false b l (passed (ltb b l) e .0), ltb-false h b (passed (ltb h b) (passed (ltb b l) e .1) .0))
 within-at (l ∷ ls) (h ∷ hs) (b ∷ bs) e (suc i) p = within-at ls hs bs (passed (ltb h b) (passed (ltb b l) e .1) .1) i (omega arith)
+
+-- ---- the two forms
+
+short-form : (lines : Bool) (l : List ℕ) → length l < 31 → readForm lines l ≡ refused
+unfolding readForm
+short-form lines l h = rw (within-other (low lines) (high lines) (take 31 l) (λ e. omega (arith, length-take 31 l)))
+
+pub short-refused : (l : List ℕ) → length l < 31 → readSettings l ≡ refused
+unfolding readSettings
+short-refused l h = rw (short-form true l h, short-form false l h)
+
+-- the first mark is within its bounds
+form-mark : (lines : Bool) (l : List ℕ) → ((pick lines 32 0 ≤ getD l 3 0) × (getD l 3 0 ≤ pick lines 126 0) → ⊥) → readForm lines l ≡ refused
+unfolding readForm
+form-mark lines l f = rw (not-true (within (low lines) (high lines) (take 31 l)) (λ e. f (rw (getD-take 31 l 3 0 (omega arith)) at (within-at (low lines) (high lines) (take 31 l) e 3 (omega arith)))))
+
+pub bare-form : (l : List ℕ) → getD l 3 0 ≡ 0 → readSettings l ≡ readForm false l
+unfolding readSettings
+bare-form l e = rw (form-mark true l (λ b. omega (arith, b .0)))
+
+pub lined-form : (l : List ℕ) → (getD l 3 0 ≡ 0 → ⊥) → readSettings l ≡ readForm true l
+unfolding readSettings
+lined-form l d = rw (form-mark false l (λ b. d (omega (arith, b .1)))) (go (readForm true l))
+  where
+    go : (p : Parsed) → orElse p refused ≡ p
+    go refused = refl
+    go (read s) = refl
+
+-- settings that were read have one of them
+pub record Form (l : List ℕ) (s : Settings) : Type 0 where
+  pub lines : Bool
+  pub is : readForm lines l ≡ read s
+
+pub read-form : (l : List ℕ) (s : Settings) → readSettings l ≡ read s → Form l s
+unfolding readSettings
+read-form l s e = go (readForm true l) refl e
+  where
+    go : (p : Parsed) → readForm true l ≡ p → orElse p (readForm false l) ≡ read s → Form l s
+    go refused q e = record { lines = false; is = e }
+    go (read t) q e = record { lines = true; is = q ∙ e }
+
+pub form-front : (lines : Bool) (l : List ℕ) (s : Settings) → readForm lines l ≡ read s → (within (low lines) (high lines) (take 31 l) ≡ true) × (readBehind lines (take 31 l) (drop 31 l) ≡ read s)
+unfolding readForm
+form-front lines l s e = go (within (low lines) (high lines) (take 31 l)) refl e
+  where
+    go : (b : Bool) → within (low lines) (high lines) (take 31 l) ≡ b → pick b (readBehind lines (take 31 l) (drop 31 l)) refused ≡ read s
+        → (within (low lines) (high lines) (take 31 l) ≡ true) × (readBehind lines (take 31 l) (drop 31 l) ≡ read s)
+    go true w e = (w, e)
+    go false w e = let z : _≡_ {A = ℕ} 0 1 = cc in absurd (omega arith)

@@ -1,4 +1,5 @@
--- Reading the settings (document 01, "Settings record"; document 02, 1): tag hex 10, two-byte length 28, 28 bytes, each in its own range; then nothing, or the margin.
+-- Reading the settings (document 01, "Settings record"; document 02, 1 and 13): tag hex 10, two-byte length 28, 28 bytes, each in its own range, or fifteen zeros as
+-- marks; then nothing, or the margin.
 use Prim.Native.Nat.{ℕ, _≤_, _<_}
 use mathlib.Core.Path.{_≡_}
 use mathlib.Core.Bool.{Bool, true, false}
@@ -12,12 +13,12 @@ use Rattle.settings.specs.declared.Margin.{Margin}
 use Rattle.settings.specs.declared.Priority.{Priority}
 use Rattle.settings.specs.declared.ReadSettings.{ReadSettings}
 
--- the least and the greatest value of each byte: tag, length, 15 marks, 4 padding sizes, 4 fills, 2 alignments, line mode, 2 priorities
-abbrev pub low : List ℕ
-low = 16 ∷ 0 ∷ 28 ∷ (replicate 15 32 ++ (replicate 4 0 ++ (replicate 4 32 ++ (0 ∷ 0 ∷ 0 ∷ 0 ∷ 0 ∷ []))))
+-- the least and the greatest value of each byte, with lines and without: tag, length, 15 marks, 4 padding sizes, 4 fills, 2 alignments, line mode, 2 priorities
+abbrev pub low : Bool → List ℕ
+low lines = 16 ∷ 0 ∷ 28 ∷ (replicate 15 (pick lines 32 0) ++ (replicate 4 0 ++ (replicate 4 32 ++ (0 ∷ 0 ∷ 0 ∷ 0 ∷ 0 ∷ []))))
 
-abbrev pub high : List ℕ
-high = 16 ∷ 0 ∷ 28 ∷ (replicate 15 126 ++ (replicate 4 16 ++ (replicate 4 126 ++ (2 ∷ 2 ∷ 1 ∷ 2 ∷ 2 ∷ []))))
+abbrev pub high : Bool → List ℕ
+high lines = 16 ∷ 0 ∷ 28 ∷ (replicate 15 (pick lines 126 0) ++ (replicate 4 16 ++ (replicate 4 126 ++ (2 ∷ 2 ∷ 1 ∷ 2 ∷ 2 ∷ []))))
 
 -- of the margin: tag hex 11, two-byte length 8, 4 sizes, 4 fills, in the padding's order and ranges
 abbrev pub marginLow : List ℕ
@@ -48,9 +49,10 @@ marginOf l = record { left = getD l 3 0; right = getD l 4 0; top = getD l 5 0; b
 abbrev pub noMargin : Margin
 noMargin = record { left = 0; right = 0; top = 0; bottom = 0; fills = replicate 4 32 }
 
--- the fields, from the bytes of the record, with that margin
-abbrev pub settingsOf : Margin → List ℕ → Settings
-settingsOf m l = record {
+-- the fields, from the bytes of the record, with or without lines, with that margin
+abbrev pub settingsOf : Bool → Margin → List ℕ → Settings
+settingsOf lines m l = record {
+  lines = lines;
   margin = m;
   marks = take 15 (drop 3 l);
   left = getD l 18 0;
@@ -70,14 +72,24 @@ pub data Parsed : Type 0 where
   read : Settings → Parsed
 
 -- what stands behind the first field: nothing, or the margin
-unfoldable pub readBehind : List ℕ → List ℕ → Parsed
+unfoldable pub readBehind : Bool → List ℕ → List ℕ → Parsed
 unfolding within
-readBehind l [] = read (settingsOf noMargin l)
-readBehind l (b ∷ k) = pick (within marginLow marginHigh (b ∷ k)) (read (settingsOf (marginOf (b ∷ k)) l)) refused
+readBehind lines l [] = read (settingsOf lines noMargin l)
+readBehind lines l (b ∷ k) = pick (within marginLow marginHigh (b ∷ k)) (read (settingsOf lines (marginOf (b ∷ k)) l)) refused
 
-unfoldable pub readSettings : List ℕ → Parsed
+-- the settings with lines, or without
+unfoldable pub readForm : Bool → List ℕ → Parsed
 unfolding within readBehind
-readSettings l = pick (within low high (take 31 l)) (readBehind (take 31 l) (drop 31 l)) refused
+readForm lines l = pick (within (low lines) (high lines) (take 31 l)) (readBehind lines (take 31 l) (drop 31 l)) refused
+
+abbrev pub orElse : Parsed → Parsed → Parsed
+orElse refused p = p
+orElse (read s) p = read s
+
+-- in either form: so fifteen zeros as marks mean no lines, and a mixture is refused
+unfoldable pub readSettings : List ℕ → Parsed
+unfolding readForm
+readSettings l = orElse (readForm true l) (readForm false l)
 
 -- how many bytes of the program's input are settings, or all if there are fewer: 11 more where a hex 11 follows the first field
 unfoldable pub settingsEnd : List ℕ → ℕ
@@ -86,6 +98,7 @@ settingsEnd l = pick (eqb (getD l 31 0) 17) 42 31
 -- what a refusal holds: 0 or no everywhere, and the variants numbered 0
 abbrev pub blank : Settings
 blank = record {
+  lines = false;
   margin = record { left = 0; right = 0; top = 0; bottom = 0; fills = replicate 4 0 };
   marks = replicate 15 0;
   left = 0;
@@ -108,14 +121,17 @@ answerOf (read s) = record { number = 0; settings = s }
 abbrev pub settingsAnswer : List ℕ → ReadSettings
 settingsAnswer l = answerOf (readSettings l)
 
--- n bytes from hex 20 to 7E
-pub record Printable (n : ℕ) (l : List ℕ) : Type 0 where
+-- n bytes from one to another
+pub record Bounded (n least greatest : ℕ) (l : List ℕ) : Type 0 where
   pub many : length l ≡ n
-  pub each : (i : ℕ) → i < n → (32 ≤ getD l i 0) × (getD l i 0 ≤ 126)
+  pub each : (i : ℕ) → i < n → (least ≤ getD l i 0) × (getD l i 0 ≤ greatest)
+
+abbrev pub Printable : ℕ → List ℕ → Type 0
+Printable n l = Bounded n 32 126 l
 
 -- the ranges of settings that were read
 pub record Ranges (s : Settings) : Type 0 where
-  pub marks : Printable 15 (s .marks)
+  pub marks : Bounded 15 (pick (s .lines) 32 0) (pick (s .lines) 126 0) (s .marks)
   pub left : s .left ≤ 16
   pub right : s .right ≤ 16
   pub top : s .top ≤ 16

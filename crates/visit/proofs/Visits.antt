@@ -1,5 +1,5 @@
 -- What is done at a leaf, in the definition's terms. Assumes nothing.
-use mathlib.Core.Path.{_≡_, refl, sym, _∙_}
+use mathlib.Core.Path.{_≡_, refl, sym, ap, _∙_}
 use Prim.Native.Nat.{ℕ, _+_, _-_, _*_, _≤_, _<_}
 use native.Mathlib.Omega.{arith}
 use native.Mathlib.Nat.{mul-le-mul}
@@ -12,7 +12,9 @@ use borrow.Author.Tests.{lt-ltb, le-ltb, eq-eqb, ne-eqb}
 use Rattle.settings.specs.declared.Settings.{Settings}
 use Rattle.common.specs.Choice.{pick}
 use Rattle.sizes.specs.declared.Size.{Size}
-use Rattle.sizes.specs.Sizes.{sep}
+use Rattle.sizes.specs.Sizes.{sep, leafSize}
+use Rattle.sizes.proofs.Separator.{sep-small}
+use Rattle.sizes.proofs.Heights.{leaf-height}
 use Rattle.block.specs.declared.Flags.{Flags}
 use Rattle.block.specs.Content.{feeds}
 use Rattle.block.specs.Block.{block, tall, wide}
@@ -46,22 +48,28 @@ kept job t node p z h v f = refl
 
 -- ---- the bytes of a block
 
-one-at-most : (b : Bool) → _≤_ (pick b 1 0) 1
-one-at-most true = omega arith
-one-at-most false = omega arith
+printed-most : (b : Bool) (n : ℕ) → pick b n 0 ≤ n
+printed-most true n = omega arith
+printed-most false n = omega arith
 
 module _ (s : Settings) (z : Size) (f : Flags) where
   pub wide-small : wide s z f ≤ z .width + 2
-  unfolding wide sep
-  wide-small = omega (arith, one-at-most (f .«last_col»))
+  unfolding wide
+  wide-small = omega (arith, sep-small s, printed-most (f .«last_col») (sep s))
 
-  pub tall-small : (1 ≤ tall s z f) × (tall s z f ≤ z .height + 2)
-  unfolding tall sep
-  tall-small = (omega arith, omega (arith, one-at-most (f .«last_row»)))
+  pub tall-small : (0 < z .height → 1 ≤ tall s z f) × (tall s z f ≤ z .height + 2)
+  unfolding tall
+  tall-small = ((λ h. omega arith), omega (arith, sep-small s, printed-most (f .«last_row») (sep s)))
 
--- the product is no 0 and fits
-pub bytes-fit : (a w : ℕ) → 1 ≤ a → a ≤ 65537 → w ≤ 65537 → (1 ≤ a * (w + 1)) × (a * (w + 1) < 8589934592)
-bytes-fit a w h k l = let m : a * w ≤ 65537 * 65537 = mul-le-mul k l in (omega arith, omega arith)
+-- a leaf's height is never 0
+pub printable-tall : {s : Settings} {t : List ℕ} {n z : Size} {h v : List ℕ} → Printable s t n z h v → 0 < z .height
+printable-tall {s} {t} {n} p =
+    let e : n .height ≡ leafSize s t .height = ap (λ (y : Size). y .height) (p .natural) in
+    omega (arith, p .fits .tall, leaf-height s t)
+
+-- the product fits
+pub bytes-fit : (a w : ℕ) → a ≤ 65537 → w ≤ 65537 → a * (w + 1) < 8589934592
+bytes-fit a w k l = let m : a * w ≤ 65537 * 65537 = mul-le-mul k l in omega arith
 
 -- ---- the block at the start of the output, where it fits
 
@@ -91,7 +99,8 @@ module _ (s : Settings) (t : List ℕ) (n z : Size) (f : Flags) (h v : List ℕ)
   paintable len l =
       let w = wide-small s z f in
       let a = tall-small s z f in
-      let b = bytes-fit (tall s z f) (wide s z f) (a .0) (omega (arith, a .1, p .height-small)) (omega (arith, w, p .width-small)) in
+      let b = bytes-fit (tall s z f) (wide s z f) (omega (arith, a .1, p .height-small)) (omega (arith, w, p .width-small)) in
+      let o = a .0 (printable-tall p) in
       let e = bytes-is in
       record {
         natural-is = p .natural;
@@ -102,7 +111,7 @@ module _ (s : Settings) (t : List ℕ) (n z : Size) (f : Flags) (h v : List ℕ)
         few-horizontal = p .few-h;
         few-vertical = p .few-v;
         apart = omega arith;
-        room = record { fits = omega (arith, b .0); small = omega (arith, b .1, w, p .width-small) };
+        room = record { fits = omega arith; small = omega (arith, b, w, p .width-small) };
       }
 
 -- ---- what a leaf shows, by the walk's purpose

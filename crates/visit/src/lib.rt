@@ -89,7 +89,7 @@ pub fn block_bytes(s: Settings, size: Size, f: Flags) -> usize
 {
     let wide = block::block_wide(s, size, f);
     let tall = block::block_tall(s, size, f);
-    tall * (wide + 1) - 1
+    common::less_one(tall * (wide + 1))
 }
 
 // The leaf's block at the start of the output, where it fits.

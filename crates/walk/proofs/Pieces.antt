@@ -30,19 +30,19 @@ past xs ys from gone left h k m =
     let x : drop (from + gone) (take from xs ++ ys) ≡ drop gone ys = rw e at (drop-append-add (take from xs) ys gone) in
     rw x (rest-is ys gone left k m)
 
-module _ (g : Going) (b : Spot) (a last : Bool) (e used : ℕ) (k : CutAt) (al s₁ jo o₁ : List ℕ) (c : CutsIn (g .left) e k (drop (g .from) al) s₁ (drop (g .joined) jo) o₁)
+module _ (g : Going) (b : Spot) (a last : Bool) (gap e used : ℕ) (k : CutAt) (al s₁ jo o₁ : List ℕ) (c : CutsIn (g .left) e k (drop (g .from) al) s₁ (drop (g .joined) jo) o₁)
     (in-along : g .from + g .left ≤ length al) (in-joined : g .joined + g .left ≤ length jo) (long : length s₁ ≡ length (drop (g .from) al)) where
   abbrev planned : Planned
   planned = record {
     used = used;
-    offset = g .offset + e + 1;
+    offset = g .offset + e + gap;
     child = childCtx a (g .node) (childSpot a b (g .offset) (g .first) last (g .old) (k .pair)) (k .pair .taken) (g .handed);
     split = k .split;
     from = g .from + k .gone;
     left = g .left - k .gone;
   }
 
-  pub plans : Plans g b a last e used planned al (take (g .from) al ++ s₁) jo (take (g .joined) jo ++ o₁)
+  pub plans : Plans g b a last gap e used planned al (take (g .from) al ++ s₁) jo (take (g .joined) jo ++ o₁)
   unfolding pairOf
   plans =
       let m : length (drop (g .from) al) ≡ length al - g .from = length-drop (g .from) al in

@@ -13,7 +13,7 @@ use Rattle.tree.specs.Tree.{Axis, across, down, Tree, cell, group, Trees, none,
 use Rattle.tree.specs.Bytes.{Is, Are, lengthAt, axisOf}
 use Rattle.tree.proofs.Fronts.{is-whole}
 use Rattle.sizes.specs.declared.Size.{Size}
-use Rattle.sizes.specs.Sizes.{natural, sep, childSize}
+use Rattle.sizes.specs.Sizes.{natural, childSize}
 use Rattle.splits.specs.Splits.{Cut, pairOf}
 use Rattle.layout.specs.Walk.{Context, alongList, besideList, child}
 use Rattle.layout.specs.Contexts.{spotOf, ctxOf, childSpot, childCtx}
@@ -33,10 +33,6 @@ last-is none u i n s k h e =
 last-is (more t ts) u i n s k h e =
     let z : 3 + lengthAt (drop u s) ≤ length s - u = rw length-drop at (is-whole t (drop u s) (k .0)) in
     ne-eqb u (length s) (λ x. omega arith) ∙ sym (ne-eqb (suc i) n (λ x. omega arith))
-
-pub sep-is : (s : Settings) → sep s ≡ 1
-unfolding sep
-sep-is s = refl
 
 -- ---- a child's context
 

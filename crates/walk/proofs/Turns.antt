@@ -15,6 +15,7 @@ use Rattle.tree.specs.Bytes.{Is, Are, lengthAt, axisOf}
 use Rattle.tree.proofs.Fronts.{is-whole, nodes-low}
 use Rattle.splits.specs.Splits.{Cut, shortSplits3}
 use Rattle.splits.proofs.Lists.{cut-few}
+use Rattle.sizes.proofs.Separator.{sep-is, sep-small}
 use Rattle.sizes.specs.Sizes.{sep, natural, allot, spareOf, childSize}
 use Rattle.common.specs.Every.{Every}
 use Rattle.block.proofs.Every.{every-front, every-back}
@@ -32,7 +33,7 @@ use Rattle.walk.specs.Walking.{uncut, Plans, Looks, startOf, advanceOf, 
 use Rattle.layout.proofs.Laid.{child-size, join-leaves}
 use Rattle.layout.proofs.Numbered.{child-node, none-leaves}
 use Rattle.walk.proofs.Outcome.{alongW, besideW, join-along, join-beside, none-along, none-beside, childAt, children-none, children-more, few-beside, walk-few, children-few, keep-append, keep-nil, show-append, show-nil}
-use Rattle.walk.proofs.Steps.{here-of, last-is, sep-is, child-ctx, child-low, child-few, child-along, extent-is, extent-small, axis-few, along-count, beside-count, horizontal-count, vertical-count}
+use Rattle.walk.proofs.Steps.{here-of, last-is, child-ctx, child-low, child-few, child-along, extent-is, extent-small, axis-few, along-count, beside-count, horizontal-count, vertical-count}
 
 -- ---- the loop over a group's children
 
@@ -247,8 +248,8 @@ module _ (job : Job) (s : List ℕ) (ls : Lists) (a : Bool) (x : Ctx) (al₀ be�
             (rw (spot-is, l .offset-is) (omega (arith, near .0, room), omega (arith, near .1, room)), (l .cut-in, omega (arith, l .room-joined, l .few-joined, l .joined-count, l .few-cut, cut-length))),
           )
 
-      module _ (y : Planned) (al₁ jo₁ : List ℕ) (ye : Looks p (ls .ws) (ls .hs) g b a y al al₁ jo jo₁) where
-        plan : Plans g b a (eqb (suc (l .i)) n) e used y al al₁ jo jo₁
+      module _ (y : Planned) (al₁ jo₁ : List ℕ) (ye : Looks p (ls .ws) (ls .hs) g b a (job .settings .lines) y al al₁ jo jo₁) where
+        plan : Plans g b a (eqb (suc (l .i)) n) (pick (job .settings .lines) 1 0) e used y al al₁ jo jo₁
         plan = rw (pe, last, extent-is a (natural (job .settings) t) (q .at .size) e (g .node) ls here) at ye
 
         child-is : y .child ≡ ctxOf kid
@@ -331,7 +332,7 @@ module _ (job : Job) (s : List ℕ) (ls : Lists) (a : Bool) (x : Ctx) (al₀ be�
                 → (h : Going) → h ≡ advanceOf g y r a → Some (at + y .used) h al₁ be₂ jo₂ kept₁ o₁
             next small jo₂ joe jl ale bel h he =
                 let u = plan .used-is in
-                let of : y .offset ≡ l .offset + e + 1 = plan .offset-is ∙ rw (l .offset-is) in
+                let of : y .offset ≡ l .offset + e + sep (job .settings) = plan .offset-is ∙ rw (l .offset-is, sep-is (job .settings)) in
                 let es : e < 65536 = rw (← extent-is a (natural (job .settings) t) (q .at .size) e (g .node) ls here) (extent-small a (ls .ws) (ls .hs) (g .node) (small (g .node))) in
                 let nx : r .next ≡ g .node + nodes t = re .next-is ∙ rw node-is in
                 let sp : y .split ≡ k .split = plan .split-is ∙ rw (l .cut-is) in
@@ -347,8 +348,8 @@ module _ (job : Job) (s : List ℕ) (ls : Lists) (a : Bool) (x : Ctx) (al₀ be�
                     within = used-is .1;
                     are = rw (u, ← drop-drop used at s) are;
                     left = next-left;
-                    offset-is = of ∙ rw (sep-is (job .settings));
-                    low-offset = omega (arith, l .low-offset, nodes-low t, sep-is (job .settings), es);
+                    offset-is = of;
+                    low-offset = omega (arith, l .low-offset, nodes-low t, sep-small (job .settings), es);
                     first = sym (ne-eqb (suc (l .i)) 0 (λ z. omega arith));
                     cut-is = cl;
                     cut-in = omega (arith, plan .same-end, l .cut-in, ale);

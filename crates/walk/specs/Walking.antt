@@ -36,10 +36,10 @@ extentAt false ws hs n = getD hs n 0
 abbrev pub uncut : Going → List ℕ → List ℕ
 uncut g al = take (g .left) (drop (g .from) al)
 
--- the child at g's node, of that extent e along the axis, whose element takes `used` bytes, in a group that starts at b: its pieces are cut off those in al₀, and go after those that jo₀ has
-pub record Plans (g : Going) (b : Spot) (a last : Bool) (e used : ℕ) (r : Planned) (al₀ al jo₀ jo : List ℕ) : Type 0 where
+-- the child at g's node, of that extent e along the axis, whose element takes `used` bytes, in a group that starts at b, with `gap` between neighbours: its pieces are cut off those in al₀, and go after those that jo₀ has
+pub record Plans (g : Going) (b : Spot) (a last : Bool) (gap e used : ℕ) (r : Planned) (al₀ al jo₀ jo : List ℕ) : Type 0 where
   pub used-is : r .used ≡ used
-  pub offset-is : r .offset ≡ g .offset + e + 1
+  pub offset-is : r .offset ≡ g .offset + e + gap
   pub child-is : r .child ≡ childCtx a (g .node) (childSpot a b (g .offset) (g .first) last (g .old) (pairOf (shortSplits3 (uncut g al₀) e))) (length (shortSplits3 (uncut g al₀) e .taken)) (g .handed)
   pub split-is : r .split ≡ shortSplits3 (uncut g al₀) e .split
   pub same-end : r .from + r .left ≡ g .from + g .left
@@ -48,8 +48,8 @@ pub record Plans (g : Going) (b : Spot) (a last : Bool) (e used : ℕ) (r : Plan
   pub taken-is : take (length (shortSplits3 (uncut g al₀) e .taken)) (drop (g .joined) jo) ≡ shortSplits3 (uncut g al₀) e .taken
 
 -- a child is the last where its element ends the part
-abbrev pub Looks : List ℕ → List ℕ → List ℕ → Going → Spot → Bool → Planned → List ℕ → List ℕ → List ℕ → List ℕ → Type 0
-Looks s ws hs g b a = Plans g b a (eqb (3 + lengthAt s) (length s)) (extentAt a ws hs (g .node)) (3 + lengthAt s)
+abbrev pub Looks : List ℕ → List ℕ → List ℕ → Going → Spot → Bool → Bool → Planned → List ℕ → List ℕ → List ℕ → List ℕ → Type 0
+Looks s ws hs g b a lines = Plans g b a (eqb (3 + lengthAt s) (length s)) (pick lines 1 0) (extentAt a ws hs (g .node)) (3 + lengthAt s)
 
 abbrev pub startOf : Ctx → Bool → Found → Going
 startOf x a f = record { node = x .node + 1; offset = 0; first = true; old = false; from = 0; left = pick a (x .horizontal) (x .vertical); handed = pick a (x .vertical) (x .horizontal); joined = 0; found = f }

@@ -94,11 +94,12 @@ pub fn look(
     across: bool,
     along: &mut [u16],
     joined: &mut [u16],
+    lines: bool,
 ) -> Planned
     requires { ⌜ (2 < length (now s)) × (g .node < length (now widths)) × (g .node < length (now heights)) ⌝ }
     requires { ⌜ (b .line + g .offset < 4294967296) × (b .column + g .offset < 4294967296) ⌝ }
     requires { ⌜ (g .from + g .left ≤ length (now along)) × (g .joined + g .left ≤ length (now joined)) ⌝ }
-    ensures { λ r. ⌜ Looks (now (s .entry)) (now (widths .entry)) (now (heights .entry)) g b across r (now (along .entry)) (now (along .exit)) (now (joined .entry)) (now (joined .exit)) ⌝ }
+    ensures { λ r. ⌜ Looks (now (s .entry)) (now (widths .entry)) (now (heights .entry)) g b across lines r (now (along .entry)) (now (along .exit)) (now (joined .entry)) (now (joined .exit)) ⌝ }
 {
     let used = 3 + tree::front::length_at(s);
     let last = used == s.len();
@@ -111,7 +112,7 @@ pub fn look(
     let child = layout::child_ctx(across, g.node, spot, pair.taken, g.handed);
     Planned {
         used: used,
-        offset: g.offset + common::wide16(extent) + 1,
+        offset: g.offset + common::wide16(extent) + common::one_if(lines),
         child: child,
         split: k.split,
         from: from + k.gone,

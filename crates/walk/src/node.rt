@@ -210,7 +210,17 @@ fn walk_group(
     let mut joined = [0u16; 1024];
     let mut at: usize = 0;
     while at < s.len() {
-        let p = look(&s[at..], widths, heights, g, b, across, along, &mut joined);
+        let p = look(
+            &s[at..],
+            widths,
+            heights,
+            g,
+            b,
+            across,
+            along,
+            &mut joined,
+            job.settings.lines,
+        );
         let child = p.child;
         let before = g.found;
         let end = g.joined;

@@ -1,26 +1,31 @@
 use native.Mathlib.Omega.{arith}
 use borrow.Author.Needs.{needs}
-use Rattle.block.proofs.Dims.{wide-is}
+use Rattle.block.specs.Block.{wide}
 use Rattle.block.proofs.block_wide.Statement.{statement}
 use Rattle.block.proofs.block_wide.Tie as tie
 
-one-if-requires : tie.Need-one-if-requires
-one-if-requires c κs = search needs
+separator-requires : tie.Need-separator-requires
+separator-requires c κs = search needs
+
+where-printed-requires : tie.Need-where-printed-requires
+where-printed-requires c κs = search needs
 
 add-result : tie.Need-add-result
-add-result c = search needs
+add-result c = omega (arith, c .before .before .separator .ensures .1, c .before .where-printed .ensures .1)
 
 add-result-2 : tie.Need-add-result-2
-add-result-2 c = search needs
+add-result-2 c = omega (arith, c .before .before .separator .ensures .1, c .before .where-printed .ensures .1)
 
 returns : tie.Need-returns
-returns c = rw (wide-is (c .before .before .args .s) (c .before .before .args .size) (c .before .before .args .f)) (omega (arith, c .before .one-if .ensures .0))
+unfolding wide
+returns c = rw (← c .before .before .separator .ensures .0) (omega (arith, c .before .where-printed .ensures .0))
 
 pub block-wide-spec : {M : Type 1} → statement M
 block-wide-spec =
     tie.close
     (tie.spec
-    one-if-requires
+    separator-requires
+    where-printed-requires
     add-result
     add-result-2
     returns)

@@ -28,9 +28,9 @@ middle-painted : (s : Settings) (t : List ℕ) (z : Size) (b : Borders) (ps : Li
     → Wrote r (at + z .height * stride) o₃ (pasted o at stride (middleOf s t z b ps))
 unfolding middleOf leftOf rightOf
 middle-painted s t z b ps fits o o₁ o₂ o₃ at stride r h w e₂ e₃ =
-    let left = left-dims (named (z .height) ps) (getD (b .marks) 13 0) (getD (b .marks) 2 0) (z .height) in
+    let left = left-dims 1 (named (z .height) ps) (getD (b .marks) 13 0) (getD (b .marks) 2 0) (z .height) in
     let text = body-dims s t z fits in
-    let right = edges-dims (z .height) (b .right) (getD (b .marks) 3 0) in
+    let right = edges-dims (z .height) 1 (b .right) (getD (b .marks) 3 0) in
     record {
       end-is = w .end-is;
       out-is = e₃ ∙ rw e₂ (pasted-beside o₁ (at + 1) stride text right (omega arith) ∙ rw (w .out-is) (pasted-beside o at stride left (dims-paired text right) h));

@@ -6,14 +6,16 @@ use native.Mathlib.Omega.{arith}
 use native.Mathlib.Nat.{mul-le-mul}
 use Rattle.frame.proofs.frame_of.Statement.{statement}
 use Rattle.frame.proofs.frame_of.Tie as tie
-use Rattle.frame.proofs.frame_of.Reads as reads
-use Rattle.frame.proofs.frame_of.Lts as lts
-use Rattle.common.proofs.wide.Reads as wide-reads
-use Rattle.common.proofs.wide16.Reads as wide16-reads
 
 -- what is worked out fits
 product : (a b : ℕ) → a < 66050 → b < 66050 → Fits w64 (a * b)
 product a b p q = let m = mul-le-mul {n₁ = a} {m₁ = b} {n₂ = 66050} {m₂ = 66050} (omega arith) (omega arith) in omega arith
+
+separator-requires : tie.Need-separator-requires
+separator-requires c κs = search needs
+
+mul-edges : tie.Need-mul-edges
+mul-edges c = search needs
 
 array-read-wide16 : tie.Need-array-read-wide16
 array-read-wide16 c = search needs
@@ -60,27 +62,31 @@ add-lines-2 c = search needs
 add-stride : tie.Need-add-stride
 add-stride c = search needs
 
-mul-t11 : tie.Need-mul-t11
-mul-t11 c = product _ _ (omega arith) (omega arith)
+mul-less-one : tie.Need-mul-less-one
+mul-less-one c = product _ _ (omega arith) (omega arith)
 
-sub-t17 : tie.Need-sub-t17
-sub-t17 c = search needs
+less-one-requires : tie.Need-less-one-requires
+less-one-requires c κs = search needs
 
 returns : tie.Need-returns
 returns c =
     rw (
-      ← c .wide4 .ensures .0,
-      ← c .before .wide3 .ensures .0,
-      ← c .before .before .wide2 .ensures .0,
-      ← c .before .before .before .wide .ensures .0,
-      ← c .before .before .before .before .wide162 .ensures .0,
-      ← c .before .before .before .before .before .wide16 .ensures .0,
+      c .less-one .ensures,
+      c .before .wide4 .ensures .0,
+      c .before .before .wide3 .ensures .0,
+      c .before .before .before .wide2 .ensures .0,
+      c .before .before .before .before .wide .ensures .0,
+      c .before .before .before .before .before .wide162 .ensures .0,
+      c .before .before .before .before .before .before .wide16 .ensures .0,
+      c .before .before .before .before .before .before .before .separator .ensures .0,
     )
 
 pub frame-of-spec : {M : Type 1} → statement M
 frame-of-spec =
     tie.close
     (tie.spec
+    separator-requires
+    mul-edges
     array-read-wide16
     wide16-requires
     add-wide
@@ -96,6 +102,6 @@ frame-of-spec =
     wide-requires-4
     add-lines-2
     add-stride
-    mul-t11
-    sub-t17
+    mul-less-one
+    less-one-requires
     returns)

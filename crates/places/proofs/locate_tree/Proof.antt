@@ -14,7 +14,7 @@ abbrev root-at : tie.After-separator → Siblings
 root-at c = record { across = true; gap = c .separator .result; start = record { line = c .before .before .wide .result; column = c .before .wide2 .result; «last_row» = true; «last_col» = true } }
 
 root-is : (c : tie.After-separator) → let s = c .before .before .before .before .before .before .before .before .before .args .s in root-at c ≡ record { across = true; gap = sep s; start = rootAnchor s }
-root-is c = rw (c .separator .ensures, c .before .wide2 .ensures .0, c .before .before .wide .ensures .0)
+root-is c = rw (c .separator .ensures .0, c .before .wide2 .ensures .0, c .before .before .wide .ensures .0)
 
 -- the lists have 512 numbers
 lengths : (c : tie.After-separator) → let z = c .before .before .before .before .before .before .before .before .before .args .core in (length (z .widths) ≡ 512) × (length (z .heights) ≡ 512)

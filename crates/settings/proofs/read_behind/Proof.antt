@@ -2,7 +2,7 @@ use borrow.Author.Needs.{needs}
 use mathlib.Core.Path.{_≡_, refl, sym, _∙_}
 use Prim.Native.Nat.{ℕ}
 use native.Mathlib.Omega.{arith}
-use mathlib.Core.Bool.{true, false}
+use mathlib.Core.Bool.{Bool, true, false}
 use mathlib.Core.List.{List, [], _∷_}
 use lib.ListN.{length}
 use Rattle.settings.specs.Reading.{marginLow, marginHigh, within, marginOf, noMargin, settingsOf, refused, read, readBehind}
@@ -10,20 +10,20 @@ use Rattle.settings.proofs.Within.{within-length}
 use Rattle.settings.proofs.read_behind.Statement.{statement}
 use Rattle.settings.proofs.read_behind.Tie as tie
 
-nothing : (l k : List ℕ) → length k ≡ 0 → readBehind l k ≡ read (settingsOf noMargin l)
+nothing : (lines : Bool) (l k : List ℕ) → length k ≡ 0 → readBehind lines l k ≡ read (settingsOf lines noMargin l)
 unfolding readBehind
-nothing l [] e = refl
-nothing l (b ∷ k) e = absurd (omega arith)
+nothing lines l [] e = refl
+nothing lines l (b ∷ k) e = absurd (omega arith)
 
-margin : (l k : List ℕ) → (length k ≡ 0 → ⊥) → within marginLow marginHigh k ≡ true → readBehind l k ≡ read (settingsOf (marginOf k) l)
+margin : (lines : Bool) (l k : List ℕ) → (length k ≡ 0 → ⊥) → within marginLow marginHigh k ≡ true → readBehind lines l k ≡ read (settingsOf lines (marginOf k) l)
 unfolding readBehind
-margin l [] e h = absurd (e refl)
-margin l (b ∷ k) e h = rw h
+margin lines l [] e h = absurd (e refl)
+margin lines l (b ∷ k) e h = rw h
 
-other : (l k : List ℕ) → (length k ≡ 0 → ⊥) → within marginLow marginHigh k ≡ false → readBehind l k ≡ refused
+other : (lines : Bool) (l k : List ℕ) → (length k ≡ 0 → ⊥) → within marginLow marginHigh k ≡ false → readBehind lines l k ≡ refused
 unfolding readBehind
-other l [] e h = absurd (e refl)
-other l (b ∷ k) e h = rw h
+other lines l [] e h = absurd (e refl)
+other lines l (b ∷ k) e h = rw h
 
 none-requires : tie.Need-none-requires
 none-requires c κs = search needs
@@ -32,7 +32,7 @@ accepted-requires : tie.Need-accepted-requires
 accepted-requires c κs = search needs
 
 returns : tie.Need-returns
-returns c = c .accepted .ensures ∙ rw (c .before .none .ensures, nothing _ _ (c .before .before .if1 .taken))
+returns c = c .accepted .ensures ∙ rw (c .before .none .ensures, nothing _ _ _ (c .before .before .if1 .taken))
 
 is-margin-requires : tie.Need-is-margin-requires
 is-margin-requires c κs = search needs
@@ -44,13 +44,13 @@ accepted-requires-2 : tie.Need-accepted-requires-2
 accepted-requires-2 c κs = search needs
 
 returns-2 : tie.Need-returns-2
-returns-2 c = c .accepted2 .ensures ∙ rw (c .before .margin-of .ensures, margin _ _ (c .before .before .before .before .if1 .left) (sym (c .before .before .before .is-margin .ensures) ∙ c .before .before .if2 .taken))
+returns-2 c = c .accepted2 .ensures ∙ rw (c .before .margin-of .ensures, margin _ _ _ (c .before .before .before .before .if1 .left) (sym (c .before .before .before .is-margin .ensures) ∙ c .before .before .if2 .taken))
 
 refused-requires : tie.Need-refused-requires
 refused-requires c κs = search needs
 
 returns-3 : tie.Need-returns-3
-returns-3 c = c .refused .ensures ∙ rw (other _ _ (c .before .before .before .if1 .left) (sym (c .before .before .is-margin .ensures) ∙ c .before .if2 .left))
+returns-3 c = c .refused .ensures ∙ rw (other _ _ _ (c .before .before .before .if1 .left) (sym (c .before .before .is-margin .ensures) ∙ c .before .if2 .left))
 
 pub read-behind-spec : {M : Type 1} → statement M
 read-behind-spec =

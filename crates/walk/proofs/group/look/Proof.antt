@@ -54,41 +54,44 @@ child-ctx-requires c κs = search needs
 wide16-requires : tie.Need-wide16-requires
 wide16-requires c κs = search needs
 
-add-t25 : tie.Need-add-t25
-add-t25 c = omega (arith, c .before .wide16 .ensures .1, c .before .before .before .before .before .before .before .before .before .before .before .before .before .before .before .before .before .before .before .pre)
+add-t26 : tie.Need-add-t26
+add-t26 c = omega (arith, c .before .wide16 .ensures .1, c .before .before .before .before .before .before .before .before .before .before .before .before .before .before .before .before .before .before .before .pre)
 
-add-t23 : tie.Need-add-t23
-add-t23 c = omega (arith, c .before .wide16 .ensures .1, c .before .before .before .before .before .before .before .before .before .before .before .before .before .before .before .before .before .before .before .pre)
+one-if-requires : tie.Need-one-if-requires
+one-if-requires c κs = search needs
 
-add-t20 : tie.Need-add-t20
-add-t20 c = omega (arith, c .before .before .before .before .before .before .before .before .before .before .cut-pieces .ensures .within, c .before .before .before .before .before .before .before .before .before .before .before .before .before .before .before .before .before .before .before .before .pre, c .before .before .before .before .before .before .before .before .before .before .before .before .before .before .before .before .before .before .before .before .good)
+add-t21 : tie.Need-add-t21
+add-t21 c = omega (arith, c .one-if .ensures .1, c .before .before .wide16 .ensures .1, c .before .before .before .before .before .before .before .before .before .before .before .before .before .before .before .before .before .before .before .before .pre)
 
-sub-t28 : tie.Need-sub-t28
-sub-t28 c = omega (arith, c .before .before .before .before .before .before .before .before .before .before .before .before .cut-pieces .ensures .within)
+add-t29 : tie.Need-add-t29
+add-t29 c = omega (arith, c .before .before .before .before .before .before .before .before .before .before .before .cut-pieces .ensures .within, c .before .before .before .before .before .before .before .before .before .before .before .before .before .before .before .before .before .before .before .before .before .pre, c .before .before .before .before .before .before .before .before .before .before .before .before .before .before .before .before .before .before .before .before .before .good)
+
+sub-t30 : tie.Need-sub-t30
+sub-t30 c = omega (arith, c .before .before .before .before .before .before .before .before .before .before .before .before .before .cut-pieces .ensures .within)
 
 same-length : tie.Need-same-length
 same-length c =
-    let a = c .before .before .before .before .before .before .before .before .before .before .before .before .before .before .before .before .before .before .before .before .before .before .args in
-    let k = c .before .before .before .before .before .before .before .before .before .before .before .before .cut-pieces in
+    let a = c .before .before .before .before .before .before .before .before .before .before .before .before .before .before .before .before .before .before .before .before .before .before .before .args in
+    let k = c .before .before .before .before .before .before .before .before .before .before .before .before .before .cut-pieces in
     let al = a .along .now in
-    rw (part-back al _ (a .g .from)) (part-of-length al (a .g .from) (length al) refl (omega (arith, c .before .before .before .before .before .before .before .before .before .before .before .before .before .before .before .before .before .before .before .before .before .before .pre)) _ (k .kept .0 ∙ rw (part-to-end al (a .g .from))))
+    rw (part-back al _ (a .g .from)) (part-of-length al (a .g .from) (length al) refl (omega (arith, c .before .before .before .before .before .before .before .before .before .before .before .before .before .before .before .before .before .before .before .before .before .before .before .pre)) _ (k .kept .0 ∙ rw (part-to-end al (a .g .from))))
 
 same-length-2 : tie.Need-same-length-2
 same-length-2 c =
-    let a = c .before .before .before .before .before .before .before .before .before .before .before .before .before .before .before .before .before .before .before .before .before .before .args in
-    let k = c .before .before .before .before .before .before .before .before .before .before .before .before .cut-pieces in
+    let a = c .before .before .before .before .before .before .before .before .before .before .before .before .before .before .before .before .before .before .before .before .before .before .before .args in
+    let k = c .before .before .before .before .before .before .before .before .before .before .before .before .before .cut-pieces in
     let jo = a .joined .now in
-    rw (part-back jo _ (a .g .joined)) (part-of-length jo (a .g .joined) (length jo) refl (omega (arith, c .before .before .before .before .before .before .before .before .before .before .before .before .before .before .before .before .before .before .before .before .before .before .pre)) _ (k .kept .1 .1 .1 .0 ∙ rw (part-to-end jo (a .g .joined))))
+    rw (part-back jo _ (a .g .joined)) (part-of-length jo (a .g .joined) (length jo) refl (omega (arith, c .before .before .before .before .before .before .before .before .before .before .before .before .before .before .before .before .before .before .before .before .before .before .before .pre)) _ (k .kept .1 .1 .1 .0 ∙ rw (part-to-end jo (a .g .joined))))
 
 returns : tie.Need-returns
 returns c =
-    let a = c .before .before .before .before .before .before .before .before .before .before .before .before .before .before .before .before .before .before .before .before .before .before .args in
-    let k = c .before .before .before .before .before .before .before .before .before .before .before .before .cut-pieces in
+    let a = c .before .before .before .before .before .before .before .before .before .before .before .before .before .before .before .before .before .before .before .before .before .before .before .args in
+    let k = c .before .before .before .before .before .before .before .before .before .before .before .before .before .cut-pieces in
     let al = a .along .now in
     let jo = a .joined .now in
-    let ends : CutsIn (a .g .left) (extentAt (a .across) (a .widths .now) (a .heights .now) (a .g .node)) (k .result) (drop (a .g .from) al) _ (drop (a .g .joined) jo) _ = rw (part-to-end al (a .g .from), part-to-end jo (a .g .joined), c .before .before .before .before .before .before .before .before .before .before .before .before .before .before .before .extent-at .ensures) at (k .ensures) in
-    rw (part-back al _ (a .g .from), part-back jo _ (a .g .joined), c .before .before .before .before .before .child-ctx .ensures, c .before .before .before .before .before .before .child-spot .ensures, c .before .before .before .before .wide16 .ensures .0, c .before .before .before .before .before .before .before .before .before .before .before .before .before .before .before .extent-at .ensures, c .before .before .before .before .before .before .before .before .before .before .before .before .before .before .before .before .length-at .ensures .0)
-    (plans (a .g) (a .b) (a .across) _ _ _ (k .result) al _ jo _ ends (omega (arith, c .before .before .before .before .before .before .before .before .before .before .before .before .before .before .before .before .before .before .before .before .before .before .pre)) (omega (arith, c .before .before .before .before .before .before .before .before .before .before .before .before .before .before .before .before .before .before .before .before .before .before .pre)) (k .kept .0 ∙ rw (part-to-end al (a .g .from))))
+    let ends : CutsIn (a .g .left) (extentAt (a .across) (a .widths .now) (a .heights .now) (a .g .node)) (k .result) (drop (a .g .from) al) _ (drop (a .g .joined) jo) _ = rw (part-to-end al (a .g .from), part-to-end jo (a .g .joined), c .before .before .before .before .before .before .before .before .before .before .before .before .before .before .before .before .extent-at .ensures) at (k .ensures) in
+    rw (part-back al _ (a .g .from), part-back jo _ (a .g .joined), c .before .before .before .before .before .before .child-ctx .ensures, c .before .before .before .before .before .before .before .child-spot .ensures, c .before .before .before .before .before .wide16 .ensures .0, c .before .before .before .one-if .ensures .0, c .before .before .before .before .before .before .before .before .before .before .before .before .before .before .before .before .extent-at .ensures, c .before .before .before .before .before .before .before .before .before .before .before .before .before .before .before .before .before .length-at .ensures .0)
+    (plans (a .g) (a .b) (a .across) _ _ _ _ (k .result) al _ jo _ ends (omega (arith, c .before .before .before .before .before .before .before .before .before .before .before .before .before .before .before .before .before .before .before .before .before .before .before .pre)) (omega (arith, c .before .before .before .before .before .before .before .before .before .before .before .before .before .before .before .before .before .before .before .before .before .before .before .pre)) (k .kept .0 ∙ rw (part-to-end al (a .g .from))))
 
 pub look-spec : {M : Type 1} → statement M
 look-spec =
@@ -109,10 +112,11 @@ look-spec =
     child-spot-requires
     child-ctx-requires
     wide16-requires
-    add-t25
-    add-t23
-    add-t20
-    sub-t28
+    add-t26
+    one-if-requires
+    add-t21
+    add-t29
+    sub-t30
     same-length
     same-length-2
     returns)
