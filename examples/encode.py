@@ -6,6 +6,7 @@ A tree is a text (a Cell), row(..) or column(..); a planning tree has plan(..), 
 import os
 
 MARKS = b"--||-|+++++++++"
+NO_LINES = bytes(15)
 
 # priorities
 LAST, LIST = 1, 2
@@ -77,6 +78,7 @@ EXAMPLES = {
     "figure2": (settings(marks=b"-_()hv123456789", width=LIST), column("abcdef", row("a", "b"))),
     "list": (settings(), column(*(f"{n} {leg}" for n, leg in enumerate(LEGS, 1)))),
     "blank": (settings(padding=(0, 0, 0, 0), width=LIST), row("leg 1", "")),
+    "tablet": (settings(marks=NO_LINES), FLIGHT),
     "refused": (settings(), row(*(f"leg {n}" for n in range(1, 47)))),
 }
 

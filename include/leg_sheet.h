@@ -24,7 +24,7 @@
  *
  * Settings, 31 bytes, or 42 with a margin. 10 00 1C, then
  *   15 marks, 20 to 7E: top, bottom, left, right, horizontal, vertical (these two are never printed), top_left, top_right, top_intersection,
- *      bottom_left, bottom_right, bottom_intersection, left_intersection, right_intersection, intersection
+ *      bottom_left, bottom_right, bottom_intersection, left_intersection, right_intersection, intersection; or fifteen 00: a sheet without lines (below)
  *   4 padding sizes, 0 to 16 (decimal): left, right, top, bottom; 4 fills in that order, 20 to 7E
  *   horizontal alignment (0 left, 1 center, 2 right), vertical alignment (0 top, 1 center, 2 bottom), line mode (0 moves all lines of a text
  *      as its widest, 1 each by itself), width priority and height priority (0 First, 1 Last, 2 List)
@@ -33,6 +33,9 @@
  *   4 sizes, 0 to 16 (decimal): left, right, top, bottom; 4 fills in that order, 20 to 7E; the left and right ones go from the first line to the last
  * W and H, 400 and 160 at the most, are the columns and lines of the sheet with its margin: the root's natural width or height, 2 for the edge, and the
  * margin's sizes on both sides. Sizes, leaf records and blocks have no margin in them.
+ * Without lines no mark is printed, and no column or line is kept for one: the 1 between neighbours and the 2 for the edge are 0. A block is then as large as the
+ * leaf's allotted size. A leaf of width 0 is its height - 1 feeds, a sheet of W = 0 is H - 1 feeds, and no place lies in either. Cuts, split lists and flags are as with
+ * lines. A mixture of marks and 00 is refused with 1.
  *
  * A tree, one element. An element is a tag, the length of its contents in two bytes, the high one first, and its contents:
  *   01 Cell: a text, bytes 20 to 7E, and 0A between its lines
@@ -86,7 +89,7 @@ extern "C" {
 #define LEG_TREE 32768
 #define LEG_STORE (8 * (3 + LEG_TREE))
 
-/* Reads settings of 31 or 42 bytes. 1, 8. Writes the 28 numbers after the first tag and length: 15 marks; padding left, right, top, bottom;
+/* Reads settings of 31 or 42 bytes. 1, 8. Writes the 28 numbers after the first tag and length: 15 marks, or 15 zeros; padding left, right, top, bottom;
  * their fills; horizontal and vertical alignment; line mode; width and height priority. Counts 28. */
 uint64_t leg_read_settings(const uint8_t *bytes, size_t bytes_len, uint16_t *out, size_t out_len);
 
@@ -124,7 +127,7 @@ uint64_t leg_place(const uint8_t *settings, size_t settings_len, const uint8_t *
 uint64_t leg_places(const uint8_t *settings, size_t settings_len, const uint8_t *tree, size_t tree_len, const uint64_t *places, size_t places_len, uint64_t *answers, size_t answers_len, uint64_t *read);
 
 /* Folds a long list, a Column of 1 to LEG_CELLS Cells, in order, into Columns of one Row that is no wider inside than `width`: the Columns' widths and 1 between
- * neighbours, the sheet's edges and margin not counted. A height t is tried by putting cells in a Column while its height, with 1 between them, stays within t. One
+ * neighbours (0 without lines), the sheet's edges and margin not counted. A height t is tried by putting cells in a Column while its height, with as much between them, stays within t. One
  * Column is the beginning; then t is one lower each time, down to the tallest cell, with `budget` tries at the most. 1 to 5, 15, 16 (by the cell's width with its
  * padding); 8 last, where `columns` has fewer numbers than the answer has Columns. Writes how many cells each Column has at the least t that fitted; and to `found`
  * LEG_FOUND numbers: that t, the tries made, and the most by which t can lie above the least that fits: 0 if every t was tried, else t less the tallest cell's height.

@@ -7,7 +7,7 @@ mod side;
 
 use std::process::ExitCode;
 
-use oracle::compare::{Comparison, Counts, NUMBERS, PARTS};
+use oracle::compare::{parts, Comparison, Counts, NUMBERS};
 use oracle::gen::Rng;
 use oracle::sides::Original;
 use side::Library;
@@ -28,7 +28,7 @@ fn compare(seed: u64, rounds: usize) -> (usize, usize) {
     let (mut agreed, mut parted) = (0, 0);
     let mut counts = Counts::default();
     let mut original = Original::default();
-    for (part, run) in PARTS {
+    for (part, run) in parts() {
         let mut library = Library;
         let mut comparison = Comparison::new(&mut original, &mut library);
         match run(&mut comparison, &mut Rng::new(seed), rounds) {

@@ -27,7 +27,7 @@ fn sides(sides: leg_sheet::Sides) -> [u8; 4] {
 
 fn settings_of(settings: leg_sheet::Settings) -> Settings {
     Settings {
-        marks: settings.marks(),
+        marks: settings.marks().into(),
         padding: sides(settings.padding()),
         fills: sides(settings.fills()),
         horizontal: settings.horizontal() as u8,

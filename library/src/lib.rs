@@ -44,7 +44,7 @@ pub use records::{
     Need, Place, Planned, Positions, ShortParts, SizeRecord, SplitList,
 };
 pub use refusal::Refusal;
-pub use settings::{Alignment, Priority, Settings, Sides};
+pub use settings::{Alignment, Marks, Priority, Settings, Sides};
 pub use tree::Tree;
 pub use values::{
     fold, leaf_record, place, places, plan, print_leaf, print_sheet, share, short_splits,

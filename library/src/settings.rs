@@ -26,6 +26,29 @@ pub enum Priority {
     List,
 }
 
+/// The marks of the lines around and between cells.
+///
+/// ```
+/// use leg_sheet::{print_sheet, Marks, Refusal, Settings, Tree};
+///
+/// let bare = Settings::default().with_marks(Marks::None)?;
+/// let tree = Tree::column(["abcdef".into(), Tree::row(["a", "b"])]);
+/// assert_eq!(print_sheet(&bare, &tree)?, " abcdef \n a  b   ");
+///
+/// assert_eq!(Settings::default().marks(), Marks::from(*b"--||-|+++++++++"));
+/// let mixed = Marks::All(*b"--||-|++++++++\0");
+/// assert_eq!(bare.with_marks(mixed), Err(Refusal::BadSettings));
+/// # Ok::<(), Refusal>(())
+/// ```
+#[derive(Debug, Clone, Copy, PartialEq, Eq, Hash)]
+pub enum Marks {
+    /// A sheet without lines: no mark is printed, and no column and no line is left for one.
+    None,
+    /// Top, bottom, left, right, horizontal, vertical, top left, top right, top intersection, bottom left, bottom right, bottom intersection, left
+    /// intersection, right intersection, intersection, each hex 20 to 7E. Horizontal and vertical are never printed.
+    All([u8; 15]),
+}
+
 /// A number for each side.
 #[derive(Debug, Clone, Copy, PartialEq, Eq, Hash)]
 #[allow(missing_docs)]
@@ -69,7 +92,7 @@ pub struct Sides {
 /// ```
 #[derive(Debug, Clone, Copy, PartialEq, Eq, Hash)]
 pub struct Settings {
-    marks: [u8; 15],
+    marks: Marks,
     padding: Sides,
     fills: Sides,
     horizontal: Alignment,
@@ -80,6 +103,9 @@ pub struct Settings {
     margin: Sides,
     margin_fills: Sides,
 }
+
+/// The marks where there are none, as they stand in the record.
+const NO_MARKS: [u8; 15] = [0; 15];
 
 /// The margin where there is none: its sizes and its fills.
 const NO_MARGIN: [Sides; 2] = [Sides::all(0), Sides::all(b' ')];
@@ -102,6 +128,26 @@ impl Priority {
             0 => Priority::First,
             1 => Priority::Last,
             _ => Priority::List,
+        }
+    }
+}
+
+impl From<[u8; 15]> for Marks {
+    /// Fifteen zeros are no marks.
+    fn from(bytes: [u8; 15]) -> Marks {
+        match bytes {
+            NO_MARKS => Marks::None,
+            _ => Marks::All(bytes),
+        }
+    }
+}
+
+impl From<Marks> for [u8; 15] {
+    /// As they stand in the record.
+    fn from(marks: Marks) -> [u8; 15] {
+        match marks {
+            Marks::None => NO_MARKS,
+            Marks::All(bytes) => bytes,
         }
     }
 }
@@ -132,7 +178,7 @@ impl Default for Settings {
     /// Document 01's defaults with document 02's width priority, Last, and no margin.
     fn default() -> Settings {
         Settings {
-            marks: *b"--||-|+++++++++",
+            marks: Marks::All(*b"--||-|+++++++++"),
             padding: Sides::of([1, 1, 0, 0]),
             fills: Sides::all(b' '),
             horizontal: Alignment::Start,
@@ -159,7 +205,7 @@ impl Settings {
         let (out, margin) = (out.map(|n| n as u8), margin.map(|n| n as u8));
         let sides = |four: &[u8]| Sides::of([four[0], four[1], four[2], four[3]]);
         Ok(Settings {
-            marks: std::array::from_fn(|at| out[at]),
+            marks: std::array::from_fn(|at| out[at]).into(),
             padding: sides(&out[15..]),
             fills: sides(&out[19..]),
             horizontal: Alignment::of(out[23]),
@@ -182,8 +228,9 @@ impl Settings {
             self.width_priority as u8,
             self.height_priority as u8,
         ];
+        let marks: [u8; 15] = self.marks.into();
         let sides = [self.padding.numbers(), self.fills.numbers()].concat();
-        let mut bytes = [&[0x10, 0, 28], &self.marks[..], &sides, &choices].concat();
+        let mut bytes = [&[0x10, 0, 28], &marks[..], &sides, &choices].concat();
         let margin = [self.margin, self.margin_fills];
         if margin != NO_MARGIN {
             bytes.extend([0x11, 0, 8]);
@@ -197,10 +244,9 @@ impl Settings {
         Settings::from_bytes(&self.to_bytes())
     }
 
-    /// Top, bottom, left, right, horizontal, vertical, top left, top right, top intersection, bottom left, bottom right, bottom intersection, left
-    /// intersection, right intersection, intersection. Horizontal and vertical are never printed.
+    /// The marks of the lines, or that there are none.
     #[must_use]
-    pub const fn marks(&self) -> [u8; 15] {
+    pub const fn marks(&self) -> Marks {
         self.marks
     }
 
@@ -258,11 +304,12 @@ impl Settings {
         self.margin_fills
     }
 
-    /// Other [marks](Settings::marks), each hex 20 to 7E.
+    /// Other [marks](Settings::marks), or none: fifteen bytes, each hex 20 to 7E, or [`Marks::None`].
     ///
     /// # Errors
     /// 1, where one is out of its range.
-    pub fn with_marks(self, marks: [u8; 15]) -> Result<Settings, Refusal> {
+    pub fn with_marks(self, marks: impl Into<Marks>) -> Result<Settings, Refusal> {
+        let marks = marks.into();
         Settings { marks, ..self }.checked()
     }
 

@@ -1,4 +1,4 @@
-//! The calls on lent buffers by themselves: figure F1 of document 01, refusals, what they leave of a lent output, where the pair of a cut stands, the leaves of
+//! The calls on lent buffers by themselves: figure F1 of document 01, with lines and without, refusals, what they leave of a lent output, where the pair of a cut stands, the leaves of
 //! places, a list folded, a sheet planned, the letters that widen it, and priorities that no settings have.
 
 use leg_sheet::calls::{
@@ -38,15 +38,40 @@ fn refuses_and_writes_nothing() {
     assert_eq!(refused(D, AB, 19), 8);
 }
 
+/// D without lines: fifteen zeros as marks.
+fn bare() -> [u8; 31] {
+    let mut bare = *D;
+    bare[3..18].fill(0);
+    bare
+}
+
 #[test]
 fn reads_settings() {
-    let mut numbers = [0xA5A5; SETTINGS + 1];
-    assert_eq!(read_settings(D, &mut numbers), Ok(SETTINGS));
-    let bytes = D[3..].iter().map(|&byte| byte.into());
-    assert_eq!(
-        numbers.to_vec(),
-        bytes.chain([0xA5A5]).collect::<Vec<u16>>()
-    );
+    for settings in [*D, bare()] {
+        let mut numbers = [0xA5A5; SETTINGS + 1];
+        assert_eq!(read_settings(&settings, &mut numbers), Ok(SETTINGS));
+        let bytes = settings[3..].iter().map(|&byte| byte.into());
+        assert_eq!(
+            numbers.to_vec(),
+            bytes.chain([0xA5A5]).collect::<Vec<u16>>()
+        );
+    }
+}
+
+/// Without lines a sheet may have no bytes, and no byte is then needed.
+#[test]
+fn prints_without_lines() {
+    let mut output = LENT;
+    assert_eq!(print_sheet(&bare(), AB, &mut output), Ok(4));
+    assert_eq!(output[..4], *b" ab ");
+    assert_eq!(output[4..], LENT[4..]);
+    let short = &mut output[..3];
+    assert_eq!(print_sheet(&bare(), AB, short), Err(Refusal::TooShort));
+    let mut tight = bare();
+    tight[18..20].fill(0);
+    let empty = b"\x01\x00\x00";
+    assert_eq!(print_sheet(&tight, empty, &mut []), Ok(0));
+    assert_eq!(print_leaf(&tight, empty, 0, &mut []), Ok(0));
 }
 
 /// The eight numbers of the field, or those of none; the numbers past them stay, and a refusal leaves all.

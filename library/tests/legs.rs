@@ -59,6 +59,10 @@ fn prints() {
         &["print", "list.legs"],
         include_str!("../../examples/list.txt"),
     );
+    answers(
+        &["print", "tablet.legs"],
+        include_str!("../../examples/tablet.txt"),
+    );
 }
 
 #[test]
@@ -496,6 +500,21 @@ fn check() {
                    sheet: refused 6: the sheet has over 400 columns or over 160 lines\n";
     let said = said(&["check", "refused.legs"], b"");
     assert_eq!(said, (refused.into(), String::new(), Some(1)));
+}
+
+/// A sheet without lines, and one of no columns.
+#[test]
+fn checks_without_lines() {
+    answers(
+        &["check", "tablet.legs"],
+        "settings: accepted\ntree: accepted, nodes: 66\nsheet: accepted, 67 columns by 11 lines\n",
+    );
+    let bare = [&DEFAULTS[..3], &[0; 19], &DEFAULTS[22..]].concat();
+    for (tree, lines) in [(&b"\x01\x00\x00"[..], 1), (b"\x01\x00\x02\n\n", 3)] {
+        let (answer, _, status) = said(&["check", "-"], &[&bare, tree].concat());
+        let sheet = format!("sheet: accepted, 0 columns by {lines} lines");
+        assert_eq!((answer.lines().last(), status), (Some(&sheet[..]), Some(0)));
+    }
 }
 
 #[test]

@@ -5,8 +5,8 @@ use std::ops::RangeInclusive;
 use leg_sheet::{
     fold, leaf_record, next_sibling, place, places, plan, print_leaf, print_sheet, share,
     short_splits, short_splits3, short_splits3_in_place, sizes, widen, Alignment, CutPair, Folded,
-    Input, LeafPlace, Marked, Need, Place, Plan, Planned, Priority, Refusal, Settings, Sides,
-    SizeRecord, Tree,
+    Input, LeafPlace, Marked, Marks, Need, Place, Plan, Planned, Priority, Refusal, Settings,
+    Sides, SizeRecord, Tree,
 };
 
 /// The record of the defaults.
@@ -88,7 +88,7 @@ fn the_margin_has_its_field() {
 #[test]
 fn getters_answer_what_was_set() {
     let settings = other_settings();
-    assert_eq!(settings.marks(), *b"-_()hv123456789");
+    assert_eq!(settings.marks(), Marks::All(*b"-_()hv123456789"));
     assert_eq!(settings.padding(), Sides::all(16));
     assert_eq!(settings.fills(), Sides::all(b'~'));
     assert_eq!(settings.horizontal(), Alignment::Center);
@@ -104,7 +104,7 @@ fn getters_answer_what_was_set() {
 fn setters_stay_in_the_ranges() {
     let settings = Settings::default();
     for mark in [0x1F, 0x7F, 0] {
-        let mut marks = settings.marks();
+        let mut marks: [u8; 15] = settings.marks().into();
         marks[14] = mark;
         assert_eq!(settings.with_marks(marks), Err(Refusal::BadSettings));
         let fills = Sides {
@@ -120,6 +120,29 @@ fn setters_stay_in_the_ranges() {
     };
     assert_eq!(settings.with_padding(padding), Err(Refusal::BadSettings));
     assert_eq!(settings.with_margin(padding), Err(Refusal::BadSettings));
+}
+
+/// Document 02, 13: fifteen zeros are no marks, and a mixture is refused.
+#[test]
+fn no_marks_are_fifteen_zeros() {
+    let lined = Settings::default();
+    let bare = lined.with_marks(Marks::None).expect("no lines");
+    assert_eq!(bare.marks(), Marks::None);
+    assert_eq!(bare.to_bytes()[3..18], [0; 15]);
+    assert_eq!(bare.to_bytes()[18..], lined.to_bytes()[18..]);
+    assert_eq!(Settings::from_bytes(&bare.to_bytes()), Ok(bare));
+    assert_eq!(lined.with_marks([0; 15]), Ok(bare));
+    assert_eq!(lined.with_marks(Marks::All([0; 15])), Ok(bare));
+    assert_eq!(bare.with_marks(lined.marks()), Ok(lined));
+    for at in 0..15 {
+        let mut marks = [0; 15];
+        marks[at] = b'-';
+        assert_eq!(lined.with_marks(marks), Err(Refusal::BadSettings));
+        marks = [b'-'; 15];
+        marks[at] = 0;
+        assert_eq!(bare.with_marks(marks), Err(Refusal::BadSettings));
+    }
+    assert!(bare.with_padding(Sides::all(17)).is_err());
 }
 
 #[test]
@@ -705,6 +728,105 @@ fn a_remark_left_blank() {
     let owner =
         |line: usize, column: usize| place(&bare, &tree, line, column).map(|leaf| leaf.node);
     assert_eq!((owner(0, 0), owner(0, 1)), (Ok(1), Ok(2)));
+}
+
+/// The set M of the figures without lines, with this padding to the left and right.
+fn bare(padding: u8) -> Settings {
+    let sides = Sides {
+        left: padding,
+        right: padding,
+        ..Sides::all(0)
+    };
+    figures_m(Sides::all(0))
+        .with_marks(Marks::None)
+        .and_then(|settings| settings.with_padding(sides))
+        .expect("within the ranges")
+}
+
+/// Document 02, 13: no separators are counted and no marks printed.
+#[test]
+fn sheets_without_lines() {
+    let (a_b, both) = (Tree::column(["a", "b"]), Tree::row(["a", "b"]));
+    for (padding, tree, sheet) in [
+        (1, figure_2(), " abcdef \n a   b  "),
+        (1, Tree::row([a_b, "c".into()]), " a  c \n b    "),
+        (1, Tree::column([both, "c".into()]), " a  b \n c    "),
+        (0, "".into(), ""),
+        (0, "\n\n".into(), "\n\n"),
+        (0, Tree::row(["", ""]), ""),
+        (0, Tree::row(["", "a"]), "a"),
+    ] {
+        assert_eq!(print_sheet(&bare(padding), &tree), Ok(sheet.into()));
+    }
+    let edged = bare(0).with_margin(Sides::all(1)).expect("a margin");
+    let edged = edged.with_margin_fills(Sides::all(b'.')).expect("fills");
+    assert_eq!(print_sheet(&edged, &"".into()), Ok("..\n..\n..".into()));
+
+    // W and H lose their 2.
+    let wide = |letters: usize| Tree::from("x".repeat(letters));
+    assert!(print_sheet(&bare(1), &wide(398)).is_ok());
+    assert_eq!(print_sheet(&bare(1), &wide(399)), Err(Refusal::TooLarge));
+    let high = |feeds: usize| Tree::from("\n".repeat(feeds));
+    assert_eq!(print_sheet(&bare(0), &high(159)), Ok("\n".repeat(159)));
+    assert_eq!(print_sheet(&bare(0), &high(160)), Err(Refusal::TooLarge));
+}
+
+/// The lists and flags of a leaf are as with lines; the sizes and the block have none.
+#[test]
+fn leaves_without_lines() {
+    let tree = Tree::column([Tree::row(["a", "b"]), "c".into()]);
+    let lined = leaf_record(&figures_m(Sides::all(0)), &tree, 4).expect("a leaf");
+    let leaf = leaf_record(&bare(1), &tree, 4).expect("a leaf");
+    assert_eq!((leaf.width, leaf.height), (6, 1));
+    assert_eq!(
+        (leaf.horizontal, leaf.vertical),
+        (lined.horizontal, lined.vertical)
+    );
+    assert_eq!((leaf.flags, leaf.pair), (lined.flags, lined.pair));
+    assert_eq!(print_leaf(&bare(1), &tree, 4), Ok(" c    ".into()));
+    let root = sizes(&bare(1), &tree).expect("sizes")[0];
+    assert_eq!((root.natural_width, root.natural_height), (6, 2));
+    let blank = Tree::row(["", "a\nb"]);
+    assert_eq!(print_leaf(&bare(0), &blank, 1), Ok("\n".into()));
+}
+
+/// A leaf of no columns has no place, though it starts where its neighbour does.
+#[test]
+fn places_without_lines() {
+    let tree = Tree::row(["", "a", "", "bc"]);
+    let found = |line: usize, column: usize| place(&bare(0), &tree, line, column);
+    let leaf = |node: usize, column: usize| LeafPlace {
+        node,
+        line: 0,
+        column,
+    };
+    let all = [leaf(2, 0), leaf(4, 0), leaf(4, 1)];
+    assert_eq!([0, 1, 2].map(|column| found(0, column)), all.map(Ok));
+    assert_eq!(found(0, 3), Err(Refusal::OutsideSheet));
+    assert_eq!(
+        place(&bare(0), &"".into(), 0, 0),
+        Err(Refusal::OutsideSheet)
+    );
+    let list = [2, 0, 1].map(|column| Place { line: 0, column });
+    let marked = places(&bare(0), &tree, &list).expect("places of the sheet");
+    assert_eq!(marked.answers, [all[2], all[0], all[1]]);
+    assert_eq!(marked.read, 5);
+}
+
+/// Folds, plans and letters count no separators.
+#[test]
+fn other_calls_without_lines() {
+    let list = Tree::column(["a", "b", "c", "d"]);
+    let folded = fold(&bare(1), &list, 6, usize::MAX).expect("a fold");
+    assert_eq!((&folded.columns[..], folded.height), (&[2, 2][..], 2));
+    assert_eq!((folded.tries, folded.miss), (3, 0));
+    let ranges = Plan::row([Plan::range(1..=2, 1..=4), Plan::range(0..=9, 2..=3)]);
+    let planned = plan(&bare(1), &ranges).expect("a plan");
+    assert_eq!((planned.width, planned.height), (5..=15, 2..=4));
+    let tree = Tree::column(["abc".into(), Tree::row(["a", "b"])]);
+    let needs = widen(&bare(1), &tree).expect("a list");
+    let needs: Vec<(usize, usize)> = needs.iter().map(|n| (n.node, n.letters)).collect();
+    assert_eq!(needs, [(3, 1), (4, 1), (1, 2)]);
 }
 
 /// The margin is around the sheet, and counts for its limits alone.

@@ -1,5 +1,6 @@
 //! Two sides on the same inputs: every number, every field, and every lent entry, written or not.
 
+mod bare;
 mod drafts;
 
 use std::collections::BTreeMap;
@@ -103,7 +104,8 @@ pub type Part = (
     fn(&mut Comparison, &mut Rng, usize) -> Result<(), Difference>,
 );
 
-pub const PARTS: [Part; 26] = [
+/// The parts with lines; those without are in `bare`.
+const PARTS: [Part; 26] = [
     ("settings records", |c, _, _| c.settings_records()),
     ("short and faulty trees", |c, _, _| c.faulty_trees()),
     ("all trees of up to 5 nodes", |c, _, _| {
@@ -163,6 +165,11 @@ pub const PARTS: [Part; 26] = [
         c.any_stores(rng, 1000 * rounds)
     }),
 ];
+
+/// Every part.
+pub fn parts() -> impl Iterator<Item = Part> {
+    PARTS.into_iter().chain(bare::PARTS)
+}
 
 fn bytes(bytes: &[u8]) -> String {
     bytes.iter().map(|byte| format!("{byte:02x}")).collect()
@@ -592,7 +599,9 @@ impl<'a> Comparison<'a> {
         if let Ok(read) = judge::read(&settings, &tree) {
             let needed = read.sheet_bytes().min(70_000);
             self.sheet(&settings, &tree, needed + 3)?;
-            self.sheet(&settings, &tree, needed - 1)?;
+            if needed > 0 {
+                self.sheet(&settings, &tree, needed - 1)?;
+            }
         }
         Ok(())
     }
@@ -640,6 +649,18 @@ impl<'a> Comparison<'a> {
         self.sheet(settings, b"\x01\x00\x02ab", 4096)
     }
 
+    /// Settings with every byte at every place.
+    fn every_byte(&mut self, settings: &[u8]) -> Result<(), Difference> {
+        for at in 0..settings.len() {
+            for byte in 0..=255 {
+                let mut bytes = settings.to_vec();
+                bytes[at] = byte;
+                self.settings(&bytes)?;
+            }
+        }
+        Ok(())
+    }
+
     /// Settings of one field and of both: of every length up to 44, behind every tag; with every byte at every place; the fields alone, in the wrong
     /// order and twice; margins of every size on every side.
     pub fn settings_records(&mut self) -> Result<(), Difference> {
@@ -659,15 +680,8 @@ impl<'a> Comparison<'a> {
                 }
             }
         }
-        for record in [&first, &both] {
-            for at in 0..record.len() {
-                for byte in 0..=255 {
-                    let mut bytes = record.clone();
-                    bytes[at] = byte;
-                    self.settings(&bytes)?;
-                }
-            }
-        }
+        self.every_byte(&first)?;
+        self.every_byte(&both)?;
         let none = encode_margin(&Margin::NONE);
         let fields: [&[&[u8]]; 7] = [
             &[&second],
@@ -741,7 +755,7 @@ impl<'a> Comparison<'a> {
     /// Lists of great heights and widths, then so many random ones.
     pub fn folds(&mut self, rng: &mut Rng, rounds: usize) -> Result<(), Difference> {
         for (settings, tree) in gen::great_lists() {
-            self.some_folds(rng, &settings, &tree)?;
+            self.some_folds(rng, &rng.lined(settings), &tree)?;
         }
         for _ in 0..rounds {
             let (settings, tree) = gen::fold_list(rng);
@@ -790,7 +804,7 @@ impl<'a> Comparison<'a> {
     /// The greatest planning trees, then so many random ones.
     pub fn plans(&mut self, rng: &mut Rng, rounds: usize) -> Result<(), Difference> {
         for (settings, plan) in gen::great_plans() {
-            self.plan(&encode_settings(&settings), &encode_plan(&plan))?;
+            self.plan(&encode_settings(&rng.lined(settings)), &encode_plan(&plan))?;
         }
         for _ in 0..rounds {
             let (settings, plan) = gen::plan(rng);
@@ -821,7 +835,7 @@ impl<'a> Comparison<'a> {
     /// The letters of the greatest trees, then of so many random ones.
     pub fn needs(&mut self, rng: &mut Rng, rounds: usize) -> Result<(), Difference> {
         for (settings, tree) in gen::wide_tables() {
-            self.every_need(&settings, &tree)?;
+            self.every_need(&rng.lined(settings), &tree)?;
         }
         for _ in 0..rounds {
             let (settings, tree) = gen::wide_table(rng);
@@ -864,7 +878,8 @@ impl<'a> Comparison<'a> {
     pub fn limits(&mut self, rng: &mut Rng, rounds: usize) -> Result<(), Difference> {
         for sizes in [[0; 4], [1, 0, 0, 1], [0, 3, 2, 0], [16; 4]] {
             for (width, height) in [(0, 0), (-1, 0), (0, -1), (1, 0), (0, 1), (1, 1)] {
-                let (settings, tree) = gen::corner(sizes, width, height);
+                let d = rng.lined(Settings::D);
+                let (settings, tree) = gen::corner(d, sizes, width, height);
                 self.table(&settings, &tree)?;
             }
         }
@@ -984,7 +999,7 @@ impl<'a> Comparison<'a> {
 
     /// Every part, each with the seed anew.
     pub fn all(&mut self, seed: u64, rounds: usize) -> Result<(), Difference> {
-        for (_, run) in PARTS {
+        for (_, run) in parts() {
             run(self, &mut Rng::new(seed), rounds)?;
         }
         Ok(())

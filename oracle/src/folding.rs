@@ -5,14 +5,14 @@ use crate::form::{Fold, Settings, Size, Tree};
 use crate::paper;
 
 /// 'For a height t, fold by putting cells in a Column while its height with separators stays within t.' The number of cells in each Column.
-pub fn columns(heights: &[usize], t: usize) -> Vec<usize> {
+pub fn columns(heights: &[usize], separator: usize, t: usize) -> Vec<usize> {
     let mut columns = Vec::new();
     let mut height = 0;
     for &cell in heights {
         match columns.last_mut() {
-            Some(cells) if height + 1 + cell <= t => {
+            Some(cells) if height + separator + cell <= t => {
                 *cells += 1;
-                height += 1 + cell;
+                height += separator + cell;
             }
             _ => {
                 columns.push(1);
@@ -46,10 +46,11 @@ pub fn folds(settings: &Settings, cells: &[Tree]) -> Vec<Fold> {
     let sizes: Vec<Size> = cells.iter().map(size).collect();
     let heights: Vec<usize> = sizes.iter().map(|size| size.natural_height).collect();
     let tallest = heights.iter().copied().max().expect("a list has cells");
-    let one = heights.iter().sum::<usize>() + cells.len() - 1;
+    let separator = paper::separator(settings);
+    let one = heights.iter().sum::<usize>() + (cells.len() - 1) * separator;
     let fold = |height: usize| {
-        let columns = columns(&heights, height);
-        let width = width(&sizes, &columns);
+        let columns = columns(&heights, separator, height);
+        let width = width(&sizes, separator, &columns);
         Fold {
             height,
             columns,
@@ -60,10 +61,10 @@ pub fn folds(settings: &Settings, cells: &[Tree]) -> Vec<Fold> {
 }
 
 /// 'No wider inside than a given width': the widest cell of each Column, and a separator between neighbours.
-fn width(cells: &[Size], columns: &[usize]) -> usize {
+fn width(cells: &[Size], separator: usize, columns: &[usize]) -> usize {
     let mut rest = cells.iter().map(|cell| cell.natural_width);
     let widest = |&count: &usize| rest.by_ref().take(count).max().unwrap_or(0);
-    columns.iter().map(widest).sum::<usize>() + columns.len() - 1
+    columns.iter().map(widest).sum::<usize>() + (columns.len() - 1) * separator
 }
 
 /// What is answered of a list's folds.

@@ -37,12 +37,12 @@ fn as_many_as_there_may_be(lines: &mut Lines) {
     lines.fold(201, 999, MOST);
     lines.fold(0, 0, 0);
 
-    let bare = Settings {
+    let tight = Settings {
         padding: [0; 4],
         ..Settings::D
     };
     lines.repeated(
-        &encode_settings(&bare),
+        &encode_settings(&tight),
         &[3, 0x02, 0x58],
         200,
         b"\x01\x00\x00",
@@ -100,7 +100,7 @@ fn refused_lists(lines: &mut Lines) {
 }
 
 /// So many random lists of a few bytes, each with some widths and budgets.
-fn random_lists(lines: &mut Lines, rng: &mut Rng, lists: usize) {
+pub fn random_lists(lines: &mut Lines, rng: &mut Rng, lists: usize) {
     lines.title("Random lists");
     let mut left = lists;
     while left > 0 {

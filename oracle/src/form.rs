@@ -27,7 +27,7 @@ impl Margin {
 #[derive(Debug, Clone, Copy, PartialEq, Eq)]
 pub struct Settings {
     /// Top, bottom, left, right, horizontal, vertical, top_left, top_right, top_intersection, bottom_left, bottom_right,
-    /// bottom_intersection, left_intersection, right_intersection, intersection.
+    /// bottom_intersection, left_intersection, right_intersection, intersection. Fifteen zeros 'mean none at all' (document 02, 13).
     pub marks: [u8; 15],
     /// Left, right, top, bottom.
     pub padding: [u8; 4],
@@ -84,6 +84,26 @@ impl Settings {
         marks: *b"-_()hv123456789",
         ..Settings::D
     };
+
+    /// M without padding.
+    pub const M0: Settings = Settings {
+        padding: [0; 4],
+        ..Settings::M
+    };
+
+    /// M without lines.
+    pub const N: Settings = Settings::M.bare();
+
+    /// M without padding and without lines.
+    pub const N0: Settings = Settings::M0.bare();
+
+    /// The same settings without lines.
+    pub const fn bare(self) -> Settings {
+        Settings {
+            marks: [0; 15],
+            ..self
+        }
+    }
 }
 
 #[derive(Debug, Clone, PartialEq, Eq)]

@@ -11,16 +11,40 @@ use crate::paper;
 
 /// A small seeded generator (splitmix64).
 #[derive(Debug, Clone)]
-pub struct Rng(u64);
+pub struct Rng {
+    state: u64,
+    /// Whether the settings made with it have lines.
+    has_lines: bool,
+}
 
 impl Rng {
     pub fn new(seed: u64) -> Rng {
-        Rng(seed)
+        Rng {
+            state: seed,
+            has_lines: true,
+        }
+    }
+
+    /// The same numbers, for settings without lines.
+    pub fn bare(&self) -> Rng {
+        Rng {
+            has_lines: false,
+            ..self.clone()
+        }
+    }
+
+    /// Settings with the lines that this generator's have.
+    pub fn lined(&self, settings: Settings) -> Settings {
+        if self.has_lines {
+            settings
+        } else {
+            settings.bare()
+        }
     }
 
     pub fn number(&mut self) -> u64 {
-        self.0 = self.0.wrapping_add(0x9E37_79B9_7F4A_7C15);
-        let mut z = self.0;
+        self.state = self.state.wrapping_add(0x9E37_79B9_7F4A_7C15);
+        let mut z = self.state;
         z = (z ^ (z >> 30)).wrapping_mul(0xBF58_476D_1CE4_E5B9);
         z = (z ^ (z >> 27)).wrapping_mul(0x94D0_49BB_1331_11EB);
         z ^ (z >> 31)
@@ -77,6 +101,38 @@ pub fn small_trees(nodes: usize, texts: &[&str]) -> Vec<Tree> {
         forests.push(forest);
     }
     trees.swap_remove(nodes)
+}
+
+/// Every tree of at most so many bytes whose texts hold `a` and 0A.
+pub fn short_trees(bytes: usize) -> Vec<Tree> {
+    fn forests(bytes: usize) -> Vec<Vec<Tree>> {
+        let mut list = vec![Vec::new()];
+        for first in short_trees(bytes) {
+            for rest in forests(bytes - first.bytes()) {
+                list.push([std::slice::from_ref(&first), &rest].concat());
+            }
+        }
+        list
+    }
+
+    if bytes < 3 {
+        return Vec::new();
+    }
+    let mut texts = vec![Vec::new()];
+    for at in 0.. {
+        let Some(text) = texts.get(at).cloned() else {
+            break;
+        };
+        if text.len() < bytes - 3 {
+            texts.extend([b'a', 0x0A].map(|byte| [&text[..], &[byte]].concat()));
+        }
+    }
+    let mut list: Vec<Tree> = texts.into_iter().map(Tree::Cell).collect();
+    for forest in forests(bytes - 3) {
+        list.push(Tree::Row(forest.clone()));
+        list.push(Tree::Column(forest));
+    }
+    list
 }
 
 /// Every Column of two Rows, and every Row of two Columns, of one to three Cells with these texts: the second group's cuts meet the
@@ -148,10 +204,6 @@ pub fn choices() -> Vec<Settings> {
 
 /// A few settings that differ in all they can, each mark and fill a character of its own.
 pub fn few_settings() -> Vec<Settings> {
-    let bare = Settings {
-        padding: [0; 4],
-        ..Settings::M
-    };
     let wide = Settings {
         padding: [2, 1, 1, 2],
         fills: *b"<>^~",
@@ -177,7 +229,7 @@ pub fn few_settings() -> Vec<Settings> {
             sizes: [1, 2, 1, 1],
             fills: *b"LRTB",
         },
-        ..bare
+        ..Settings::M0
     };
     let punched = Settings {
         margin: Margin {
@@ -186,7 +238,21 @@ pub fn few_settings() -> Vec<Settings> {
         },
         ..wide
     };
-    vec![Settings::D, Settings::M, bare, wide, late, edged, punched]
+    vec![
+        Settings::D,
+        Settings::M,
+        Settings::M0,
+        wide,
+        late,
+        edged,
+        punched,
+    ]
+}
+
+/// The same without lines; D is then M.
+pub fn bare_settings() -> Vec<Settings> {
+    let few = few_settings().into_iter().skip(1);
+    few.map(Settings::bare).collect()
 }
 
 /// All byte strings of up to so many bytes, over a few that look like elements.
@@ -333,7 +399,7 @@ pub fn settings(rng: &mut Rng, margins: Margins) -> Settings {
             rng.between(0, most) as u8
         };
     }
-    Settings {
+    let settings = Settings {
         marks: bytes[..15].try_into().expect("15 marks"),
         padding,
         fills: bytes[15..19].try_into().expect("4 fills"),
@@ -347,7 +413,8 @@ pub fn settings(rng: &mut Rng, margins: Margins) -> Settings {
         } else {
             Margin::NONE
         },
-    }
+    };
+    rng.lined(settings)
 }
 
 /// Up to so many lines of up to so many columns.
@@ -522,11 +589,12 @@ fn tree_of_extent(rng: &mut Rng, settings: &Settings, target: usize, is_width: b
     } else {
         padding[2] + padding[3] + 1
     };
+    let separator = paper::separator(settings);
     // What a sheet has beside its root.
     let edge = if is_width {
-        margin[0] + margin[1] + 2
+        margin[0] + margin[1] + 2 * separator
     } else {
-        margin[2] + margin[3] + 2
+        margin[2] + margin[3] + 2 * separator
     };
 
     let mut nodes = rng.between(1, 40);
@@ -537,7 +605,11 @@ fn tree_of_extent(rng: &mut Rng, settings: &Settings, target: usize, is_width: b
         let extent = if is_width { w } else { h };
         // Side by side the extents and a separator add up; one under the other the greater counts.
         let adds = rng.one_in(2);
-        let needed = if adds { extent + 1 + own } else { edge + own };
+        let needed = if adds {
+            extent + separator + own
+        } else {
+            edge + own
+        };
         if extent <= target && needed <= target {
             let mut children = vec![part];
             let at = rng.below(2);
@@ -583,20 +655,22 @@ pub fn near(rng: &mut Rng, margins: Margins, limit: Limit, offset: isize) -> (Se
     (settings, tree)
 }
 
-/// The set D with a margin of these sizes, and a Cell over another: W is so far from its limit, and H from its.
-pub fn corner(sizes: [u8; 4], width: isize, height: isize) -> (Settings, Tree) {
+/// The set D, or D without lines, with a margin of these sizes, and a Cell over another: W is so far from its limit, and H from its.
+pub fn corner(d: Settings, sizes: [u8; 4], width: isize, height: isize) -> (Settings, Tree) {
     let at =
         |limit: usize, offset: isize| limit.checked_add_signed(offset).expect("a small offset");
     let [left, right, top, bottom] = sizes.map(usize::from);
-    let letters = at(judge::SHEET_WIDTH, width) - 4 - left - right;
-    // Two lines of the sheet's edge, one of the Cell above, one between, and one that no feed ends.
-    let feeds = at(judge::SHEET_HEIGHT, height) - 5 - top - bottom;
+    let separator = paper::separator(&d);
+    // The padding; the sheet's edge.
+    let letters = at(judge::SHEET_WIDTH, width) - 2 - 2 * separator - left - right;
+    // The line of the Cell above, and the one that no feed ends; the sheet's edge, and the line between.
+    let feeds = at(judge::SHEET_HEIGHT, height) - 2 - 3 * separator - top - bottom;
     let settings = Settings {
         margin: Margin {
             sizes,
             ..Margin::NONE
         },
-        ..Settings::D
+        ..d
     };
     let tree = Tree::Column(vec![
         Tree::Cell(vec![b'w'; letters]),
@@ -1122,15 +1196,17 @@ pub fn far_from((line, column): (usize, usize)) -> impl Iterator<Item = (usize, 
     })
 }
 
-/// A line or a column of a sheet that has so many before its inside, inside and in all: mostly any of them, else at an edge, or far outside.
+/// A line or a column of a sheet that has so many before its inside, inside and in all: mostly any of them, else at an edge, or far outside. Of none at all it is the first
+/// that there would be.
 fn coordinate(rng: &mut Rng, before: usize, inside: usize, all: usize) -> usize {
     let after = before + inside;
+    let last = all.saturating_sub(1);
     match rng.below(8) {
         0 => rng.pick(&FAR),
         1 => all + rng.below(2),
-        2 => rng.pick(&[before, after - 1]),
-        3 => rng.pick(&[before.saturating_sub(1), after.min(all - 1)]),
-        _ => rng.below(all),
+        2 => rng.pick(&[before, after.saturating_sub(1)]),
+        3 => rng.pick(&[before.saturating_sub(1), after.min(last)]),
+        _ => rng.between(0, last),
     }
 }
 
@@ -1144,17 +1220,17 @@ pub fn place(rng: &mut Rng, read: &judge::Read) -> (usize, usize) {
     )
 }
 
-/// A place of a sheet inside its margin.
+/// A place of a sheet inside its margin; of one that has no column there, a place behind its left margin.
 fn inside(rng: &mut Rng, read: &judge::Read) -> (usize, usize) {
     let [left, right, top, bottom] = read.settings.margin.sizes.map(usize::from);
     let (w, h) = read.rectangle();
     (
         rng.between(top, h - bottom - 1),
-        rng.between(left, w - right - 1),
+        rng.between(left, left.max((w - right).saturating_sub(1))),
     )
 }
 
-/// So many places of a sheet inside its margin, each third one a repeat.
+/// So many places of a sheet inside its margin, where it has one, each third one a repeat.
 pub fn insides(rng: &mut Rng, read: &judge::Read, count: usize) -> Vec<(usize, usize)> {
     let mut list = Vec::new();
     while list.len() < count {

@@ -21,6 +21,11 @@ fn is_mark(byte: u8) -> bool {
     (0x20..=0x7E).contains(&byte)
 }
 
+/// 'Fifteen zero bytes as marks now mean none at all; a mixture is still 1' (document 02, 13).
+fn are_marks(marks: [u8; 15]) -> bool {
+    marks == [0; 15] || marks.into_iter().all(is_mark)
+}
+
 /// The bytes of the first settings field and of the second.
 const FIELDS: [usize; 2] = [31, 11];
 
@@ -73,7 +78,7 @@ pub fn read_settings(bytes: &[u8]) -> Result<Settings, u8> {
         height_priority: record[27],
         margin: read_margin(second)?,
     };
-    let is_good = settings.marks.iter().all(|&mark| is_mark(mark))
+    let is_good = are_marks(settings.marks)
         && settings.padding.iter().all(|&size| size <= 16)
         && settings.fills.iter().all(|&fill| is_mark(fill))
         && settings.horizontal <= 2
@@ -307,11 +312,12 @@ impl Read {
     }
 
     /// The bytes of a leaf's block: lines of 1 + allotted width columns, one more under last_col; 1 + allotted height of them,
-    /// one more under last_row; joined by 0A.
+    /// one more under last_row; joined by 0A. Without lines it has neither 'the 1' nor 'the one more' (document 02, 13).
     fn block_bytes(&self, leaf: &LeafNode) -> usize {
         let size = self.sizes[leaf.node];
-        let columns = 1 + size.allotted_width + usize::from(leaf.last_col);
-        let lines = 1 + size.allotted_height + usize::from(leaf.last_row);
+        let edges = |is_last: bool| paper::separator(&self.settings) * (1 + usize::from(is_last));
+        let columns = size.allotted_width + edges(leaf.last_col);
+        let lines = size.allotted_height + edges(leaf.last_row);
         (columns + 1) * lines - 1
     }
 }

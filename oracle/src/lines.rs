@@ -1,7 +1,7 @@
 //! Lines for a test program: what they give, and the crate's answers.
 
 use crate::calls::{Calls, Counted, Folded, LeafRecord, Marked, Planned, SizeRecord, SplitList};
-use crate::form::{Ends, Owner};
+use crate::form::{encode_record, Ends, Owner};
 use crate::judge;
 use crate::sides::Original;
 
@@ -97,6 +97,15 @@ impl Lines {
         self.given(settings, head);
         self.line('+', &format!("{n} {}", escaped(item)));
         self.tree.extend(item.repeat(n));
+    }
+
+    /// The settings reader's number, and the 28 bytes of a record that it accepts.
+    pub fn settings(&mut self) {
+        let read = self.original.read_settings(&self.settings);
+        self.line('r', &read.number.to_string());
+        if read.number == 0 {
+            self.line('f', &escaped(&encode_record(&read.settings)[3..]));
+        }
     }
 
     pub fn readers(&mut self) {

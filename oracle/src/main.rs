@@ -6,18 +6,20 @@ use std::process::ExitCode;
 use oracle::calls::Calls;
 use oracle::compare::Comparison;
 use oracle::sides::{Answers, Crate, Original, Paper};
-use oracle::{drafts, folds, judge, places, plans, replay, widths};
+use oracle::{bare, drafts, folds, judge, places, plans, replay, widths};
 
 const USAGE: &str = "oracle sheet             the sheet, as the sheet program prints it
 oracle leaves            every node's sizes, every leaf's record and block
 oracle agree [SEED [N]]  the crate against documents 01 and 02, on the exhaustive inputs and N rounds of the random ones
 oracle replay SEED       answers of the crate as the input of the program crates/replay
 oracle faults SEED       the same of crates/replay_faults
-oracle places SEED       places and their leaves as the input of the program crates/replay_places
+oracle places SEED       places and their leaves as lines for the program crates/replay_later
+oracle bare SEED         answers without lines, places among them, for the same program
 oracle folds SEED        folded lists as lines for the program crates/call_tests
 oracle plans SEED        planning trees as lines for the same program
 oracle widths SEED       the letters that widen a sheet, for it too
-oracle drafts SEED       drafts saved, forgotten and returned to, for it too";
+oracle drafts SEED       drafts saved, forgotten and returned to, for it too
+oracle bare-calls SEED   lists, planning trees and letters without lines, for it too";
 
 fn main() -> ExitCode {
     let arguments: Vec<String> = std::env::args().skip(1).collect();
@@ -28,10 +30,12 @@ fn main() -> ExitCode {
         ["replay", seed] => replayed(seed, |seed| replay::lines(seed)[0].clone()),
         ["faults", seed] => replayed(seed, |seed| replay::lines(seed)[1].clone()),
         ["places", seed] => replayed(seed, places::lines),
+        ["bare", seed] => replayed(seed, bare::lines),
         ["folds", seed] => replayed(seed, folds::lines),
         ["plans", seed] => replayed(seed, plans::lines),
         ["widths", seed] => replayed(seed, widths::lines),
         ["drafts", seed] => replayed(seed, drafts::lines),
+        ["bare-calls", seed] => replayed(seed, bare::calls),
         ["agree", ref rest @ ..] if rest.len() <= 2 => {
             let mut numbers = rest.iter().map(|word| word.parse::<u64>());
             let seed = numbers.next().unwrap_or(Ok(1));

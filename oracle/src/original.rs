@@ -37,8 +37,9 @@ macro_rules! build {
                 Sides::new(indent(0), indent(1), indent(2), indent(3))
             }
 
+            /// A mark of 0 is none (document 02, 13).
             pub fn config(settings: &Settings) -> CompactMultilineConfig {
-                let mark = |at: usize| Some(char::from(settings.marks[at]));
+                let mark = |at: usize| Some(char::from(settings.marks[at])).filter(|&c| c != '\0');
 
                 let mut config = CompactMultilineConfig::new();
                 config.set_borders(Borders {
@@ -216,12 +217,19 @@ pub fn seen(settings: &Settings, tree: &Tree) -> Seen {
     Seen { answer, uneven }
 }
 
-/// All that the original says about a table. Panics where the stand-in `Table` filled up though no leaf has width 0: no compared sheet
+/// Whether a leaf has columns, as many in each line of its block. Without lines some have one more in some lines (document 02, 13).
+pub fn is_even(leaf: &Leaf) -> bool {
+    let mut lines = leaf.block.split(|&byte| byte == b'\n').map(<[u8]>::len);
+    let first = lines.next();
+    leaf.width > 0 && lines.all(|columns| Some(columns) == first)
+}
+
+/// All that the original says about a table. Panics where the stand-in `Table` filled up though each block is even: no compared sheet
 /// rests on how it fills.
 pub fn answer(settings: &Settings, tree: &Tree) -> Answer {
     let Seen { answer, uneven } = seen(settings, tree);
-    let is_wide = answer.leaves.iter().all(|leaf| leaf.width > 0);
-    assert!(uneven == 0 || !is_wide, "blocks of unequal size are joined");
+    let is_even = answer.leaves.iter().all(is_even);
+    assert!(uneven == 0 || !is_even, "blocks of unequal size are joined");
     answer
 }
 
@@ -292,12 +300,14 @@ pub fn folds(settings: &Settings, cells: &[Tree]) -> Vec<Fold> {
     let list = naturals(settings, &Tree::Column(cells.to_vec()));
     let heights: Vec<usize> = list[1..].iter().map(|&(_, height)| height).collect();
     let tallest = heights.iter().copied().max().expect("a list has cells");
+    // As the original counts it in a Column.
+    let separator = usize::from(instrumented::config(settings).get_borders().has_top());
 
     // The folds of neighbouring heights are often the same, and are measured once: the width, the height, and the least height of a Column with one more cell.
     let mut folds: Vec<Fold> = Vec::new();
     let (mut width, mut high, mut higher) = (0, 0, 0);
     for height in (tallest..=list[0].1).rev() {
-        let columns = folding::columns(&heights, height);
+        let columns = folding::columns(&heights, separator, height);
         if folds.last().map(|fold| &fold.columns) != Some(&columns) {
             (width, high) = natural(folding::row(cells, &columns));
             let more = folding::longer(cells, &columns).map(|column| natural(column).1);
@@ -316,14 +326,26 @@ pub fn folds(settings: &Settings, cells: &[Tree]) -> Vec<Fold> {
     folds
 }
 
+/// The columns that a sheet has beside its root and its margin, and the lines: an edge is printed where the original's borders have one.
+fn edges(settings: &Settings) -> (usize, usize) {
+    let config = instrumented::config(settings);
+    let borders = config.get_borders();
+    let both = |one: bool, other: bool| usize::from(one) + usize::from(other);
+    (
+        both(borders.has_left(), borders.has_right()),
+        both(borders.has_top(), borders.has_bottom()),
+    )
+}
+
 /// The least and the greatest W and H of a planning tree (document 02, 10), by trying: the original measures the tree of each choice of texts, where there are not too
 /// many, else those of the end choices.
 pub fn ends(settings: &Settings, plan: &Plan) -> Ends {
     let [left, right, top, bottom] = settings.margin.sizes.map(usize::from);
+    let (across, down) = edges(settings);
     let mut found: Option<Ends> = None;
     for choice in planning::choices(&plan.ranges()) {
         let (w, h) = naturals(settings, &planning::chosen(plan, &choice))[0];
-        let (w, h) = (left + 1 + w + 1 + right, top + 1 + h + 1 + bottom);
+        let (w, h) = (left + w + across + right, top + h + down + bottom);
         let Ends { width, height } = found.unwrap_or(Ends {
             width: [w, w],
             height: [h, h],

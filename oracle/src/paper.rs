@@ -51,6 +51,12 @@ impl<'a> Nodes<'a> {
     }
 }
 
+/// The separator's width: 1, and 0 without lines (document 02, 13), where 'no separators are counted and no marks printed'. It 'stands for the one column and one line of
+/// demand 3, the 1 in each start, and the 1 and the one more of a block's lines and columns'.
+pub fn separator(settings: &Settings) -> usize {
+    usize::from(settings.marks != [0; 15])
+}
+
 // Size records
 
 /// 'Lines are split at each 0A, so a last 0A gives an empty last line.'
@@ -96,7 +102,7 @@ fn sizes_of(settings: &Settings, nodes: &Nodes) -> Vec<Size> {
         let children: Vec<Size> = nodes.children[node].iter().map(|&c| sizes[c]).collect();
         let widths = children.iter().map(|size| size.natural_width);
         let heights = children.iter().map(|size| size.natural_height);
-        let separators = children.len().saturating_sub(1);
+        let separators = children.len().saturating_sub(1) * separator(settings);
         let (width, height) = if nodes.is_leaf(node) {
             let text = nodes.text(node);
             (width(text) + left + right, count(text) + top + bottom)
@@ -322,15 +328,47 @@ fn indent(alignment: u8, slack: usize) -> usize {
     }
 }
 
-fn block(settings: &Settings, leaf: &Leaf, text: &[u8]) -> Vec<u8> {
-    let [top, bottom, left, right, _, _, top_left, top_right, top_intersection, bottom_left, bottom_right, bottom_intersection, left_intersection, right_intersection, intersection] =
-        settings.marks;
+/// The lines of the indent above the padding and the text, and of the one below.
+fn indents(settings: &Settings, leaf: &Leaf, text: &[u8]) -> (usize, usize) {
+    let [_, _, top, bottom] = padding(settings);
+    let slack = leaf.height - top - bottom - count(text);
+    let before = indent(settings.vertical, slack);
+    (before, slack - before)
+}
+
+/// What stands between the marks, line by line: 'top indent (spaces), top padding (its fill), text, bottom padding, bottom indent'.
+fn body(settings: &Settings, leaf: &Leaf, text: &[u8]) -> Vec<Vec<u8>> {
     let [pad_left, pad_right, pad_top, pad_bottom] = padding(settings);
     let [fill_left, fill_right, fill_top, fill_bottom] = settings.fills;
-    let flags = leaf.flags;
-    let named_columns = cut(&leaf.horizontal, leaf.width).squashed;
-    let named_lines = cut(&leaf.vertical, leaf.height).squashed;
+    let (above, below) = indents(settings, leaf, text);
+    let plain = |byte: u8, count: usize| vec![vec![byte; leaf.width]; count];
+    let room = leaf.width - pad_left - pad_right;
+    let line = |line: &[u8]| {
+        let widest = if settings.line_mode == 0 {
+            width(text)
+        } else {
+            line.len()
+        };
+        let mut columns = vec![b' '; leaf.width];
+        let start = pad_left + indent(settings.horizontal, room - widest);
+        columns[..pad_left].fill(fill_left);
+        columns[start..start + line.len()].copy_from_slice(line);
+        columns[leaf.width - pad_right..].fill(fill_right);
+        columns
+    };
 
+    let mut body = plain(b' ', above);
+    body.extend(plain(fill_top, pad_top));
+    body.extend(lines(text).into_iter().map(line));
+    body.extend(plain(fill_bottom, pad_bottom));
+    body.extend(plain(b' ', below));
+    body
+}
+
+/// The marks at the top left, the top right and the bottom left of a block.
+fn corners(settings: &Settings, flags: Flags) -> [u8; 3] {
+    let [.., top_left, top_right, top_intersection, bottom_left, _, bottom_intersection, left_intersection, right_intersection, intersection] =
+        settings.marks;
     let top_left_mark = if flags.top_intersection {
         intersection
     } else if flags.top_left {
@@ -352,98 +390,83 @@ fn block(settings: &Settings, leaf: &Leaf, text: &[u8]) -> Vec<u8> {
     } else {
         bottom_intersection
     };
+    [top_left_mark, top_right_mark, bottom_left_mark]
+}
 
-    // What stands between the marks, line by line.
-    let mut between: Vec<Vec<u8>> = Vec::new();
-    let slack = leaf.height - pad_top - pad_bottom - count(text);
-    let before = indent(settings.vertical, slack);
-    let plain = |byte: u8| vec![byte; leaf.width];
-    between.extend(vec![plain(b' '); before]);
-    between.extend(vec![plain(fill_top); pad_top]);
-    for line in lines(text) {
-        let room = leaf.width - pad_left - pad_right;
-        let widest = if settings.line_mode == 0 {
-            width(text)
-        } else {
-            line.len()
-        };
-        let mut columns = vec![b' '; leaf.width];
-        let start = pad_left + indent(settings.horizontal, room - widest);
-        columns[..pad_left].fill(fill_left);
-        columns[start..start + line.len()].copy_from_slice(line);
-        columns[leaf.width - pad_right..].fill(fill_right);
-        between.push(columns);
+/// The block of a leaf. Without lines it is what stands between the marks: 'no marks printed' (document 02, 13).
+fn block(settings: &Settings, leaf: &Leaf, text: &[u8]) -> Vec<u8> {
+    let body = body(settings, leaf, text);
+    if separator(settings) == 0 {
+        return body.join(&0x0A);
     }
-    between.extend(vec![plain(fill_bottom); pad_bottom]);
-    between.extend(vec![plain(b' '); slack - before]);
+    let [top, bottom, left, right, _, _, _, _, _, _, bottom_right, bottom_intersection, _, right_intersection, _] =
+        settings.marks;
+    let [top_left, top_right, bottom_left] = corners(settings, leaf.flags);
+    let named_columns = cut(&leaf.horizontal, leaf.width).squashed;
+    let named_lines = cut(&leaf.vertical, leaf.height).squashed;
 
     let mut lines = Vec::new();
     let mut line = |left: u8, middle: &[u8], right: u8| {
-        let mut line = vec![left];
-        line.extend(middle);
-        if flags.last_col {
-            line.push(right);
-        }
-        lines.push(line);
+        let right = leaf.flags.last_col.then_some(right);
+        let marked = [left].into_iter().chain(middle.iter().copied());
+        lines.push(marked.chain(right).collect::<Vec<u8>>());
+    };
+    let named = |names: &[usize], at: usize, yes: u8, no: u8| match names.contains(&at) {
+        true => yes,
+        false => no,
     };
     let top_line: Vec<u8> = (0..leaf.width)
-        .map(|column| {
-            if named_columns.contains(&column) {
-                bottom_intersection
-            } else {
-                top
-            }
-        })
+        .map(|column| named(&named_columns, column, bottom_intersection, top))
         .collect();
-    line(top_left_mark, &top_line, top_right_mark);
-    for (i, middle) in between.iter().enumerate() {
-        let mark = if named_lines.contains(&i) {
-            right_intersection
-        } else {
-            left
-        };
+    line(top_left, &top_line, top_right);
+    for (i, middle) in body.iter().enumerate() {
+        let mark = named(&named_lines, i, right_intersection, left);
         line(mark, middle, right);
     }
-    if flags.last_row {
-        line(bottom_left_mark, &plain(bottom), bottom_right);
+    if leaf.flags.last_row {
+        line(bottom_left, &vec![bottom; leaf.width], bottom_right);
     }
-
     lines.join(&0x0A)
 }
 
 /// Each node's line and column.
-fn starts(nodes: &Nodes, sizes: &[Size]) -> Vec<(usize, usize)> {
+fn starts(settings: &Settings, nodes: &Nodes, sizes: &[Size]) -> Vec<(usize, usize)> {
+    let separator = separator(settings);
     let mut starts = vec![(0, 0); sizes.len()];
     for node in 0..sizes.len() {
         let (mut line, mut column) = starts[node];
         for &child in &nodes.children[node] {
             starts[child] = (line, column);
             if nodes.is_row(node) {
-                column += sizes[child].allotted_width + 1;
+                column += sizes[child].allotted_width + separator;
             } else {
-                line += sizes[child].allotted_height + 1;
+                line += sizes[child].allotted_height + separator;
             }
         }
     }
     starts
 }
 
-/// The columns and lines of the rectangle inside the margin.
-fn inside(sizes: &[Size]) -> (usize, usize) {
-    (sizes[0].natural_width + 2, sizes[0].natural_height + 2)
+/// The columns and lines of the rectangle inside the margin. Without lines they 'lose their 2' (document 02, 13).
+fn inside(settings: &Settings, sizes: &[Size]) -> (usize, usize) {
+    let edges = 2 * separator(settings);
+    (
+        sizes[0].natural_width + edges,
+        sizes[0].natural_height + edges,
+    )
 }
 
 /// W and H, which 'include the margin'.
 pub fn rectangle(settings: &Settings, sizes: &[Size]) -> (usize, usize) {
     let [left, right, top, bottom] = settings.margin.sizes.map(usize::from);
-    let (w, h) = inside(sizes);
+    let (w, h) = inside(settings, sizes);
     (left + w + right, top + h + bottom)
 }
 
 /// The lines of the rectangle inside the margin by placing. Panics unless each place is covered once.
-fn placed(nodes: &Nodes, sizes: &[Size], leaves: &[Leaf]) -> Vec<Vec<u8>> {
-    let (w, h) = inside(sizes);
-    let starts = starts(nodes, sizes);
+fn placed(settings: &Settings, nodes: &Nodes, sizes: &[Size], leaves: &[Leaf]) -> Vec<Vec<u8>> {
+    let (w, h) = inside(settings, sizes);
+    let starts = starts(settings, nodes, sizes);
     let mut places = vec![vec![None; w]; h];
     for leaf in leaves {
         let (line, column) = starts[leaf.node];
@@ -470,8 +493,8 @@ fn placed(nodes: &Nodes, sizes: &[Size], leaves: &[Leaf]) -> Vec<Vec<u8>> {
 fn sheet(settings: &Settings, nodes: &Nodes, sizes: &[Size], leaves: &[Leaf]) -> Vec<u8> {
     let [left, _, top, _] = settings.margin.sizes.map(usize::from);
     let [fill_left, fill_right, fill_top, fill_bottom] = settings.margin.fills;
-    let (inside_w, inside_h) = inside(sizes);
-    let placed = placed(nodes, sizes, leaves);
+    let (inside_w, inside_h) = inside(settings, sizes);
+    let placed = placed(settings, nodes, sizes, leaves);
     let byte = |line: usize, column: usize| {
         if column < left {
             fill_left
@@ -496,7 +519,7 @@ fn sheet(settings: &Settings, nodes: &Nodes, sizes: &[Size], leaves: &[Leaf]) ->
 /// from its leaf's start on, which counts from the rectangle inside the margin. Panics where two lead to one place.
 pub fn owners(settings: &Settings, tree: &Tree, answer: &Answer) -> Owners {
     let nodes = Nodes::of(tree);
-    let starts = starts(&nodes, &answer.sizes);
+    let starts = starts(settings, &nodes, &answer.sizes);
     let [left, _, top, _] = settings.margin.sizes.map(usize::from);
     let (w, h) = rectangle(settings, &answer.sizes);
     let mut owners = vec![vec![None; w]; h];
@@ -514,15 +537,51 @@ pub fn owners(settings: &Settings, tree: &Tree, answer: &Answer) -> Owners {
     owners
 }
 
-/// The crate's answer with 'its marks around no columns' (document 02, 8) for each zero-wide leaf, where the crate has an empty text: the block by the crate's own
-/// record of the leaf, whose text has no columns either, and a sheet with such leaves by placing all blocks. Panics where the crate's text is not empty.
-pub fn mended(settings: &Settings, tree: &Tree, mut answer: Answer) -> Answer {
-    for leaf in answer.leaves.iter_mut().filter(|leaf| leaf.width == 0) {
-        assert_eq!(leaf.block, b"", "the crate prints a zero-wide leaf");
-        leaf.block = block(settings, leaf, b"");
+/// Before which lines of a block 'the crate puts one extra blank' without lines, 'for a leaf with vertical splits .. before some indent and padding lines' (document 02, 13):
+/// those that the squashed vertical list names, up to the first text line that it names.
+fn blanks(settings: &Settings, leaf: &Leaf, text: &[u8]) -> Vec<usize> {
+    if separator(settings) == 1 {
+        return Vec::new();
     }
-    if answer.leaves.iter().any(|leaf| leaf.width == 0) {
-        answer.sheet = sheet(settings, &Nodes::of(tree), &answer.sizes, &answer.leaves);
+    let first = indents(settings, leaf, text).0 + padding(settings)[2];
+    let texts = first..first + count(text);
+    let named = cut(&leaf.vertical, leaf.height).squashed.into_iter();
+    let printed = named.filter(|&line| line < leaf.height);
+    printed.take_while(|line| !texts.contains(line)).collect()
+}
+
+/// The block without the blank that stands before each of these lines. Panics where none stands there.
+fn without(block: &[u8], blanks: &[usize]) -> Vec<u8> {
+    let mut lines = lines(block);
+    for &line in blanks {
+        let rest = lines[line].strip_prefix(b" ");
+        lines[line] = rest.expect("the crate's extra blank");
+    }
+    lines.join(&0x0A)
+}
+
+/// The crate's answer with the document's bytes where the two differ:
+/// - a zero-wide leaf has 'its marks around no columns' (document 02, 8), where the crate has an empty text, by the crate's own record of the leaf;
+/// - without lines a leaf has no extra blank (13); all else of its block is the crate's.
+///
+/// A sheet with such leaves is made by placing all blocks, and a margin is printed around no columns, too. Panics where the crate's text is not empty, or has no blank.
+pub fn mended(settings: &Settings, tree: &Tree, mut answer: Answer) -> Answer {
+    let nodes = Nodes::of(tree);
+    let mut is_crates = true;
+    for leaf in &mut answer.leaves {
+        let text = nodes.text(leaf.node);
+        if leaf.width == 0 {
+            assert_eq!(leaf.block, b"", "the crate prints a zero-wide leaf");
+            leaf.block = block(settings, leaf, text);
+            is_crates = false;
+            continue;
+        }
+        let blanks = blanks(settings, leaf, text);
+        leaf.block = without(&leaf.block, &blanks);
+        is_crates &= blanks.is_empty();
+    }
+    if !is_crates {
+        answer.sheet = sheet(settings, &nodes, &answer.sizes, &answer.leaves);
     }
     answer
 }

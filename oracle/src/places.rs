@@ -72,12 +72,12 @@ fn edges(lines: &mut Lines) {
 
 /// Row[``, `a`] without padding: the first leaf is its marks around no columns (document 02, 8).
 fn blank(lines: &mut Lines, settings: Settings) {
-    let bare = Settings {
+    let tight = Settings {
         padding: [0; 4],
         ..settings
     };
     let tree = Tree::Row(vec![Tree::cell(""), Tree::cell("a")]);
-    lines.given(&encode_settings(&bare), &encode_tree(&tree));
+    lines.given(&encode_settings(&tight), &encode_tree(&tree));
 }
 
 /// Places of that sheet, without a margin and with one.
@@ -121,7 +121,7 @@ fn refused_sheets(lines: &mut Lines, ask: fn(&mut Lines)) {
 }
 
 /// So many random tables of a few bytes, and what is asked of each.
-fn random_tables(
+pub fn random_tables(
     lines: &mut Lines,
     rng: &mut Rng,
     tables: usize,
@@ -166,7 +166,7 @@ fn lists(lines: &mut Lines) {
 }
 
 /// A list of places inside the margin, and one in which a place is any, its numbers of 32 bits.
-fn random_lists(lines: &mut Lines, rng: &mut Rng, read: &judge::Read) {
+pub fn random_lists(lines: &mut Lines, rng: &mut Rng, read: &judge::Read) {
     for is_any in [false, true] {
         let count = rng.between(1, 12);
         let mut places = gen::insides(rng, read, count);

@@ -3,6 +3,7 @@
 
 use crate::form::{Ends, Plan, Range, Settings, Tree};
 use crate::judge::{self, DEPTH, NODES, TREE_BYTES};
+use crate::paper;
 
 /// The elements met so far.
 struct Reader {
@@ -99,7 +100,8 @@ fn natural(settings: &Settings, plan: &Plan, end: usize) -> (usize, usize) {
     }
     let sizes = children.iter().map(|child| natural(settings, child, end));
     let (widths, heights): (Vec<usize>, Vec<usize>) = sizes.unzip();
-    let sum = |list: &[usize]| list.iter().sum::<usize>() + list.len() - 1;
+    let separators = (children.len() - 1) * paper::separator(settings);
+    let sum = |list: &[usize]| list.iter().sum::<usize>() + separators;
     let most = |list: &[usize]| list.iter().copied().max().unwrap_or(0);
     if is_row {
         (sum(&widths), most(&heights))
@@ -112,10 +114,11 @@ fn natural(settings: &Settings, plan: &Plan, end: usize) -> (usize, usize) {
 /// greatest. The sheet's edges and the margin are part of them.
 pub fn ends(settings: &Settings, plan: &Plan) -> Ends {
     let [left, right, top, bottom] = settings.margin.sizes.map(usize::from);
+    let edges = 2 * paper::separator(settings);
     let [least, greatest] = [0, 1].map(|end| natural(settings, plan, end));
     Ends {
-        width: [least.0, greatest.0].map(|width| left + width + 2 + right),
-        height: [least.1, greatest.1].map(|height| top + height + 2 + bottom),
+        width: [least.0, greatest.0].map(|width| left + width + edges + right),
+        height: [least.1, greatest.1].map(|height| top + height + edges + bottom),
     }
 }
 

@@ -49,11 +49,11 @@ fn shapes(lines: &mut Lines) {
 }
 
 /// Random tables whose sheet is small: the sizes of three nodes, one leaf's record and block, and the sheet.
-fn tables(lines: &mut Lines, rng: &mut Rng, most: usize, count: usize) {
+pub fn tables(lines: &mut Lines, rng: &mut Rng, margins: Margins, most: usize, count: usize) {
     lines.title(&format!("Random tables of up to {most} bytes"));
     let mut left = count;
     while left > 0 {
-        let (settings, tree) = gen::table(rng, Margins::None);
+        let (settings, tree) = gen::table(rng, margins);
         let (settings, bytes) = (encode_settings(&settings), encode_tree(&tree));
         let fits = judge::read(&settings, &bytes).is_ok_and(|read| read.sheet_bytes() <= most);
         if tree.nodes() < 4 || !fits {
@@ -69,7 +69,7 @@ fn tables(lines: &mut Lines, rng: &mut Rng, most: usize, count: usize) {
 }
 
 /// Random bytes, damaged ones among them: the readers' numbers and the refusals, by the judge.
-fn damaged(lines: &mut Lines, rng: &mut Rng, count: usize) {
+pub fn damaged(lines: &mut Lines, rng: &mut Rng, count: usize) {
     lines.title("Damaged bytes");
     let mut left = count;
     while left > 0 {
@@ -89,10 +89,6 @@ fn damaged(lines: &mut Lines, rng: &mut Rng, count: usize) {
 fn limits(lines: &mut Lines) {
     lines.title("Limits");
     let settings = encode_settings(&Settings::D);
-    let bare = encode_settings(&Settings {
-        padding: [0; 4],
-        ..Settings::M
-    });
     let items: [(&[u8], usize, &[u8]); 10] = [
         (&[1, 0x01, 0x8C], 396, b"a"),
         (&[1, 0x01, 0x8D], 397, b"a"),
@@ -125,19 +121,21 @@ fn limits(lines: &mut Lines) {
         lines.readers();
         lines.both(0);
     }
-    lines.given(&bare, &encode_tree(&Tree::cell("")));
+    lines.given(
+        &encode_settings(&Settings::M0),
+        &encode_tree(&Tree::cell("")),
+    );
     lines.both(0);
 }
 
 /// M without padding, and a margin.
 fn edged(sizes: [u8; 4]) -> Settings {
     Settings {
-        padding: [0; 4],
         margin: Margin {
             sizes,
             fills: *b"lrtb",
         },
-        ..Settings::M
+        ..Settings::M0
     }
 }
 
@@ -268,8 +266,8 @@ pub fn lines(seed: u64) -> [String; 2] {
     let mut rng = Rng::new(seed);
     let mut good = Lines::default();
     shapes(&mut good);
-    tables(&mut good, &mut rng, 200, 60);
-    tables(&mut good, &mut rng, 900, 4);
+    tables(&mut good, &mut rng, Margins::None, 200, 60);
+    tables(&mut good, &mut rng, Margins::None, 900, 4);
     let mut faulty = Lines::default();
     damaged(&mut faulty, &mut rng, 60);
     limits(&mut faulty);

@@ -58,7 +58,7 @@ fn refused_trees(lines: &mut Lines) {
 
 /// So many random settings, each with four trees of a few bytes: with as much room as is needed or more, then with too little in one list or in both; and with one
 /// tree that is refused.
-fn random_trees(lines: &mut Lines, rng: &mut Rng, settings: usize) {
+pub fn random_trees(lines: &mut Lines, rng: &mut Rng, settings: usize) {
     lines.title("Random trees");
     for number in [2, 3].into_iter().cycle().take(settings) {
         let settings = gen::settings(rng, Margins::Half);

@@ -2,6 +2,7 @@
 
 mod faulty;
 
+use faulty::lines;
 use oracle::calls::{
     Calls, Counted, CutParts, CutPositions, Folded, LeafPlace, LeafRecord, Marked, Planned,
     ReadMargin, ReadSettings, Shared, SizeRecord, SplitList,
@@ -95,6 +96,26 @@ fn drafts() {
     agree(|comparison| comparison.any_stores(&mut Rng::new(31), 400));
 }
 
+/// The same without lines (document 02, 13).
+#[test]
+fn bare() {
+    let (bare, rng) = (gen::bare_settings(), |seed: u64| Rng::new(seed).bare());
+    agree(|comparison| comparison.mixtures());
+    agree(|comparison| comparison.small_tables(4, &bare));
+    agree(|comparison| comparison.two_groups(&bare[2..4]));
+    agree(|comparison| comparison.tables(&mut rng(11), 100));
+    agree(|comparison| comparison.limits(&mut rng(12), 1));
+    agree(|comparison| comparison.cases(&mut rng(13), 500));
+    agree(|comparison| comparison.small_places(4, &bare[..3]));
+    agree(|comparison| comparison.tables_places(&mut rng(22), 30));
+    agree(|comparison| comparison.small_folds(3, &bare));
+    agree(|comparison| comparison.folds(&mut rng(24), 30));
+    agree(|comparison| comparison.small_plans(3, &bare));
+    agree(|comparison| comparison.plans(&mut rng(26), 100));
+    agree(|comparison| comparison.small_needs(4, &bare));
+    agree(|comparison| comparison.needs(&mut rng(28), 30));
+}
+
 #[test]
 fn lists() {
     agree(|comparison| comparison.lists(&mut Rng::new(14), 500));
@@ -115,22 +136,24 @@ fn shares() {
     }
 }
 
-/// The random cases reach every number of the table in every call that can give it.
+/// The random cases reach every number of the table in every call that can give it, with lines and without.
 #[test]
 fn every_number_is_reached() {
-    let (mut one, mut other) = (Paper::default(), Paper::default());
-    let mut comparison = Comparison::new(&mut one, &mut other);
-    let run = comparison
-        .cases(&mut Rng::new(1), 4000)
-        .and_then(|()| comparison.any_folds(&mut Rng::new(1), 400))
-        .and_then(|()| comparison.any_plans(&mut Rng::new(1), 400))
-        .and_then(|()| comparison.any_needs(&mut Rng::new(1), 400))
-        .and_then(|()| comparison.any_stores(&mut Rng::new(1), 400))
-        .and_then(|()| comparison.lists(&mut Rng::new(1), 10))
-        .and_then(|()| comparison.shares(&mut Rng::new(1), 3));
-    run.expect("a side agrees with itself");
-    for (call, numbers) in NUMBERS {
-        assert_eq!(comparison.counts.reached(call), numbers, "{call}");
+    for rng in [Rng::new(1), Rng::new(1).bare()] {
+        let (mut one, mut other) = (Paper::default(), Paper::default());
+        let mut comparison = Comparison::new(&mut one, &mut other);
+        let run = comparison
+            .cases(&mut rng.clone(), 4000)
+            .and_then(|()| comparison.any_folds(&mut rng.clone(), 400))
+            .and_then(|()| comparison.any_plans(&mut rng.clone(), 400))
+            .and_then(|()| comparison.any_needs(&mut rng.clone(), 400))
+            .and_then(|()| comparison.any_stores(&mut rng.clone(), 400))
+            .and_then(|()| comparison.lists(&mut rng.clone(), 10))
+            .and_then(|()| comparison.shares(&mut rng.clone(), 3));
+        run.expect("a side agrees with itself");
+        for (call, numbers) in NUMBERS {
+            assert_eq!(comparison.counts.reached(call), numbers, "{call}");
+        }
     }
 }
 
@@ -155,7 +178,7 @@ fn every_margin_is_reached() {
     }
 }
 
-/// In a sheet without zero-wide leaves the stand-in `Table` never fills up: it joins blocks of equal height side by side and blocks of
+/// In a sheet of even blocks, without zero-wide leaves and extra blanks, the stand-in `Table` never fills up: it joins blocks of equal height side by side and blocks of
 /// equal width one under the other. Its own assumptions about others never show: a sheet with such leaves is not the crate's.
 #[test]
 fn compared_sheets_are_joined_evenly() {
@@ -163,7 +186,7 @@ fn compared_sheets_are_joined_evenly() {
     let mut uneven = 0;
     let mut look = |settings: &Settings, tree: &Tree| {
         let seen = original::seen(settings, tree);
-        if seen.answer.leaves.iter().all(|leaf| leaf.width > 0) {
+        if seen.answer.leaves.iter().all(original::is_even) {
             assert_eq!(seen.uneven, 0);
             even += 1;
         } else if seen.uneven > 0 {
@@ -172,15 +195,16 @@ fn compared_sheets_are_joined_evenly() {
     };
     for nodes in 1..=4 {
         for tree in gen::small_trees(nodes, &["", "a", "bcd", "e\nfg"]) {
-            for settings in gen::few_settings() {
+            for settings in [gen::few_settings(), gen::bare_settings()].concat() {
                 look(&settings, &tree);
             }
         }
     }
-    let mut rng = Rng::new(16);
-    for _ in 0..500 {
-        let (settings, tree) = gen::table(&mut rng, Margins::Half);
-        look(&settings, &tree);
+    for mut rng in [Rng::new(16), Rng::new(16).bare()] {
+        for _ in 0..500 {
+            let (settings, tree) = gen::table(&mut rng, Margins::Half);
+            look(&settings, &tree);
+        }
     }
     assert!(even > 4000 && uneven > 100, "{even} {uneven}");
 }
@@ -219,7 +243,7 @@ struct Faulty {
     fault: u8,
 }
 
-const FAULTS: u8 = faulty::LAST + 1;
+const FAULTS: u8 = lines::LAST + 1;
 
 /// The judge's numbers with the margin and without it: whether only the margin makes a sheet too large.
 fn is_large_by_margin(number: u8, settings: &[u8], tree: &[u8]) -> bool {
@@ -273,6 +297,8 @@ impl Calls for Faulty {
         if self.fault == 0 && answer.number == 1 {
             answer.settings.horizontal = 1;
         }
+        answer.settings.marks = lines::marks(self.fault, answer.settings.marks);
+        answer.number = lines::number(self.fault, settings, answer.number);
         answer
     }
 
@@ -281,6 +307,13 @@ impl Calls for Faulty {
         match self.fault {
             15 if answer.margin == Margin::NONE => answer.margin = Margin::BLANK,
             16 if answer.number == 1 => answer.margin.sizes[0] = 1,
+            // No margin around a sheet without lines.
+            146 if lines::is_bare(settings) => {
+                answer = ReadMargin {
+                    number: 1,
+                    margin: Margin::BLANK,
+                };
+            }
             _ => {}
         }
         answer
@@ -298,6 +331,7 @@ impl Calls for Faulty {
     }
 
     fn sizes(&mut self, settings: &[u8], tree: &[u8], list: &mut [SizeRecord]) -> Counted {
+        let settings = &lines::seen(self.fault, 132, settings);
         let answer = self.paper.sizes(settings, tree, list);
         match self.fault {
             // An entry past the count, and one on a refusal.
@@ -322,6 +356,7 @@ impl Calls for Faulty {
     }
 
     fn leaf_record(&mut self, settings: &[u8], tree: &[u8], node: usize) -> LeafRecord {
+        let settings = &lines::seen(self.fault, 133, settings);
         // The margin left out of W and H.
         let number = judge::leaf_record(settings, tree, node);
         if self.fault == 17 && is_large_by_margin(number, settings, tree) {
@@ -342,6 +377,10 @@ impl Calls for Faulty {
     }
 
     fn leaf(&mut self, settings: &[u8], tree: &[u8], node: usize, output: &mut [u8]) -> Counted {
+        let settings = &lines::seen(self.fault, 134, settings);
+        if let Some(block) = lines::block(self.fault, settings, tree, node) {
+            return lines::put(&block, output);
+        }
         // No marks around no columns.
         let is_blank = |leaf: LeafRecord| (leaf.number, leaf.width) == (0, 0);
         if self.fault == 53 && is_blank(self.paper.leaf_record(settings, tree, node)) {
@@ -362,6 +401,17 @@ impl Calls for Faulty {
     }
 
     fn sheet(&mut self, settings: &[u8], tree: &[u8], output: &mut [u8]) -> Counted {
+        let settings = &lines::seen(self.fault, 135, settings);
+        if let Some(sheet) = lines::sheet(self.fault, settings, tree) {
+            return lines::put(&sheet, output);
+        }
+        // 6 for a sheet that would be too large with lines.
+        if lines::is_large_with_lines(self.fault, settings, tree) {
+            return Counted {
+                number: 6,
+                count: 0,
+            };
+        }
         // Refuses an output that is just long enough.
         if self.fault == 9 && judge::sheet(settings, tree, output.len().saturating_sub(1)) == 8 {
             return Counted {
@@ -398,12 +448,14 @@ impl Calls for Faulty {
             29 => (line as u32 as usize, column as u32 as usize),
             _ => (line, column),
         };
+        let settings = &lines::seen(self.fault, 136, settings);
         // The margin not taken off.
         let settings = match self.fault {
             30 => &settings[..settings.len().min(31)],
             _ => settings,
         };
-        let mut answer = self.paper.place(settings, tree, line, column);
+        let answer = self.paper.place(settings, tree, line, column);
+        let mut answer = lines::place(self.fault, settings, tree, answer);
         match self.fault {
             // 12 before 6; 12 in the margin; 13 past the sheet's last line, in the margin's columns; a refusal with a leaf.
             31 if answer.number == 6 && line > judge::SHEET_HEIGHT => answer.number = 12,
@@ -436,6 +488,7 @@ impl Calls for Faulty {
             number,
             ..Marked::default()
         };
+        let settings = &lines::seen(self.fault, 137, settings);
         let mut answer = self.paper.places(settings, tree, places, answers);
         let Marked { number, count, .. } = answer;
         let alone = |&(line, column): &(usize, usize)| {
@@ -496,6 +549,7 @@ impl Calls for Faulty {
             58 => (width, budget.saturating_sub(1)),
             _ => (width, budget),
         };
+        let settings = &lines::seen(self.fault, 138, settings);
         let lent = columns.to_vec();
         let mut answer = self.paper.fold(settings, tree, width, budget, columns);
         let Folded { number, count, .. } = answer;
@@ -541,9 +595,9 @@ impl Calls for Faulty {
             // No separators between the Columns.
             69 if number == 0 => {
                 let mut folds: Vec<Fold> = folds;
-                folds
-                    .iter_mut()
-                    .for_each(|fold| fold.width -= fold.columns.len() - 1);
+                for fold in &mut folds {
+                    fold.width = fold.width.saturating_sub(fold.columns.len() - 1);
+                }
                 answer.height = folding::chosen(&folds, width, budget).fold.height;
             }
             // 8 before 16; 15 for 200 Cells; 6 for a list that is no sheet.
@@ -567,6 +621,7 @@ impl Calls for Faulty {
             ..Planned::default()
         };
         let narrow = |sizes: [usize; 2]| sizes.map(|size| size as u16 as usize);
+        let settings = &lines::seen(self.fault, 139, settings);
         let mut answer = self.paper.plan(settings, tree);
         let number = answer.number;
         let Ends { width, height } = &mut answer.ends;
@@ -588,7 +643,7 @@ impl Calls for Faulty {
             84 if number == 17 => width[0] = 1,
             // The margin, or the edges, left out; 16 bits; width and height exchanged; the ends exchanged.
             85 => answer = self.paper.plan(&settings[..settings.len().min(31)], tree),
-            86 if number == 0 => *width = width.map(|width| width - 2),
+            86 if number == 0 => *width = width.map(|width| width.saturating_sub(2)),
             87 => (*width, *height) = (narrow(*width), narrow(*height)),
             88 => std::mem::swap(width, height),
             89 => width.reverse(),
@@ -633,6 +688,7 @@ impl Calls for Faulty {
         letters: &mut [u32],
     ) -> Counted {
         let refused = |number: u8| Counted { number, count: 0 };
+        let settings = &lines::seen(self.fault, 140, settings);
         let (lent_nodes, lent_letters) = (nodes.to_vec(), letters.to_vec());
         let mut answer = self.paper.widen(settings, tree, nodes, letters);
         let Counted { number, count } = answer;
@@ -749,6 +805,44 @@ impl Calls for Faulty {
     }
 }
 
+/// A comparison of every call with lines.
+fn with_lines(comparison: &mut Comparison) -> Result<(), Difference> {
+    let rng = || Rng::new(18);
+    comparison.small_stores(3, 1)?;
+    comparison.any_stores(&mut rng(), 400)?;
+    comparison.small_needs(2, &gen::few_settings())?;
+    comparison.any_needs(&mut rng(), 100)?;
+    comparison.faulty_plans(3)?;
+    comparison.small_plans(2, &gen::few_settings())?;
+    comparison.any_plans(&mut rng(), 200)?;
+    comparison.plans(&mut rng(), 50)?;
+    comparison.small_tables(3, &[Settings::M])?;
+    comparison.tables(&mut rng(), 20)?;
+    comparison.cases(&mut rng(), 300)?;
+    comparison.lists(&mut rng(), 100)?;
+    comparison.shares(&mut rng(), 4)?;
+    comparison.limits(&mut rng(), 1)?;
+    comparison.small_places(3, &gen::few_settings())?;
+    comparison.tables_places(&mut rng(), 3)?;
+    comparison.small_folds(2, &gen::few_settings())?;
+    comparison.any_folds(&mut rng(), 200)?;
+    comparison.folds(&mut rng(), 20)
+}
+
+/// A comparison of every call on settings without lines.
+fn without_lines(comparison: &mut Comparison) -> Result<(), Difference> {
+    let (bare, rng) = (gen::bare_settings(), || Rng::new(18).bare());
+    comparison.small_tables(3, &bare)?;
+    comparison.tables(&mut rng(), 20)?;
+    comparison.small_places(3, &bare)?;
+    comparison.small_folds(2, &bare)?;
+    comparison.small_plans(3, &bare)?;
+    comparison.any_needs(&mut rng(), 50)?;
+    let (settings, tree) = gen::corner(Settings::D.bare(), [0; 4], 0, 0);
+    comparison.table(&settings, &tree)?;
+    comparison.mixtures()
+}
+
 /// The comparison finds each fault, and nothing without one.
 #[test]
 fn faults_are_found() {
@@ -756,26 +850,11 @@ fn faults_are_found() {
         let paper = Paper::default();
         let (mut one, mut other) = (Paper::default(), Faulty { paper, fault });
         let mut comparison = Comparison::new(&mut one, &mut other);
-        let run = comparison
-            .small_stores(3, 1)
-            .and_then(|()| comparison.any_stores(&mut Rng::new(18), 400))
-            .and_then(|()| comparison.small_needs(2, &gen::few_settings()))
-            .and_then(|()| comparison.any_needs(&mut Rng::new(18), 100))
-            .and_then(|()| comparison.faulty_plans(3))
-            .and_then(|()| comparison.small_plans(2, &gen::few_settings()))
-            .and_then(|()| comparison.any_plans(&mut Rng::new(18), 200))
-            .and_then(|()| comparison.plans(&mut Rng::new(18), 50))
-            .and_then(|()| comparison.small_tables(3, &[Settings::M]))
-            .and_then(|()| comparison.tables(&mut Rng::new(18), 20))
-            .and_then(|()| comparison.cases(&mut Rng::new(18), 300))
-            .and_then(|()| comparison.lists(&mut Rng::new(18), 100))
-            .and_then(|()| comparison.shares(&mut Rng::new(18), 4))
-            .and_then(|()| comparison.limits(&mut Rng::new(18), 1))
-            .and_then(|()| comparison.small_places(3, &gen::few_settings()))
-            .and_then(|()| comparison.tables_places(&mut Rng::new(18), 3))
-            .and_then(|()| comparison.small_folds(2, &gen::few_settings()))
-            .and_then(|()| comparison.any_folds(&mut Rng::new(18), 200))
-            .and_then(|()| comparison.folds(&mut Rng::new(18), 20));
+        let run = match fault {
+            FAULTS => with_lines(&mut comparison).and_then(|()| without_lines(&mut comparison)),
+            lines::FIRST.. => without_lines(&mut comparison),
+            _ => with_lines(&mut comparison),
+        };
         assert_eq!(run.is_err(), fault < FAULTS, "fault {fault}");
     }
 }

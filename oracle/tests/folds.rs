@@ -115,6 +115,25 @@ fn cells_of_several_lines() {
     );
 }
 
+/// Without lines separators are 0.
+#[test]
+fn without_lines() {
+    holds(
+        &Settings::N,
+        &list(&["a", "b", "c", "d"]),
+        &[
+            ((6, 99, 4), Ok((&[2, 2], [2, 3, 0]))),
+            ((12, 99, 4), Ok((&[1, 1, 1, 1], [1, 3, 0]))),
+            ((3, 0, 4), Ok((&[4], [4, 0, 3]))),
+        ],
+    );
+    holds(
+        &Settings::N0,
+        &list(&["", "", ""]),
+        &[((0, 99, 3), Ok((&[1, 1, 1], [1, 2, 0])))],
+    );
+}
+
 /// One cell: there is nothing to try, and every t was tried.
 #[test]
 fn one_cell() {
@@ -126,25 +145,6 @@ fn one_cell() {
             ((3, 5, 1), Ok((&[1], [1, 0, 0]))),
             ((2, 5, 1), Err(16)),
             ((3, 5, 0), Err(8)),
-        ],
-    );
-}
-
-/// Fifteen zero marks are 1 as long as document 02, 13 has not come.
-#[test]
-fn without_lines() {
-    let n = Settings {
-        marks: [0; 15],
-        ..Settings::D
-    };
-    let tree = list(&["a", "b", "c", "d"]);
-    holds(
-        &n,
-        &tree,
-        &[
-            ((6, 99, 4), Err(1)),
-            ((12, 99, 4), Err(1)),
-            ((3, 0, 4), Err(1)),
         ],
     );
 }
@@ -190,12 +190,18 @@ fn refusals() {
 #[test]
 fn the_search_as_it_is_told() {
     let mut rng = Rng::new(31);
-    for _ in 0..300 {
+    for at in 0..300 {
         let (settings, tree) = gen::fold_list(&mut rng);
+        // Every third list without lines.
+        let settings = if at % 3 == 0 {
+            settings.bare()
+        } else {
+            settings
+        };
         let cells = tree.children();
         let natural = |tree: &Tree| paper::sizes(&settings, tree)[0];
         let heights: Vec<usize> = cells.iter().map(|c| natural(c).natural_height).collect();
-        let fold = |t: usize| folding::columns(&heights, t);
+        let fold = |t: usize| folding::columns(&heights, paper::separator(&settings), t);
         let folds = folding::folds(&settings, cells);
         let (one, tallest) = (natural(&tree).natural_height, folds[folds.len() - 1].height);
         assert_eq!(Some(&tallest), heights.iter().max());

@@ -113,10 +113,7 @@ fn nodes() {
 /// The longest split lists that a leaf record can hold: as many zero-wide Cells as W has room for, and Cells of one line within H.
 #[test]
 fn lists() {
-    let settings = Settings {
-        padding: [0; 4],
-        ..Settings::M
-    };
+    let settings = Settings::M0;
     let record = |tree: &Tree, node: usize| {
         judge::leaf_record(&encode_settings(&settings), &encode_tree(tree), node)
     };
@@ -150,25 +147,31 @@ fn bytes() {
 /// The last limit case as document 02, 8 changes it: 8 bytes from the sheet and from the leaf.
 #[test]
 fn zero_wide() {
-    let bare = Settings {
+    let tight = Settings {
         padding: [0; 4],
         ..Settings::D
     };
-    let (settings, tree) = (encode_settings(&bare), encode_tree(&Tree::cell("")));
+    let (settings, tree) = (encode_settings(&tight), encode_tree(&Tree::cell("")));
     for (length, number) in [(7, 8), (8, 0)] {
         assert_eq!(judge::sheet(&settings, &tree, length), number);
         assert_eq!(judge::leaf(&settings, &tree, 0, length), number);
     }
-    let answer = paper::answer(&bare, &Tree::cell(""));
+    let answer = paper::answer(&tight, &Tree::cell(""));
     assert_eq!(answer.sheet, b"++\n||\n++");
     assert_eq!(answer.leaves[0].block, answer.sheet);
 }
 
 #[test]
 fn corners() {
-    for sizes in [[0; 4], [1, 2, 3, 4], [16; 4]] {
+    for (d, sizes) in [
+        (Settings::D, [0; 4]),
+        (Settings::D, [1, 2, 3, 4]),
+        (Settings::D, [16; 4]),
+        (Settings::D.bare(), [0; 4]),
+        (Settings::D.bare(), [4, 3, 2, 1]),
+    ] {
         for (width, height) in [(-1, 1), (0, 0), (2, -2)] {
-            let (settings, tree) = gen::corner(sizes, width, height);
+            let (settings, tree) = gen::corner(d, sizes, width, height);
             let (w, h) = paper::rectangle(&settings, &paper::sizes(&settings, &tree));
             let at = |extent: usize, of: usize| extent as isize - of as isize;
             let offsets = (at(w, judge::SHEET_WIDTH), at(h, judge::SHEET_HEIGHT));
@@ -179,7 +182,12 @@ fn corners() {
 
 #[test]
 fn inputs_near_the_limits() {
-    let mut rng = Rng::new(3);
+    stand_near(Rng::new(3));
+    stand_near(Rng::new(3).bare());
+}
+
+/// Each input stands as far from its limit as it should, and is answered accordingly.
+fn stand_near(mut rng: Rng) {
     for limit in gen::LIMITS {
         for offset in -2..=2 {
             for _ in 0..8 {

@@ -143,12 +143,12 @@ fn at_the_crossing() {
 #[test]
 fn in_a_blank_leaf() {
     let tree = row([cell(""), cell("a")]);
-    let bare = |settings: Settings| Settings {
+    let tight = |settings: Settings| Settings {
         padding: [0; 4],
         ..settings
     };
     holds(
-        &bare(Settings::M),
+        &tight(Settings::M),
         &tree,
         &[
             ((0, 0), Ok((1, 0, 0))),
@@ -160,7 +160,7 @@ fn in_a_blank_leaf() {
         ],
     );
     holds(
-        &bare(edged()),
+        &tight(edged()),
         &tree,
         &[
             ((1, 1), Err(13)),
@@ -195,7 +195,7 @@ fn refused_sheets() {
 /// The margin's sheet is 400 by 160: its last places, one past them, and one less inside.
 #[test]
 fn the_largest_sheet() {
-    let (settings, tree) = gen::corner([16; 4], 0, 0);
+    let (settings, tree) = gen::corner(Settings::D, [16; 4], 0, 0);
     holds(
         &settings,
         &tree,
@@ -214,10 +214,15 @@ fn the_largest_sheet() {
 }
 
 /// 'Every byte of every block, its line feeds apart, leads back to that leaf and place, and going forward from the answer returns the marker's place.' Of each leaf
-/// every place of its block is found, once, all from one start; each byte of the sheet there is the block's; nothing in the margin is anyone's.
+/// every place of its block is found, once, all from one start; each byte of the sheet there is the block's; nothing in the margin is anyone's. A block of feeds alone, as
+/// there are without lines, has no place.
 #[test]
 fn back_and_forward() {
-    let mut rng = Rng::new(21);
+    lead_back(Rng::new(21));
+    lead_back(Rng::new(21).bare());
+}
+
+fn lead_back(mut rng: Rng) {
     let mut sheets = 0;
     while sheets < 150 {
         let (settings, tree) = gen::table(&mut rng, Margins::Half);
@@ -253,7 +258,12 @@ fn back_and_forward() {
                 }
             }
         }
-        assert_eq!(left.len(), answer.leaves.len());
+        let feeds = |block: &[u8]| block.iter().all(|&byte| byte == 0x0A);
+        let mut others = answer
+            .leaves
+            .iter()
+            .filter(|leaf| !left.contains_key(&leaf.node));
+        assert!(others.all(|leaf| feeds(&leaf.block)));
         assert!(left.values().all(|&left| left == 0));
     }
 }

@@ -60,11 +60,9 @@ fn ranges_alone_and_in_groups() {
     ] {
         assert_eq!(planned(settings, tree), Ok(ends), "{tree:?}");
     }
-
-    // Fifteen zero marks are 1 as long as document 02, 13 has not come.
-    let mut none = d.clone();
-    none[3..18].fill(0);
-    assert_eq!(planned(&none, two), Err(1));
+    // Without lines there are neither separators nor edges.
+    let n = encode_settings(&Settings::N);
+    assert_eq!(planned(&n, two), Ok([5, 15, 2, 4]));
 }
 
 #[test]

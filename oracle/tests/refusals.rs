@@ -8,7 +8,7 @@ fn d() -> Vec<u8> {
     encode_settings(&Settings::D)
 }
 
-fn bare() -> Vec<u8> {
+fn tight() -> Vec<u8> {
     encode_settings(&Settings {
         padding: [0; 4],
         ..Settings::D
@@ -234,7 +234,7 @@ fn the_first_fault_in_node_order() {
 fn calls_check_in_table_order() {
     let cell = |letters: usize| encode_tree(&Tree::Cell(vec![b'a'; letters]));
     let bad = b"\x01\x00\x01\x07";
-    let (d, bare) = (d(), bare());
+    let (d, tight) = (d(), tight());
 
     assert_eq!(judge::sizes(b"", bad, 0), 1);
     assert_eq!(judge::sizes(&d, bad, 0), 3);
@@ -251,28 +251,28 @@ fn calls_check_in_table_order() {
     assert_eq!(judge::leaf(&d, &cell(396), 9, 0), 9);
     assert_eq!(judge::leaf(&d, &cell(2), 0, 19), 8);
     assert_eq!(judge::leaf(&d, &cell(2), 0, 20), 0);
-    assert_eq!(judge::leaf(&bare, &cell(0), 0, 7), 8);
-    assert_eq!(judge::leaf(&bare, &cell(0), 0, 8), 0);
+    assert_eq!(judge::leaf(&tight, &cell(0), 0, 7), 8);
+    assert_eq!(judge::leaf(&tight, &cell(0), 0, 8), 0);
 
     // A zero-wide leaf in a sheet that is too wide, and in one that fits.
     let with_empty = |letters: usize| {
         let letters = Tree::Cell(vec![b'a'; letters]);
         encode_tree(&Tree::Row(vec![Tree::cell(""), letters]))
     };
-    assert_eq!(judge::sheet(&bare, &with_empty(398), 0), 6);
-    assert_eq!(judge::sheet(&bare, &with_empty(397), 1201), 8);
-    assert_eq!(judge::sheet(&bare, &with_empty(397), 1202), 0);
+    assert_eq!(judge::sheet(&tight, &with_empty(398), 0), 6);
+    assert_eq!(judge::sheet(&tight, &with_empty(397), 1201), 8);
+    assert_eq!(judge::sheet(&tight, &with_empty(397), 1202), 0);
     // Its marks are 5 bytes, and the block beside it has 11.
     for (node, bytes) in [(1, 5), (2, 11)] {
-        assert_eq!(judge::leaf(&bare, &with_empty(1), node, bytes - 1), 8);
-        assert_eq!(judge::leaf(&bare, &with_empty(1), node, bytes), 0);
+        assert_eq!(judge::leaf(&tight, &with_empty(1), node, bytes - 1), 8);
+        assert_eq!(judge::leaf(&tight, &with_empty(1), node, bytes), 0);
     }
     assert_eq!(judge::sheet(&d, &cell(2), 19), 8);
     assert_eq!(judge::sheet(&d, &cell(2), 20), 0);
     // 'Number names no leaf': the Row itself.
-    assert_eq!(judge::leaf_record(&bare, &with_empty(1), 0), 9);
-    assert_eq!(judge::leaf_record(&bare, &with_empty(1), 1), 0);
-    assert_eq!(judge::leaf_record(&bare, &with_empty(1), 3), 9);
+    assert_eq!(judge::leaf_record(&tight, &with_empty(1), 0), 9);
+    assert_eq!(judge::leaf_record(&tight, &with_empty(1), 1), 0);
+    assert_eq!(judge::leaf_record(&tight, &with_empty(1), 3), 9);
 
     assert_eq!((judge::cut(512), judge::cut(513)), (0, 10));
     assert_eq!(judge::share(0, 0), 11);
@@ -280,43 +280,11 @@ fn calls_check_in_table_order() {
     assert_eq!(judge::share(3, 2), 0);
 }
 
-/// Every tree of at most so many bytes whose texts hold `a` and 0A.
-fn trees(bytes: usize) -> Vec<Tree> {
-    if bytes < 3 {
-        return Vec::new();
-    }
-    let mut texts = vec![Vec::new()];
-    for at in 0.. {
-        let Some(text) = texts.get(at).cloned() else {
-            break;
-        };
-        if text.len() < bytes - 3 {
-            texts.extend([b'a', 0x0A].map(|byte| [&text[..], &[byte]].concat()));
-        }
-    }
-    let mut list: Vec<Tree> = texts.into_iter().map(Tree::Cell).collect();
-    for forest in forests(bytes - 3) {
-        list.push(Tree::Row(forest.clone()));
-        list.push(Tree::Column(forest));
-    }
-    list
-}
-
-fn forests(bytes: usize) -> Vec<Vec<Tree>> {
-    let mut list = vec![Vec::new()];
-    for first in trees(bytes) {
-        for rest in forests(bytes - first.bytes()) {
-            list.push([&[first.clone()][..], &rest].concat());
-        }
-    }
-    list
-}
-
 /// Of all short byte strings over a few bytes, those accepted are the trees' forms, and reading is the reverse of encoding.
 #[test]
 fn what_is_accepted() {
     const LENGTH: usize = 7;
-    let trees = trees(LENGTH);
+    let trees = gen::short_trees(LENGTH);
     let forms: HashSet<Vec<u8>> = trees.iter().map(encode_tree).collect();
     assert_eq!(forms.len(), trees.len());
     for tree in &trees {

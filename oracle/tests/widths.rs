@@ -81,25 +81,21 @@ fn empty_groups_are_not_listed() {
     assert_eq!(listed(&d(), below, 1), Ok(vec![(1, 1)]));
 }
 
-/// Fifteen zero marks are 1 as long as document 02, 13 has not come.
+/// Without lines a Row is narrower than with them.
 #[test]
 fn without_lines() {
-    let n = Settings {
-        marks: [0; 15],
-        margin: Margin {
-            sizes: [3, 3, 0, 0],
-            fills: *b"lrtb",
-        },
-        ..Settings::D
-    };
     let tree = b"\x03\x00\x11\x01\x00\x03abc\x02\x00\x08\x01\x00\x01a\x01\x00\x01b";
-    assert_eq!(listed(&encode_settings(&n), tree, 9), Err(1));
-    let edged = Settings {
-        marks: Settings::D.marks,
-        ..n
-    };
-    let list = vec![(3, 1), (4, 1), (1, 3)];
-    assert_eq!(listed(&encode_settings(&edged), tree, 9), Ok(list));
+    for (settings, letters) in [(Settings::N, 2), (Settings::D, 3)] {
+        let edged = Settings {
+            margin: Margin {
+                sizes: [3, 3, 0, 0],
+                fills: *b"lrtb",
+            },
+            ..settings
+        };
+        let list = vec![(3, 1), (4, 1), (1, letters)];
+        assert_eq!(listed(&encode_settings(&edged), tree, 9), Ok(list));
+    }
 }
 
 /// 'A short list is 8', be it the nodes' or the numbers'; it comes after 1 to 5. Nothing is too large.

@@ -1,9 +1,9 @@
-//! The calls on drafts by the document's steps, with one of them gone wrong: faults 110 to `LAST`, each named where it is made.
+//! The calls on drafts by the document's steps, with one of them gone wrong: faults 110 to 131, each named where it is made. Those without lines are in `lines`.
+
+pub mod lines;
 
 use oracle::drafting::{encode_store, read_store, Draft, NAMES};
 use oracle::judge;
-
-pub const LAST: u8 = 131;
 
 /// The bytes that drafts take.
 fn taken(drafts: &[Draft]) -> usize {

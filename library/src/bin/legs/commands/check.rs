@@ -27,9 +27,10 @@ fn run(words: &[OsString]) -> Result<Answer, Fault> {
     Ok(Answer::accepted(text))
 }
 
+/// A sheet of no columns is feeds alone, and has a line more.
 fn dimensions(sheet: &str) -> String {
-    let width = sheet.lines().next().map_or(0, str::len);
-    format!(", {width} columns by {} lines", sheet.lines().count())
+    let lines: Vec<&str> = sheet.split('\n').collect();
+    format!(", {} columns by {} lines", lines[0].len(), lines.len())
 }
 
 fn line((part, verdict): &(&str, Result<String, Refusal>)) -> String {
