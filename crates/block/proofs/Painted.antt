@@ -1,101 +1,161 @@
 -- The block from its parts: the room of each, and that together they are the block. Assumes nothing.
-use mathlib.Core.Path.{_≡_, sym, ap, _∙_}
+use mathlib.Core.Path.{_≡_, refl, sym, ap, _∙_}
 use Prim.Native.Nat.{ℕ, _+_, _*_, _≤_, _<_}
 use native.Mathlib.Omega.{arith}
 use mathlib.Core.Bool.{Bool, true, false}
 use mathlib.Core.List.{List, [], _∷_, _++_, append-nil}
-use lib.ListN.{length}
+use lib.ListN.{length, getD}
 use lib.Seq.{sets}
 use Rattle.common.specs.Choice.{pick}
 use Rattle.settings.specs.declared.Settings.{Settings}
+use Rattle.splits.specs.Splits.{named}
 use Rattle.sizes.specs.declared.Size.{Size}
+use Rattle.sizes.specs.Sizes.{Fits, leafSize}
 use Rattle.block.specs.declared.Flags.{Flags}
 use Rattle.block.specs.declared.borders.Borders.{Borders}
-use Rattle.block.specs.Block.{body, topLine, middle, bottomLine, block, tall, wide}
+use Rattle.block.specs.Block.{Leaf, body, topLine, middle, bottomLine, block, tall, wide}
 use Rattle.block.specs.Paint.{pasted, Room, Wrote, leafWith, Paintable}
-use Rattle.block.specs.Parts.{bordersOf, topOf, middleOf, bottomOf}
-use Rattle.block.proofs.Dims.{middle-dims}
+use Rattle.block.specs.Parts.{bordersOf, topOf, leftOf, rightOf, middleOf, bottomOf}
+use Rattle.block.specs.declared.Begun.{Begun}
+use Rattle.block.specs.Steps.{columnsIn, Lined, Begins, Rest, endedOf}
+use Rattle.block.proofs.Every.{dims-paired}
+use Rattle.block.proofs.Dims.{body-dims, left-dims, edges-dims, middle-dims}
+use Rattle.block.proofs.Pasted.{pasted-beside}
 use Rattle.block.proofs.Cases.{tall-is, wide-is, block-lined, bare-tall, bare-wide, block-bare}
 use Rattle.block.proofs.Left.{then-pasted, pasted-first}
 use Rattle.block.proofs.Corners.{top-is, middle-is, bottom-is}
 use Rattle.block.proofs.Places.{paintable-fits}
 
-module _ {s : Settings} {t : List ℕ} {n z : Size} {f : Flags} {h v : List ℕ} {base stride len : ℕ} (k : Paintable s t n z f h v base stride len) (lined : s .lines ≡ true) (b : Borders) (is : b ≡ bordersOf s f) where
+-- ---- what the marks ask for
+
+-- the marks before the body: the top line, the left marks
+module _ {b : Borders} {z : Size} {h v : List ℕ} {base stride len : ℕ} (k : Lined b z h v base stride len) where
+  pub top-room : base + columnsIn b z ≤ len
+  top-room = omega (arith, k .room .fits)
+
+  pub body-start : base + stride + 1 < 18446744073709551616
+  body-start = omega (arith, k .room .small)
+
+  pub left-room : {len′ : ℕ} → len′ ≡ len → Room (base + stride) stride (z .height) 1 len′
+  left-room l = record { fits = omega (arith, k .room .fits); small = omega (arith, k .room .small) }
+
+  -- those after it
+  pub rest-room : (p : Begun) → p .at ≡ base + (stride + 1) → p .next ≡ base + stride + z .height * stride → {len′ : ℕ} → len′ ≡ len → Rest b z p stride len′
+  rest-room p e n {len′ = len′} l = record {
+    fits = omega (arith, k .room .small, k .apart);
+    side = record { fits = omega (arith, k .room .fits); small = omega (arith, k .room .small) };
+    below = bottom (b .bottom) refl;
+  }
+    where
+      bottom : (c : Bool) → b .bottom ≡ c → c ≡ true → p .next + columnsIn b z ≤ len′
+      bottom true q y =
+          let r : Room base stride (1 + (z .height + 1)) (columnsIn b z) len = rw q at (k .room) in
+          omega (arith, r .fits)
+      bottom false q y = let w : _≡_ {A = ℕ} 0 1 = cc in absurd (omega arith)
+
+-- ---- the steps' cases
+
+module _ (lines : Bool) (b : Borders) (z : Size) (h v : List ℕ) (base stride : ℕ) where
+  pub begun-lined : lines ≡ true → (next : ℕ) (o o₁ o₂ : List ℕ) → o₁ ≡ sets o base (topOf b (z .width) h)
+      → Wrote next (base + stride + z .height * stride) o₂ (pasted o₁ (base + stride) stride (leftOf b (z .height) v))
+      → Begins lines b z h v base stride (record { at = base + stride + 1; next = next }) o o₂
+  begun-lined l next o o₁ o₂ e w = rw l (record { at-is = omega arith; next-is = λ y. w .end-is; out-is = w .out-is ∙ rw e })
+
+  pub begun-bare : lines ≡ false → (o : List ℕ) → Begins lines b z h v base stride (record { at = base; next = base }) o o
+  begun-bare l o = rw l (record { at-is = omega arith; next-is = λ y. let w : _≡_ {A = ℕ} 0 1 = cc in absurd (omega arith); out-is = refl })
+
+module _ (lines : Bool) (b : Borders) (z : Size) (stride : ℕ) (p : Begun) (o : List ℕ) where
+  pub ended-closed : lines ≡ true → b .bottom ≡ true → (o₁ o₂ : List ℕ) → o₁ ≡ pasted o (p .at + z .width) stride (rightOf b (z .height)) → o₂ ≡ sets o₁ (p .next) (bottomOf b (z .width)) → o₂ ≡ endedOf lines b z stride p o
+  unfolding endedOf
+  ended-closed l e o₁ o₂ r q = q ∙ rw (l, e, r)
+
+  pub ended-open : lines ≡ true → b .bottom ≡ false → (o₁ : List ℕ) → o₁ ≡ pasted o (p .at + z .width) stride (rightOf b (z .height)) → o₁ ≡ endedOf lines b z stride p o
+  unfolding endedOf
+  ended-open l e o₁ r = r ∙ rw (l, e)
+
+  pub ended-bare : lines ≡ false → o ≡ endedOf lines b z stride p o
+  unfolding endedOf
+  ended-bare l = rw l
+
+-- ---- the parts
+
+-- left marks, body and right marks, side by side
+middle-painted : (s : Settings) (t : List ℕ) (z : Size) (b : Borders) (ps : List ℕ) → Fits (leafSize s t) z → (o o₂ o₃ : List ℕ) (at stride : ℕ) → columnsIn b z ≤ stride
+    → o₂ ≡ pasted (pasted o at stride (leftOf b (z .height) ps)) (at + 1) stride (body s t z)
+    → o₃ ≡ pasted o₂ (at + 1 + z .width) stride (rightOf b (z .height))
+    → o₃ ≡ pasted o at stride (middleOf s t z b ps)
+unfolding middleOf leftOf rightOf
+middle-painted s t z b ps fits o o₂ o₃ at stride h e₂ e₃ =
+    let left = left-dims 1 (named (z .height) ps) (getD (b .marks) 13 0) (getD (b .marks) 2 0) (z .height) in
+    let text = body-dims s t z fits in
+    let right = edges-dims (z .height) 1 (b .right) (getD (b .marks) 3 0) in
+    e₃ ∙ rw e₂ (pasted-beside (pasted o at stride (leftOf b (z .height) ps)) (at + 1) stride text right (omega arith) ∙ pasted-beside o at stride left (dims-paired text right) h)
+
+module _ {s : Settings} {t : List ℕ} {n z : Size} {f : Flags} {h v : List ℕ} {base stride len : ℕ} (k : Paintable s t n z f h v base stride len) (b : Borders) (is : b ≡ bordersOf s f) (long : length (s .marks) ≡ 15) where
   right-is : b .right ≡ f .«last_col»
   unfolding bordersOf
   right-is = ap (λ (x : Borders). x .right) is
 
-  bottom-side : b .bottom ≡ f .«last_row»
+  bottom-is-last : b .bottom ≡ f .«last_row»
   unfolding bordersOf
-  bottom-side = ap (λ (x : Borders). x .bottom) is
+  bottom-is-last = ap (λ (x : Borders). x .bottom) is
 
-  -- ---- room
+  abbrev leaf : Leaf
+  leaf = leafWith t z f h v
 
-  columns : wide s z f ≡ 1 + (z .width + pick (b .right) 1 0)
-  columns = rw right-is (omega (arith, wide-is s lined z f))
+  -- with lines the marks have room
+  pub lined : s .lines ≡ true → Lined b z h v base stride len
+  lined l =
+      let w : wide s z f ≡ columnsIn b z = rw right-is (omega (arith, wide-is s l z f)) in
+      let a : tall s z f ≡ 1 + (z .height + pick (b .bottom) 1 0) = rw bottom-is-last (omega (arith, tall-is s l z f)) in
+      record {
+        width-small = k .width-small;
+        height-small = k .height-small;
+        few-horizontal = k .few-horizontal;
+        few-vertical = k .few-vertical;
+        apart = rw (← w) (k .apart);
+        room = rw (← w, ← a) (k .room);
+      }
 
-  room : Room base stride (1 + (z .height + pick (f .«last_row») 1 0)) (1 + (z .width + pick (b .right) 1 0)) len
-  room = let e : tall s z f ≡ 1 + (z .height + pick (f .«last_row») 1 0) = omega (arith, tall-is s lined z f) in rw (← columns, ← e) (k .room)
+  -- the body has room with lines and without
+  pub body-room : (lines : Bool) → s .lines ≡ lines → (at : ℕ) → at ≡ base + pick lines (stride + 1) 0 → {len′ : ℕ} → len′ ≡ len → Room at stride (z .height) (z .width) len′
+  body-room true l at e q = let r = lined l .room in record { fits = omega (arith, r .fits); small = omega (arith, r .small) }
+  body-room false l at e q =
+      let r : Room base stride (z .height) (z .width) len = rw (bare-tall s l z f, bare-wide s l z f) at (k .room) in
+      record { fits = omega (arith, r .fits); small = omega (arith, r .small) }
 
-  pub block-apart : 1 + (z .width + pick (b .right) 1 0) ≤ stride
-  block-apart = rw (← columns) (k .apart)
+  pub after-room : (lines : Bool) → s .lines ≡ lines → (p : Begun) (o o₁ : List ℕ) → Begins lines b z h v base stride p o o₁ → lines ≡ true → {len′ : ℕ} → len′ ≡ len → Rest b z p stride len′
+  after-room true l p o o₁ g y q = rest-room (lined l) p (g .at-is) (g .next-is refl) q
+  after-room false l p o o₁ g y q = let w : _≡_ {A = ℕ} 0 1 = cc in absurd (omega arith)
 
-  pub top-room : base + (1 + (z .width + pick (b .right) 1 0)) ≤ len
-  top-room = omega (arith, room .fits)
+  -- ---- together they are the block
 
-  pub block-next : base + stride < 18446744073709551616
-  block-next = omega (arith, room .small)
+  module _ (l : s .lines ≡ true) (o o₂ : List ℕ) (p : Begun) where
+    whole : (last : Bool) → b .bottom ≡ last → pasted o base stride (block s leaf) ≡ pasted o base stride (topLine s leaf ∷ (middle s leaf ++ pick last (bottomLine s leaf ∷ []) []))
+    whole last e = ap (pasted o base stride) (block-lined s leaf l ∙ ap (λ (x : Bool). topLine s leaf ∷ (middle s leaf ++ pick x (bottomLine s leaf ∷ []) [])) (sym bottom-is-last ∙ e))
 
-  pub middle-room : {len′ : ℕ} → len′ ≡ len → Room (base + stride) stride (z .height) (1 + (z .width + pick (b .right) 1 0)) len′
-  middle-room l = record { fits = omega (arith, room .fits); small = omega (arith, room .small) }
+    middles : o₂ ≡ pasted (sets o base (topOf b (z .width) h)) (base + stride) stride (middleOf s t z b v) → o₂ ≡ pasted (sets o base (topLine s leaf)) (base + stride) stride (middle s leaf)
+    middles e = e ∙ rw (is, top-is s leaf l long, middle-is s leaf l long)
 
-  pub bottom-room : b .bottom ≡ true → (next : ℕ) → next ≡ base + stride + z .height * stride → {len′ : ℕ} → len′ ≡ len → next + (1 + (z .width + pick (b .right) 1 0)) ≤ len′
-  bottom-room e next p l =
-      let r : Room base stride (1 + (z .height + 1)) (1 + (z .width + pick (b .right) 1 0)) len = rw (sym bottom-side ∙ e) at room in
-      omega (arith, r .fits)
-
-  -- ---- the parts
-
-  module _ (long : length (s .marks) ≡ 15) (o o₁ o₂ : List ℕ) (next : ℕ)
-      (e₁ : o₁ ≡ sets o base (topOf b (z .width) h))
-      (w : Wrote next (base + stride + z .height * stride) o₂ (pasted o₁ (base + stride) stride (middleOf s t z b v))) where
-    first : o₁ ≡ sets o base (topLine s (leafWith t z f h v))
-    first = e₁ ∙ rw (is, top-is s (leafWith t z f h v) lined long)
-
-    then : Wrote next (base + stride + z .height * stride) o₂ (pasted o₁ (base + stride) stride (middle s (leafWith t z f h v)))
-    then = record { end-is = w .end-is; out-is = w .out-is ∙ rw (is, middle-is s (leafWith t z f h v) lined long) }
-
-    whole : (last : Bool) → b .bottom ≡ last
-        → pasted o base stride (block s (leafWith t z f h v))
-        ≡ pasted o base stride (topLine s (leafWith t z f h v) ∷ (middle s (leafWith t z f h v) ++ pick last (bottomLine s (leafWith t z f h v) ∷ []) []))
-    whole last l =
-        let c = leafWith t z f h v in
-        ap (pasted o base stride)
-        (block-lined s c lined ∙ ap (λ (x : Bool). topLine s c ∷ (middle s c ++ pick x (bottomLine s c ∷ []) [])) (sym bottom-side ∙ l))
-
-    -- with a bottom line
-    pub painted-all : (o₃ : List ℕ) → b .bottom ≡ true → o₃ ≡ sets o₂ next (bottomOf b (z .width)) → o₃ ≡ pasted o base stride (block s (leafWith t z f h v))
+    closed : (last : Bool) → b .bottom ≡ last → p .next ≡ base + stride + z .height * stride
+        → o₂ ≡ pasted (sets o base (topOf b (z .width) h)) (base + stride) stride (middleOf s t z b v)
+        → pick last (sets o₂ (p .next) (bottomOf b (z .width))) o₂ ≡ pasted o base stride (block s leaf)
     unfolding pasted
-    painted-all o₃ l e₃ =
-        let c = leafWith t z f h v in
-        let e : o₃ ≡ sets o₂ next (bottomLine s c) = e₃ ∙ rw (is, bottom-is s c lined long) in
-        then-pasted (middle s c) (bottomLine s c ∷ []) o₁ o₂ o₃ (base + stride) next stride (z .height) (middle-dims s c (paintable-fits k) .lines) then e
-        ∙ pasted-first (topLine s c) (middle s c ++ (bottomLine s c ∷ [])) o o₁ base stride first
-        ∙ sym (whole true l)
+    closed true e q m =
+        let w : Wrote (p .next) (base + stride + z .height * stride) o₂ (pasted (sets o base (topLine s leaf)) (base + stride) stride (middle s leaf)) = record { end-is = q; out-is = middles m } in
+        let d : sets o₂ (p .next) (bottomOf b (z .width)) ≡ sets o₂ (p .next) (bottomLine s leaf) = rw (is, bottom-is s leaf l long) in
+        then-pasted (middle s leaf) (bottomLine s leaf ∷ []) (sets o base (topLine s leaf)) o₂ _ (base + stride) (p .next) stride (z .height) (middle-dims s leaf (paintable-fits k) .lines) w d
+        ∙ pasted-first (topLine s leaf) (middle s leaf ++ (bottomLine s leaf ∷ [])) o _ base stride refl
+        ∙ sym (whole true e)
+    closed false e q m = middles m ∙ pasted-first (topLine s leaf) (middle s leaf) o _ base stride refl ∙ sym (whole false e ∙ rw append-nil)
 
-    -- without one
-    pub painted-open : b .bottom ≡ false → o₂ ≡ pasted o base stride (block s (leafWith t z f h v))
-    painted-open l =
-        let c = leafWith t z f h v in
-        then .out-is
-        ∙ pasted-first (topLine s c) (middle s c) o o₁ base stride first
-        ∙ sym (whole false l ∙ rw append-nil)
-
--- ---- without lines: the body alone
-
-module _ {s : Settings} {t : List ℕ} {n z : Size} {f : Flags} {h v : List ℕ} {base stride len : ℕ} (k : Paintable s t n z f h v base stride len) (bare : s .lines ≡ false) where
-  pub bare-room : Room base stride (z .height) (z .width) len
-  bare-room = rw (bare-tall s bare z f, bare-wide s bare z f) at (k .room)
-
-  pub bare-painted : (o o₁ : List ℕ) → o₁ ≡ pasted o base stride (body s t z) → o₁ ≡ pasted o base stride (block s (leafWith t z f h v))
-  bare-painted o o₁ e = e ∙ ap (pasted o base stride) (sym (block-bare s bare (leafWith t z f h v) (paintable-fits k)))
+  pub block-painted : (lines : Bool) → s .lines ≡ lines → (p : Begun) (o o₁ o₂ o₃ : List ℕ) → Begins lines b z h v base stride p o o₁
+      → o₂ ≡ pasted o₁ (p .at) stride (body s t z) → o₃ ≡ endedOf lines b z stride p o₂ → o₃ ≡ pasted o base stride (block s leaf)
+  unfolding endedOf
+  block-painted true l p o o₁ o₂ o₃ g e₂ e₃ =
+      let a : p .at ≡ base + stride + 1 = omega (arith, g .at-is) in
+      let m = middle-painted s t z b v (paintable-fits k) (sets o base (topOf b (z .width) h)) o₂ (pasted o₂ (base + stride + 1 + z .width) stride (rightOf b (z .height))) (base + stride) stride (lined l .apart) (e₂ ∙ rw (a, g .out-is)) refl in
+      e₃ ∙ rw a (closed l o _ p (b .bottom) refl (g .next-is refl) m)
+  block-painted false l p o o₁ o₂ o₃ g e₂ e₃ =
+      let a : p .at ≡ base = omega (arith, g .at-is) in
+      e₃ ∙ e₂ ∙ rw (a, g .out-is) (ap (pasted o base stride) (sym (block-bare s l leaf (paintable-fits k))))

@@ -2,3 +2,4 @@ pub mod Content
 pub mod Block
 pub mod Paint
 pub mod Parts
+pub mod Steps

@@ -1,37 +1,45 @@
+use mathlib.Core.Path.{refl}
+use Rattle.block.proofs.Painted.{lined, body-room, after-room, block-painted}
 use borrow.Author.Needs.{needs}
-use Rattle.block.proofs.Painted.{bare-room, bare-painted}
 use Rattle.block.proofs.paint_block.Statement.{statement}
 use Rattle.block.proofs.paint_block.Tie as tie
 
-paint-lined-requires : tie.Need-paint-lined-requires
-paint-lined-requires c κs = (c .before .before .before .before .before .before .pre, c .before .if1 .taken)
+config-borders-requires : tie.Need-config-borders-requires
+config-borders-requires c κs = search needs
+
+paint-before-requires : tie.Need-paint-before-requires
+paint-before-requires c κs = let b = c .before .config-borders .ensures in lined (c .before .before .before .before .before .before .pre) _ (b .0) (b .1)
+
+paint-body-requires : tie.Need-paint-body-requires
+paint-body-requires c κs =
+    let k = c .before .before .before .before .before .before .before .before .before .before .pre in
+    let b = c .before .before .before .before .before .config-borders .ensures in
+    ((k .text-small, k .natural-is, k .fits), body-room k _ (b .0) (b .1) _ refl _ (c .before .before .before .paint-before .ensures .at-is) (search needs))
+
+paint-after-requires : tie.Need-paint-after-requires
+paint-after-requires c κs =
+    let d = c .before .before .before .before .before .before .before in
+    let k = d .before .before .before .before .before .before .before .pre in
+    let b = d .before .before .config-borders .ensures in
+    λ l. after-room k _ (b .0) (b .1) _ refl _ _ _ (d .paint-before .ensures) l (search needs)
 
 same-length : tie.Need-same-length
 same-length c = search needs
 
 returns : tie.Need-returns
-returns c = c .before .before .paint-lined .ensures
-
-paint-body-requires : tie.Need-paint-body-requires
-paint-body-requires c κs =
-    let k = c .before .before .before .before .before .before .pre in
-    ((k .text-small, k .natural-is, k .fits), bare-room k (c .before .if1 .left))
-
-same-length-2 : tie.Need-same-length-2
-same-length-2 c = search needs
-
-returns-2 : tie.Need-returns-2
-returns-2 c =
-    let k = c .before .before .before .before .before .before .before .before .before .pre in
-    bare-painted k (c .before .before .before .before .if1 .left) _ _ (c .before .before .paint-body .ensures)
+returns c =
+    let d = c .before .before .before .before .before .before .before .before .before .before in
+    let k = d .before .before .before .before .before .before .before .pre in
+    let b = d .before .before .config-borders .ensures in
+    block-painted k _ (b .0) (b .1) _ refl _ _ _ _ _ (d .paint-before .ensures) (c .before .before .before .before .before .before .paint-body .ensures) (c .before .before .paint-after .ensures)
 
 pub paint-block-spec : {M : Type 1} → statement M
 paint-block-spec =
     tie.close
     (tie.spec
-    paint-lined-requires
-    same-length
-    returns
+    config-borders-requires
+    paint-before-requires
     paint-body-requires
-    same-length-2
-    returns-2)
+    paint-after-requires
+    same-length
+    returns)

@@ -1,0 +1,45 @@
+-- The painter's steps: the marks before a body, the body, the marks after it.
+use mathlib.Core.Path.{_≡_}
+use Prim.Native.Nat.{ℕ, _+_, _*_, _≤_, _<_}
+use mathlib.Core.Bool.{Bool, true}
+use mathlib.Core.List.{List}
+use lib.ListN.{length}
+use lib.Seq.{sets}
+use Rattle.common.specs.Choice.{pick}
+use Rattle.sizes.specs.declared.Size.{Size}
+use Rattle.block.specs.declared.Begun.{Begun}
+use Rattle.block.specs.declared.borders.Borders.{Borders}
+use Rattle.block.specs.Paint.{pasted, Room}
+use Rattle.block.specs.Parts.{topOf, leftOf, rightOf, bottomOf}
+
+-- a block's columns with lines
+abbrev pub columnsIn : Borders → Size → ℕ
+columnsIn b z = 1 + (z .width + pick (b .right) 1 0)
+
+-- what the marks of a block ask for
+pub record Lined (b : Borders) (z : Size) (h v : List ℕ) (base stride len : ℕ) : Type 0 where
+  pub width-small : z .width < 65536
+  pub height-small : z .height < 65536
+  pub few-horizontal : length h ≤ 512
+  pub few-vertical : length v ≤ 512
+  pub apart : columnsIn b z ≤ stride
+  pub room : Room base stride (1 + (z .height + pick (b .bottom) 1 0)) (columnsIn b z) len
+
+-- the top line and the left marks are written, and the body begins behind them
+pub record Begins (lines : Bool) (b : Borders) (z : Size) (h v : List ℕ) (base stride : ℕ) (r : Begun) (o o′ : List ℕ) : Type 0 where
+  pub at-is : r .at ≡ base + pick lines (stride + 1) 0
+  pub next-is : lines ≡ true → r .next ≡ base + stride + z .height * stride
+  pub out-is : o′ ≡ pick lines (pasted (sets o base (topOf b (z .width) h)) (base + stride) stride (leftOf b (z .height) v)) o
+
+-- what the marks after the body ask for
+pub record Rest (b : Borders) (z : Size) (p : Begun) (stride len : ℕ) : Type 0 where
+  pub fits : p .at + z .width < 18446744073709551616
+  pub side : Room (p .at + z .width) stride (z .height) (pick (b .right) 1 0) len
+  pub below : b .bottom ≡ true → p .next + columnsIn b z ≤ len
+
+-- the right marks and the bottom line
+unfoldable pub endedOf : Bool → Borders → Size → ℕ → Begun → List ℕ → List ℕ
+unfolding pasted rightOf bottomOf
+endedOf lines b z stride p o =
+    let right = pasted o (p .at + z .width) stride (rightOf b (z .height)) in
+    pick lines (pick (b .bottom) (sets right (p .next) (bottomOf b (z .width))) right) o
