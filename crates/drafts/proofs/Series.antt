@@ -29,7 +29,7 @@ name-range n h = go (ltb n 65) (ltb n 73) refl refl h
     go false false e q h = let z : _≡_ {A = ℕ} 0 1 = cc in absurd (omega arith)
     go false true e q h = (ltb-false n 65 e, omega (arith, ltb-true n 73 q))
 
-name-tag : (n : ℕ) → isName n ≡ true → isTag (tagFor n) ≡ true
+pub name-tag : (n : ℕ) → isName n ≡ true → isTag (tagFor n) ≡ true
 unfolding isTag tagFor
 name-tag n h =
     let r = name-range n h in

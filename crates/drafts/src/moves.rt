@@ -1,8 +1,8 @@
 // Moves in a lent store.
 ghost use mathlib.Core.Path.{_≡_};
-ghost use Prim.Native.Nat.{_+_, _-_, _/_, _%_, _≤_};
+ghost use Prim.Native.Nat.{_+_, _-_, _≤_};
 ghost use mathlib.Core.List.{_++_};
-ghost use lib.ListN.{length, set, take, drop, replicate};
+ghost use lib.ListN.{length, take, drop, replicate};
 ghost use lib.Seq.{paste};
 ghost use Rattle.tree.specs.Accepted.{element};
 
@@ -63,21 +63,11 @@ pub fn copy_in(t: &[u8], s: &mut [u8], at: usize)
     }
 }
 
-// The front of a field of n bytes.
-fn put_front(s: &mut [u8], at: usize, tag: u8, n: usize)
-    requires { ⌜ at + 3 ≤ length (now s) ⌝ }
-    ensures { λ _. ⌜ now (s .exit) ≡ set (set (set (now (s .entry)) at tag) (at + 1) (n / 256 % 256)) (at + 2) (n % 256) ⌝ }
-{
-    s[at] = tag;
-    s[at + 1] = (n / 256 % 256) as u8;
-    s[at + 2] = (n % 256) as u8;
-}
-
 // A field of that tag with the bytes of `t`, over those from `at` on.
 pub fn put_field(s: &mut [u8], at: usize, tag: u8, t: &[u8])
     requires { ⌜ (at + (3 + length (now t)) ≤ length (now s)) × (length (now t) ≤ 65535) ⌝ }
     ensures { λ _. ⌜ now (s .exit) ≡ take at (now (s .entry)) ++ (element tag (now (t .entry)) ++ drop (at + (3 + length (now (t .entry)))) (now (s .entry))) ⌝ }
 {
-    put_front(s, at, tag, t.len());
+    tree::front::put_front(s, at, tag, t.len());
     copy_in(t, s, at + 3);
 }

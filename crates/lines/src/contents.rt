@@ -185,3 +185,25 @@ pub fn field(s: &[u8], k: usize) -> usize
     }
     at
 }
+
+// 1 where a number starts at place `i`, else 0.
+fn starts(s: &[u8], i: usize) -> usize
+    ensures { λ r. ⌜ r ≤ 1 ⌝ }
+{
+    if s.len() <= i || 9 < digit(s[i]) {
+        return 0;
+    }
+    if i == 0 || s[i - 1] == 32 { 1 } else { 0 }
+}
+
+// How many numbers the first field has.
+pub fn numbers(s: &[u8]) -> usize {
+    let end = find(s, b',');
+    let mut n: usize = 0;
+    let mut i: usize = 0;
+    while i < end {
+        n = n + starts(s, i);
+        i = i + 1;
+    }
+    n
+}

@@ -10,28 +10,6 @@ const MOST: usize = 300;
 // What an answer is before the call.
 const BEFORE: u64 = 77;
 
-// 1 where a number starts at place `i`, else 0.
-fn starts(s: &[u8], i: usize) -> usize
-    ensures { λ r. ⌜ r ≤ 1 ⌝ }
-{
-    if s.len() <= i || 9 < contents::digit(s[i]) {
-        return 0;
-    }
-    if i == 0 || s[i - 1] == 32 { 1 } else { 0 }
-}
-
-// How many numbers the first field has.
-fn numbers(s: &[u8]) -> usize {
-    let end = contents::find(s, b',');
-    let mut n: usize = 0;
-    let mut i: usize = 0;
-    while i < end {
-        n = n + starts(s, i);
-        i = i + 1;
-    }
-    n
-}
-
 // Number `k` of a field, or `most` where that is less.
 fn at_most(s: &[u8], k: usize, most: u64) -> u64
     ensures { λ r. ⌜ r ≤ most ⌝ }
@@ -64,7 +42,7 @@ fn turn(i: usize, n: usize) -> usize {
 
 // The places of the call, from those listed.
 fn put_places(s: &[u8], places: &mut [u64]) {
-    let listed = numbers(s) / 2;
+    let listed = contents::numbers(s) / 2;
     let mut i: usize = 0;
     while i < places.len() {
         places[i] = place_word(s, turn(i, listed));
@@ -74,7 +52,7 @@ fn put_places(s: &[u8], places: &mut [u64]) {
 
 // Whether the first n answers are those listed, and each other is what it was.
 fn hold(s: &[u8], n: usize, answers: &[u64]) -> bool {
-    let listed = numbers(s) / 3;
+    let listed = contents::numbers(s) / 3;
     let mut i: usize = 0;
     while i < answers.len() {
         let mut want = BEFORE;

@@ -1,6 +1,7 @@
 // The kinds of lines that ask for something.
 use crate::leaves;
 use crate::measures;
+use crate::papers;
 use crate::printers;
 use crate::readers;
 use lines::contents;
@@ -24,6 +25,7 @@ fn ask(kind: u8, settings: &[u8], tree: &[u8], node: usize, want: &[u8]) {
         b't' => readers::tree(tree, want),
         b'p' => place_lines::place(settings, tree, want),
         b'm' => place_lines::marks::marked(settings, tree, want),
+        b'b' => papers::blanked(tree, want),
         _ => tell::failed(b"unknown kind of line"),
     }
 }

@@ -11,10 +11,12 @@
 //   t the tree reader's number, and the node count
 //   p LINE COLUMN, then the number, the leaf's node, the line and the column inside its block, for that place of the printed sheet
 //   m many places and their answers together (place_lines/src/marks.rt)
+//   b the tree with texts blanked (papers.rt)
 mod fields;
 mod kinds;
 mod leaves;
 mod measures;
+mod papers;
 mod printers;
 mod readers;
 

@@ -84,7 +84,7 @@ unfoldable mutual
   planOf (tree.cell t) = Plan.cell t
   planOf (tree.group a ts) = Plan.group a (plansOf ts)
 
-  plansOf : Trees → Plans
+  pub plansOf : Trees → Plans
   plansOf tree.none = Plans.none
   plansOf (tree.more t ts) = Plans.more (planOf t) (plansOf ts)
 
@@ -102,7 +102,7 @@ mutual
 mutual
   unfolding planOf PlanIs Is
 
-  plan-is : (t : Tree) (s : List ℕ) → Is t s → PlanIs (planOf t) s
+  pub plan-is : (t : Tree) (s : List ℕ) → Is t s → PlanIs (planOf t) s
   plan-is (tree.cell text) s k = k
   plan-is (tree.group a ts) s k = (k .0, k .1, plans-are ts (contents s) (k .2))
 

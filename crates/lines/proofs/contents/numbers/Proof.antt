@@ -1,8 +1,8 @@
 use borrow.Author.Needs.{needs}
 use Prim.Native.Nat.{_-_, _≤_}
 use lib.ListN.{length}
-use Rattle.place_lines.proofs.marks.numbers.Statement.{statement}
-use Rattle.place_lines.proofs.marks.numbers.Tie as tie
+use Rattle.lines.proofs.contents.numbers.Statement.{statement}
+use Rattle.lines.proofs.contents.numbers.Tie as tie
 
 abbrev Inv-loop : tie.InvT-loop
 Inv-loop s end n₀ i₀ n i = (i ≤ end) × (end ≤ length s) × (n ≤ i)

@@ -1,8 +1,8 @@
 use native.Mathlib.Omega.{arith}
 use lib.ListN.{length-set}
 use borrow.Author.Needs.{needs}
-use Rattle.drafts.proofs.moves.put_front.Statement.{statement}
-use Rattle.drafts.proofs.moves.put_front.Tie as tie
+use Rattle.tree.proofs.front.put_front.Statement.{statement}
+use Rattle.tree.proofs.front.put_front.Tie as tie
 
 slice-write-s : tie.Need-slice-write-s
 slice-write-s c = search needs

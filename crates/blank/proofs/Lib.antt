@@ -1,0 +1,9 @@
+pub mod Lengths
+pub mod Flat
+pub mod Shown
+pub mod Naming
+pub mod Sweep
+pub mod Answered
+pub mod Exact
+pub mod Paper
+pub mod Calls

@@ -1,0 +1,4 @@
+pub mod Alike
+pub mod Blank
+pub mod Elements
+pub mod Promises

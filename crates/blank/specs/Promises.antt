@@ -1,0 +1,39 @@
+-- The words of the theorem about a blanked tree (document 02, 14).
+use mathlib.Core.Path.{_≡_}
+use Prim.Native.Nat.{ℕ, suc, _+_}
+use mathlib.Core.Bool.{Bool, false}
+use mathlib.Core.List.{List, [], _∷_, _++_, map}
+use lib.ListN.{length, getD, take}
+use Rattle.tree.specs.Tree.{Tree, Trees, cell, group, none, more, nodes}
+use Rattle.tree.specs.Reading.{ReadOne, readTree}
+use Rattle.blank.specs.Alike.{Alike}
+use Rattle.blank.specs.Blank.{blanked, dotsFor, Blanks}
+
+-- for each byte of the tree whose first node is n: whether it is in a text that is blanked
+unfoldable mutual
+  unfolding nodes
+
+  pub inTexts : (ℕ → Bool) → ℕ → Tree → List Bool
+  inTexts dots n (cell t) = false ∷ false ∷ false ∷ map (λ b. dots n) t
+  inTexts dots n (group a ts) = false ∷ false ∷ false ∷ inTexts* dots (suc n) ts
+
+  pub inTexts* : (ℕ → Bool) → ℕ → Trees → List Bool
+  inTexts* dots n none = []
+  inTexts* dots n (more t ts) = inTexts dots n t ++ inTexts* dots (n + nodes t) ts
+
+-- what was written
+abbrev pub blankWritten : Blanks → List ℕ
+blankWritten o = take (o .answer .count) (o .out)
+
+-- where the call answers 0
+pub record PaperOf (tree ns : List ℕ) (o : Blanks) : Type 0 where
+  pub tree-is : Tree
+  pub size : ℕ
+  pub count : ℕ
+  -- the tree was accepted, and so is what was written: as the tree with the named texts blanked
+  pub reads : readTree tree ≡ ReadOne.one tree-is size count
+  pub accepted : readTree (blankWritten o) ≡ ReadOne.one (blanked (dotsFor ns) 0 tree-is) size count
+  -- it is alike, of equal length, and equal outside those texts
+  pub alike : Alike tree-is (blanked (dotsFor ns) 0 tree-is)
+  pub same-length : length (blankWritten o) ≡ length tree
+  pub outside : (i : ℕ) → getD (inTexts (dotsFor ns) 0 tree-is) i false ≡ false → getD (blankWritten o) i 0 ≡ getD tree i 0

@@ -1,0 +1,48 @@
+// The texts of a tree's Cells blanked by dots (document 02, 14: the question paper).
+ghost use mathlib.Core.Path.{_≡_};
+ghost use Rattle.blank.specs.Blank.{blankOf};
+
+pub mod elements;
+pub mod names;
+
+// The number, and the bytes written.
+pub struct Blanked {
+    pub number: u8,
+    pub count: usize,
+}
+
+fn refuse(n: u8) -> Blanked
+    ensures { λ r. ⌜ r ≡ record { number = n; count = 0 } ⌝ }
+{
+    Blanked {
+        number: n,
+        count: 0,
+    }
+}
+
+// The tree with the texts of the Cells that `nodes` names, or of all where it names none, is written to the front of `out`.
+pub fn blank_texts(tree: &[u8], nodes: &[u16], out: &mut [u8]) -> Blanked
+    ensures { λ r. ⌜ r ≡ blankOf (now (tree .entry)) (now (nodes .entry)) (now (out .entry)) .answer ⌝ }
+    ensures written { λ _. ⌜ now (out .exit) ≡ blankOf (now (tree .entry)) (now (nodes .entry)) (now (out .entry)) .out ⌝ }
+{
+    let read = tree::read_tree(tree);
+    let number = read.number;
+    if number != 0 {
+        return refuse(number);
+    }
+    let cells = elements::find_cells(tree);
+    let named = names::name_cells(nodes, cells);
+    let ok = named.ok;
+    if ok {
+        if out.len() < tree.len() {
+            return refuse(8);
+        }
+        let dots = named.dots;
+        elements::put_elements(tree, dots, out);
+        return Blanked {
+            number: 0,
+            count: tree.len(),
+        };
+    }
+    refuse(9)
+}

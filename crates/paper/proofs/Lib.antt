@@ -1,0 +1,15 @@
+pub mod Recast
+pub mod Over
+pub mod Blocks
+pub mod Walks
+pub mod Masks
+pub mod Sheets
+pub mod Shapes
+pub mod Pairs
+pub mod Calls
+pub mod Printed
+pub mod Exact
+pub mod Drafts
+pub mod Bytes
+pub mod Blanked
+pub mod Exported
