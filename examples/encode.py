@@ -70,6 +70,21 @@ NAME, REMARK = plan(4, 20, 1, 1), plan(0, 16, 1, 3)
 
 LATE = column("Survey 18, waypoints to come", row("1", "Home pad", "take off\nhold 10 s"), row("2", NAME, REMARK), row("3", NAME, REMARK), row("4", "Home pad", "land"))
 
+
+def dots(text):
+    return "".join(c if c == "\n" else "." for c in text)
+
+
+def written_test(answer):
+    """With `str` its key, where each answer stands as it is; with `dots` its question paper, where it is blanked."""
+    return column(
+        row("Drone pilots, written test 4", "name:"),
+        row("1", "Best rate of climb of K-2?", answer("54 kt")),
+        row("2", "How high over the dam, and why?", answer("40 m:\nthe mast is 32 m high")),
+        row("3", "Wind limits of K-2?", column(row("steady", answer("8 m/s")), row("gusts", answer("12 m/s")))),
+    )
+
+
 EXAMPLES = {
     "flight": (settings(width=LIST), FLIGHT),
     "centred": (settings(marks=b"=_()hv/\\T[]*<>#", padding=(2, 2, 1, 1), fills=b".. .", horizontal=1, vertical=1, line_mode=1, width=LIST), FLIGHT),
@@ -79,6 +94,8 @@ EXAMPLES = {
     "list": (settings(), column(*(f"{n} {leg}" for n, leg in enumerate(LEGS, 1)))),
     "blank": (settings(padding=(0, 0, 0, 0), width=LIST), row("leg 1", "")),
     "tablet": (settings(marks=NO_LINES), FLIGHT),
+    "key": (settings(margin=(4, 0, 0, 0)), written_test(str)),
+    "paper": (settings(margin=(4, 0, 0, 0)), written_test(dots)),
     "refused": (settings(), row(*(f"leg {n}" for n in range(1, 47)))),
 }
 

@@ -17,7 +17,7 @@
  *   6   over 400 columns or 160 lines, the margin included   16   a cell is wider than the given width
  *   7   never occurs any more; the number is kept free       17   a range with a least above its greatest, or no line
  *   8   a lent list is shorter than needed                   18   a store of drafts not of the form
- *   9   the number names no leaf                             19   a name other than A to H, or one without a draft
+ *   9   the number names no leaf; to leg_blank: no Cell      19   a name other than A to H, or one without a draft
  *  10   split list count over 512                            20   no room in a store beside its other drafts
  *
  * Settings, trees and stores are bytes (hex below). docs/FORMS.md has them with pictures, examples and the meaning of each; examples/build.c builds a tree.
@@ -43,6 +43,10 @@
  * The root ends where the bytes end. Nodes are numbered from 0 in the order of their tags. Column[`ab`, `c`]: 03 00 09 01 00 02 61 62 01 00 01 63.
  * A planning tree, which leg_plan alone takes (to every other function the tag is unknown), has for texts that are to come also
  *   04 range, 4 bytes: the least and the greatest width of the text, the least and the greatest count of its lines (1 or more)
+ *
+ * Two trees are alike where they differ only inside Cells' texts, each text having in both the same number of lines, line for line of the same length: as a key and its question
+ * paper (leg_blank). With all other arguments equal, alike trees without a forbidden text byte get the same word from every function, and the same numbers in every list. Sheets
+ * and blocks, stores that keep such trees, and trees that are returned or blanked, are then the same but for the texts' own bytes: those of the lines themselves, where they stand.
  *
  * A store of drafts, of any length: fields back to back, then 00 to its end; bytes that are all 00 are a store without a draft. A field is a tag, 20 to 27, the length of
  * its contents in two bytes, the high one first, and its contents, a tree. Draft 'A', byte 41, has tag 20, and so on to 'H', byte 48, with tag 27; each stands there
@@ -156,6 +160,11 @@ uint64_t leg_forget_draft(uint8_t *store, size_t store_len, uint8_t name);
 /* Returns to a draft: copies its tree to `out`. 18, 19; 8 where `out` has fewer bytes. After any calls of these three on a store that was all 00, this is the tree of the
  * last accepted save under the name, unless it was forgotten since. Counts the bytes copied. */
 uint64_t leg_return_draft(const uint8_t *store, size_t store_len, uint8_t name, uint8_t *out, size_t out_len);
+
+/* The question paper of a key: writes the tree to `out` with the texts of some Cells blanked. Each byte of such a text other than 0A is a dot, 2E; all else is as it was.
+ * `nodes` has the numbers of these Cells, in any order, repeats allowed; without a number every Cell is blanked. 2 to 5; 9 where a number names no Cell: it is past the last
+ * node, or of a Row or a Column, also of an empty one; 8 last, where `out` has under `tree_len` bytes. What is written is a tree alike to this one. Counts `tree_len`. */
+uint64_t leg_blank(const uint8_t *tree, size_t tree_len, const uint16_t *nodes, size_t nodes_len, uint8_t *out, size_t out_len);
 
 /* Cuts the list of the first `count` of `pieces` at `w`; numbers past them are not looked at. 10; 8 where `pieces` has under `count` numbers or `out` under
  * LEG_CUT. Writes yes or no (1 or 0); the cut's pair: how many pieces it took, and the length left of the first piece not taken, 0 if there is none or it

@@ -299,6 +299,12 @@ impl Calls for Library {
         Counted { number, count }
     }
 
+    fn blank(&mut self, tree: &[u8], nodes: &[u16], output: &mut [u8]) -> Counted {
+        let write = |out: &mut [u8]| calls::blank(tree, nodes, out);
+        let (number, count) = lent::between(output, write);
+        Counted { number, count }
+    }
+
     fn short_splits3(&mut self, list: &SplitList, width: u16) -> CutParts {
         let writes = Writes {
             left: false,

@@ -347,6 +347,26 @@ pub fn return_draft(store: &[u8], name: u8, out: &mut [u8]) -> Result<usize, Ref
     })
 }
 
+/// Writes a tree with the texts of some Cells blanked, and counts its bytes: each byte of such a text other than a line feed is a dot, everything else is as it was. `nodes`
+/// has the Cells' node numbers, in any order, repeats allowed; where it has none, every Cell is blanked. What is written is a tree alike to this one: of the same length, and
+/// with the same sheet outside the texts' own bytes.
+///
+/// # Errors
+/// 2 to 5; 9 where a number names no Cell; 8 where `out` has fewer bytes than the tree.
+pub fn blank(tree: &[u8], nodes: &[u16], out: &mut [u8]) -> Result<usize, Refusal> {
+    // SAFETY: pointers and lengths of slices that are borrowed here.
+    answer(unsafe {
+        raw::leg_blank(
+            tree.as_ptr(),
+            tree.len(),
+            nodes.as_ptr(),
+            nodes.len(),
+            out.as_mut_ptr(),
+            out.len(),
+        )
+    })
+}
+
 /// Cuts the list of the first `count` pieces at `width` and writes [`CUT`] numbers.
 ///
 /// # Errors

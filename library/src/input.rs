@@ -143,6 +143,14 @@ impl<'a> Input<'a> {
             .map(|(node, letters)| Need::from_numbers(node, letters))
             .collect())
     }
+
+    /// The tree's bytes with the texts of these Cells blanked, of every Cell where none is named. The settings are not looked at.
+    ///
+    /// # Errors
+    /// 2 to 5, 9.
+    pub fn blank(self, nodes: &[usize]) -> Result<Vec<u8>, Refusal> {
+        tree::blanked(self.tree, nodes)
+    }
 }
 
 /// What a printer writes, lent enough for the largest sheet.

@@ -47,7 +47,7 @@ pub use refusal::Refusal;
 pub use settings::{Alignment, Marks, Priority, Settings, Sides};
 pub use tree::Tree;
 pub use values::{
-    fold, leaf_record, place, places, plan, print_leaf, print_sheet, share, short_splits,
+    blank, fold, leaf_record, place, places, plan, print_leaf, print_sheet, share, short_splits,
     short_splits3, short_splits3_in_place, sizes, widen,
 };
 

@@ -127,6 +127,15 @@ extern "C" {
         out_len: usize,
     ) -> u64;
 
+    pub fn leg_blank(
+        tree: *const u8,
+        tree_len: usize,
+        nodes: *const u16,
+        nodes_len: usize,
+        out: *mut u8,
+        out_len: usize,
+    ) -> u64;
+
     pub fn leg_short_splits3(
         pieces: *const u16,
         pieces_len: usize,

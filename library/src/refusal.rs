@@ -61,7 +61,7 @@ refusals! {
     5 TooDeep "the tree is more than 16 deep",
     6 TooLarge "the sheet has over 400 columns or over 160 lines",
     8 TooShort "a lent list or output is shorter than needed",
-    9 NoLeaf "the number names no leaf",
+    9 NoLeaf "the number names no leaf, or no Cell where texts are blanked",
     10 TooManyPieces "the split list has over 512 pieces",
     11 NoChild "there are no children to share among, or the index is past them",
     12 OutsideSheet "the line or column is outside the printed sheet",

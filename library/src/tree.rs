@@ -129,6 +129,18 @@ pub(crate) fn put(bytes: &mut Vec<u8>, tag: u8, contents: impl FnOnce(&mut Vec<u
     bytes[start - 2..start].copy_from_slice(&length.to_be_bytes());
 }
 
+/// The bytes of a tree with the texts of these Cells blanked, of every Cell where none is named.
+///
+/// A number past 16 bits is put as the greatest of 16 bits: neither names a Cell.
+pub(crate) fn blanked(tree: &[u8], nodes: &[usize]) -> Result<Vec<u8>, Refusal> {
+    let number = |&node: &usize| u16::try_from(node).unwrap_or(u16::MAX);
+    let nodes: Vec<u16> = nodes.iter().map(number).collect();
+    let mut out = vec![0; tree.len()];
+    let count = calls::blank(tree, &nodes, &mut out)?;
+    out.truncate(count);
+    Ok(out)
+}
+
 /// Takes so many bytes off the front.
 fn take<'a>(bytes: &mut &'a [u8], count: usize) -> Result<&'a [u8], Refusal> {
     let (front, rest) = bytes.split_at_checked(count).ok_or(Refusal::BadTree)?;

@@ -9,7 +9,7 @@ use crate::records::{
 };
 use crate::refusal::Refusal;
 use crate::settings::{Priority, Settings};
-use crate::tree::Tree;
+use crate::tree::{self, Tree};
 
 /// The call on the bytes of both.
 fn on_bytes<T>(
@@ -218,6 +218,28 @@ pub fn plan(settings: &Settings, plan: &Plan) -> Result<Planned, Refusal> {
 /// 2 to 5.
 pub fn widen(settings: &Settings, tree: &Tree) -> Result<Vec<Need>, Refusal> {
     on_bytes(settings, tree, |input| input.widen())
+}
+
+/// The question paper of a key: the tree with the texts of these Cells, by their node numbers, blanked with dots; of every Cell where none is named. Line feeds stay, so that
+/// the two trees are alike: under equal settings they are refused alike, and their sheets agree at every byte outside the texts.
+///
+/// ```
+/// use leg_sheet::{blank, print_sheet, Refusal, Settings, Tree};
+///
+/// let key = Tree::column(["Q1: Vy?".into(), Tree::row(["54 kt", "6 s"])]);
+/// let paper = blank(&key, &[3, 4])?;
+/// assert_eq!(paper, Tree::column(["Q1: Vy?".into(), Tree::row([".....", "..."])]));
+///
+/// let sheet = |tree: &Tree| print_sheet(&Settings::default(), tree);
+/// assert_eq!(sheet(&paper)?, sheet(&key)?.replace("54 kt", ".....").replace("6 s", "..."));
+/// assert_eq!(blank(&key, &[2]), Err(Refusal::NoLeaf));
+/// # Ok::<(), Refusal>(())
+/// ```
+///
+/// # Errors
+/// 2 to 5, 9.
+pub fn blank(tree: &Tree, nodes: &[usize]) -> Result<Tree, Refusal> {
+    Tree::from_bytes(&tree::blanked(&tree.unread(), nodes)?)
 }
 
 /// Cuts a list of pieces at a width, a line between neighbours.

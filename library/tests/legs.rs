@@ -63,6 +63,10 @@ fn prints() {
         &["print", "tablet.legs"],
         include_str!("../../examples/tablet.txt"),
     );
+    answers(
+        &["print", "key.legs"],
+        include_str!("../../examples/key.txt"),
+    );
 }
 
 #[test]
@@ -284,6 +288,53 @@ fn widen() {
     let (_, message, status) = said(&["widen", "-"], &DEFAULTS[..]);
     assert!(message.contains("standard input: refused 2"), "{message}");
     assert_eq!(status, Some(1));
+}
+
+/// The question paper of a key, which is a file as the key is: its settings with a margin as they are, its answers blanked.
+#[test]
+fn blank() {
+    let key = include_bytes!("../../examples/key.legs");
+    let paper = include_bytes!("../../examples/paper.legs");
+    let blanked = |words: &[&str], input: &[u8]| {
+        let output = legs(words, input);
+        assert_eq!((output.stderr.len(), output.status.code()), (0, Some(0)));
+        output.stdout
+    };
+    assert_eq!(
+        blanked(&["blank", "key.legs", "7", "11", "18", "21"], b""),
+        paper
+    );
+    let words = ["blank", "-", "21", "7", "18", "11", "7"];
+    assert_eq!(blanked(&words, key), paper);
+    let printed = said(&["print", "-"], paper);
+    let sheet = include_str!("../../examples/paper.txt");
+    assert_eq!(printed, (sheet.into(), String::new(), Some(0)));
+
+    // Without a number every text is blanked, and nothing else.
+    let all = blanked(&["blank", "figure2.legs"], b"");
+    let dotted = FIGURE_2.replace(|byte: char| byte.is_ascii_lowercase(), ".");
+    let printed = said(&["print", "-"], &all);
+    assert_eq!(printed, (dotted, String::new(), Some(0)));
+    // A sheet that is too large has its paper, too.
+    let large = blanked(&["blank", "refused.legs", "1"], b"");
+    assert_eq!(large[..31], DEFAULTS[..]);
+    assert_eq!(large[31..42], *b"\x02\x01\x95\x01\x00\x05.....");
+}
+
+#[test]
+fn blanks_are_refused() {
+    let no_cell = "refused 9: the number names no leaf, or no Cell where texts are blanked";
+    for node in ["0", "1", "22", "65543", "18446744073709551615"] {
+        let message = format!("key.legs: {no_cell}");
+        fails(&["blank", "key.legs", "7", node], &message, 1);
+    }
+    let (_, message, status) = said(&["blank", "flight.plan", "0"], b"");
+    assert!(message.contains("flight.plan: refused 2: "), "{message}");
+    assert_eq!(status, Some(1));
+    let empty = "standard input: refused 1: the settings are not of their form or ranges";
+    fails(&["blank", "-"], empty, 1);
+    let missing = "none.legs: No such file or directory (os error 2)";
+    fails(&["blank", "none.legs"], missing, 3);
 }
 
 /// A folder for one test, which goes with it.
@@ -533,7 +584,8 @@ fn check_looks_at_a_tree_behind_bad_settings() {
 fn refusals_are_messages() {
     let wide = "refused.legs: refused 6: the sheet has over 400 columns or over 160 lines";
     fails(&["print", "refused.legs"], wide, 1);
-    let group = "figure2.legs: refused 9: the number names no leaf";
+    let group =
+        "figure2.legs: refused 9: the number names no leaf, or no Cell where texts are blanked";
     fails(&["leaf", "figure2.legs", "0"], group, 1);
     let outside = "figure2.legs: refused 12: the line or column is outside the printed sheet";
     fails(&["place", "figure2.legs", "5", "0"], outside, 1);
@@ -558,6 +610,7 @@ fn help() {
         "fold FILE WIDTH [BUDGET]",
         "plan FILE",
         "widen FILE",
+        "blank FILE [NODE..]",
         "check FILE",
         "draft new STORE BYTES",
         "draft save STORE NAME FILE",
@@ -614,6 +667,8 @@ fn usage() {
     fails(&["plan"], "legs plan FILE");
     fails(&["plan", "a", "b"], "legs plan FILE");
     fails(&["widen"], "legs widen FILE");
+    fails(&["blank"], "legs blank FILE [NODE..]");
+    fails(&["blank", "a", "7", "x"], "\"x\" is no number from 0 on");
     fails(
         &["fold", "list.legs", "60", "x"],
         "\"x\" is no number from 0 on",

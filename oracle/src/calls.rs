@@ -225,6 +225,9 @@ pub trait Calls {
     /// Copies a draft's tree out. Answers its bytes.
     fn return_draft(&mut self, store: &[u8], name: u8, output: &mut [u8]) -> Counted;
 
+    /// Writes the tree with the texts of these Cells blanked, of all where none is named. Answers its bytes.
+    fn blank(&mut self, tree: &[u8], nodes: &[u16], output: &mut [u8]) -> Counted;
+
     fn short_splits3(&mut self, list: &SplitList, width: u16) -> CutParts;
 
     fn short_splits(&mut self, list: &SplitList, width: u16) -> CutPositions;

@@ -1,6 +1,8 @@
 //! Two sides on the same inputs: every number, every field, and every lent entry, written or not.
 
+mod alike;
 mod bare;
+mod blanks;
 mod drafts;
 
 use std::collections::BTreeMap;
@@ -54,8 +56,8 @@ impl Counts {
     }
 }
 
-/// The numbers that each call can give, by the documents' tables.
-pub const NUMBERS: [(&str, &[u8]); 19] = [
+/// The numbers that each call can give, by the documents' tables; and those that it can give to alike trees, whose texts have no forbidden byte.
+pub const NUMBERS: [(&str, &[u8]); 34] = [
     ("settings", &[0, 1]),
     ("margin", &[0, 1]),
     ("tree", &[0, 2, 3, 4, 5]),
@@ -71,10 +73,25 @@ pub const NUMBERS: [(&str, &[u8]); 19] = [
     ("save", &[0, 2, 3, 4, 5, 18, 19, 20]),
     ("forget", &[0, 18, 19]),
     ("return", &[0, 8, 18, 19]),
+    ("blank", &[0, 2, 3, 4, 5, 8, 9]),
     ("short_splits3", &[0, 10]),
     ("short_splits3, lent", &[0, 10]),
     ("short_splits", &[0, 10]),
     ("share", &[0, 11]),
+    ("alike: tree", &[0, 2, 4, 5]),
+    ("alike: sizes", &[0, 1, 2, 4, 5, 8]),
+    ("alike: leaf record", &[0, 1, 2, 4, 5, 6, 9]),
+    ("alike: leaf", &[0, 1, 2, 4, 5, 6, 8, 9]),
+    ("alike: sheet", &[0, 1, 2, 4, 5, 6, 8]),
+    ("alike: place", &[0, 1, 2, 4, 5, 6, 12, 13]),
+    ("alike: places", &[0, 1, 2, 4, 5, 6, 8, 12, 13, 14]),
+    ("alike: fold", &[0, 1, 2, 4, 5, 8, 15, 16]),
+    ("alike: plan", &[0, 1, 2, 4, 5, 17]),
+    ("alike: widen", &[0, 1, 2, 4, 5, 8]),
+    ("alike: save", &[0, 2, 4, 5, 18, 19, 20]),
+    ("alike: forget", &[0, 18, 19]),
+    ("alike: return", &[0, 8, 18, 19]),
+    ("alike: blank", &[0, 2, 4, 5, 8, 9]),
 ];
 
 impl fmt::Display for Counts {
@@ -104,7 +121,7 @@ pub type Part = (
     fn(&mut Comparison, &mut Rng, usize) -> Result<(), Difference>,
 );
 
-/// The parts with lines; those without are in `bare`.
+/// The parts with lines; those without are in `bare`, those of document 02, 14, in `blanks` and `alike`.
 const PARTS: [Part; 26] = [
     ("settings records", |c, _, _| c.settings_records()),
     ("short and faulty trees", |c, _, _| c.faulty_trees()),
@@ -168,7 +185,8 @@ const PARTS: [Part; 26] = [
 
 /// Every part.
 pub fn parts() -> impl Iterator<Item = Part> {
-    PARTS.into_iter().chain(bare::PARTS)
+    let first = PARTS.into_iter().chain(bare::PARTS);
+    first.chain(blanks::PARTS).chain(alike::PARTS)
 }
 
 fn bytes(bytes: &[u8]) -> String {

@@ -1,5 +1,6 @@
 //! Inputs: exhaustive small ones, random ones, those on each side of each limit, damaged ones.
 
+pub mod alike;
 pub mod stores;
 
 use crate::form::{

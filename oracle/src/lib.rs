@@ -1,6 +1,8 @@
 //! The oracle: what tabled 0.22.0's `PoolTable` answers, what documents 01 and 02 answer, and inputs to hold them side by side. README says more.
 
 pub mod bare;
+pub mod blanking;
+pub mod blanks;
 pub mod calls;
 pub mod compare;
 pub mod drafting;

@@ -285,6 +285,15 @@ impl Lines {
         self.line('r', &format!("{name} {room}, {number} {count}, {copied}"));
     }
 
+    /// A tree with the texts of these nodes blanked: the room, and the nodes; then the number and the count, and the bytes written.
+    pub fn blank(&mut self, room: usize, nodes: &[u16]) {
+        let mut output = vec![0; room];
+        let Counted { number, count } = self.original.blank(&self.tree, nodes, &mut output);
+        let nodes: String = nodes.iter().map(|node| format!(" {node}")).collect();
+        let written = escaped(&output[..count]);
+        self.line('b', &format!("{room}{nodes}, {number} {count}, {written}"));
+    }
+
     pub fn both(&mut self, node: usize) {
         self.leaf(node);
         self.sheet();

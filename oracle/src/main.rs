@@ -6,7 +6,7 @@ use std::process::ExitCode;
 use oracle::calls::Calls;
 use oracle::compare::Comparison;
 use oracle::sides::{Answers, Crate, Original, Paper};
-use oracle::{bare, drafts, folds, judge, places, plans, replay, widths};
+use oracle::{bare, blanks, drafts, folds, judge, places, plans, replay, widths};
 
 const USAGE: &str = "oracle sheet             the sheet, as the sheet program prints it
 oracle leaves            every node's sizes, every leaf's record and block
@@ -19,7 +19,8 @@ oracle folds SEED        folded lists as lines for the program crates/call_tests
 oracle plans SEED        planning trees as lines for the same program
 oracle widths SEED       the letters that widen a sheet, for it too
 oracle drafts SEED       drafts saved, forgotten and returned to, for it too
-oracle bare-calls SEED   lists, planning trees and letters without lines, for it too";
+oracle bare-calls SEED   lists, planning trees and letters without lines, for it too
+oracle blanks SEED       trees with their texts blanked as lines for the program crates/paper_tests";
 
 fn main() -> ExitCode {
     let arguments: Vec<String> = std::env::args().skip(1).collect();
@@ -36,6 +37,7 @@ fn main() -> ExitCode {
         ["widths", seed] => replayed(seed, widths::lines),
         ["drafts", seed] => replayed(seed, drafts::lines),
         ["bare-calls", seed] => replayed(seed, bare::calls),
+        ["blanks", seed] => replayed(seed, blanks::lines),
         ["agree", ref rest @ ..] if rest.len() <= 2 => {
             let mut numbers = rest.iter().map(|word| word.parse::<u64>());
             let seed = numbers.next().unwrap_or(Ok(1));

@@ -328,29 +328,35 @@ fn indent(alignment: u8, slack: usize) -> usize {
     }
 }
 
-/// The lines of the indent above the padding and the text, and of the one below.
-fn indents(settings: &Settings, leaf: &Leaf, text: &[u8]) -> (usize, usize) {
+/// The lines of the indent above the padding and the text, and of the one below, in a leaf of this height.
+fn indents(settings: &Settings, height: usize, text: &[u8]) -> (usize, usize) {
     let [_, _, top, bottom] = padding(settings);
-    let slack = leaf.height - top - bottom - count(text);
+    let slack = height - top - bottom - count(text);
     let before = indent(settings.vertical, slack);
     (before, slack - before)
+}
+
+/// Where a line of a text begins between the marks of a leaf of this width: behind the left fill and the indent. 'Line mode 0 indents all lines as the widest; 1 each by its
+/// own width.'
+fn line_start(settings: &Settings, leaf: usize, text: &[u8], line: &[u8]) -> usize {
+    let [left, right, _, _] = padding(settings);
+    let widest = if settings.line_mode == 0 {
+        width(text)
+    } else {
+        line.len()
+    };
+    left + indent(settings.horizontal, leaf - left - right - widest)
 }
 
 /// What stands between the marks, line by line: 'top indent (spaces), top padding (its fill), text, bottom padding, bottom indent'.
 fn body(settings: &Settings, leaf: &Leaf, text: &[u8]) -> Vec<Vec<u8>> {
     let [pad_left, pad_right, pad_top, pad_bottom] = padding(settings);
     let [fill_left, fill_right, fill_top, fill_bottom] = settings.fills;
-    let (above, below) = indents(settings, leaf, text);
+    let (above, below) = indents(settings, leaf.height, text);
     let plain = |byte: u8, count: usize| vec![vec![byte; leaf.width]; count];
-    let room = leaf.width - pad_left - pad_right;
     let line = |line: &[u8]| {
-        let widest = if settings.line_mode == 0 {
-            width(text)
-        } else {
-            line.len()
-        };
         let mut columns = vec![b' '; leaf.width];
-        let start = pad_left + indent(settings.horizontal, room - widest);
+        let start = line_start(settings, leaf.width, text, line);
         columns[..pad_left].fill(fill_left);
         columns[start..start + line.len()].copy_from_slice(line);
         columns[leaf.width - pad_right..].fill(fill_right);
@@ -537,13 +543,63 @@ pub fn owners(settings: &Settings, tree: &Tree, answer: &Answer) -> Owners {
     owners
 }
 
+/// A line of a text where it stands in a block, or in the sheet as printed: 'the texts' own bytes' (document 02, 14). Padding, indent and the spaces after a line are none.
+#[derive(Debug, Clone, Copy, PartialEq, Eq)]
+pub struct Own<'a> {
+    pub line: usize,
+    /// Of its first byte.
+    pub column: usize,
+    pub bytes: &'a [u8],
+}
+
+/// The lines of a leaf's text where they stand in its block; those without a byte are nowhere.
+fn own_of_leaf<'a>(settings: &Settings, size: Size, text: &'a [u8]) -> Vec<Own<'a>> {
+    let edge = separator(settings);
+    let (above, _) = indents(settings, size.allotted_height, text);
+    let first = edge + above + padding(settings)[2];
+    let own = |(at, bytes): (usize, &'a [u8])| Own {
+        line: first + at,
+        column: edge + line_start(settings, size.allotted_width, text, bytes),
+        bytes,
+    };
+    let numbered = lines(text).into_iter().enumerate();
+    let some = numbered.filter(|(_, line)| !line.is_empty());
+    some.map(own).collect()
+}
+
+/// The texts' own bytes of a leaf's block.
+pub fn own_of_block<'a>(settings: &Settings, tree: &'a Tree, node: usize) -> Vec<Own<'a>> {
+    let nodes = Nodes::of(tree);
+    let size = sizes_of(settings, &nodes)[node];
+    own_of_leaf(settings, size, nodes.text(node))
+}
+
+/// The texts' own bytes of the sheet as printed, margin included: leaf by leaf, line by line.
+pub fn own_of_sheet<'a>(settings: &Settings, tree: &'a Tree) -> Vec<Own<'a>> {
+    let nodes = Nodes::of(tree);
+    let sizes = sizes_of(settings, &nodes);
+    let starts = starts(settings, &nodes, &sizes);
+    let [left, _, top, _] = settings.margin.sizes.map(usize::from);
+    let leaves = (0..sizes.len()).filter(|&node| nodes.is_leaf(node));
+    let placed = leaves.flat_map(|node| {
+        let (line, column) = starts[node];
+        let own = own_of_leaf(settings, sizes[node], nodes.text(node));
+        own.into_iter().map(move |own| Own {
+            line: top + line + own.line,
+            column: left + column + own.column,
+            ..own
+        })
+    });
+    placed.collect()
+}
+
 /// Before which lines of a block 'the crate puts one extra blank' without lines, 'for a leaf with vertical splits .. before some indent and padding lines' (document 02, 13):
 /// those that the squashed vertical list names, up to the first text line that it names.
 fn blanks(settings: &Settings, leaf: &Leaf, text: &[u8]) -> Vec<usize> {
     if separator(settings) == 1 {
         return Vec::new();
     }
-    let first = indents(settings, leaf, text).0 + padding(settings)[2];
+    let first = indents(settings, leaf.height, text).0 + padding(settings)[2];
     let texts = first..first + count(text);
     let named = cut(&leaf.vertical, leaf.height).squashed.into_iter();
     let printed = named.filter(|&line| line < leaf.height);

@@ -1,4 +1,5 @@
-//! Two sides of the calls: the crate and the documents. Both refuse as the judge says, and keep drafts as `drafting` does: the crate has none.
+//! Two sides of the calls: the crate and the documents. Both refuse as the judge says, keep drafts as `drafting` does and blank texts as `blanking` does: the crate has
+//! neither.
 
 use crate::calls::{
     Calls, Counted, CutParts, CutPositions, Folded, LeafPlace, LeafRecord, Marked, Planned,
@@ -9,7 +10,7 @@ use crate::form::{
     Answer, Cut, Cut3, CutPair, Ends, Flags, Fold, Need, Owner, Owners, Plan, Settings, Tree,
 };
 use crate::judge;
-use crate::{drafting, original, paper, planning, widening};
+use crate::{blanking, drafting, original, paper, planning, widening};
 
 /// Where the answers of a side come from; the refusals are the judge's.
 pub trait Answers {
@@ -481,6 +482,13 @@ impl<A: Answers> Calls for Side<A> {
 
     fn return_draft(&mut self, store: &[u8], name: u8, output: &mut [u8]) -> Counted {
         match drafting::returned(store, name, output.len()) {
+            Ok(tree) => write(&tree, output),
+            Err(number) => Counted { number, count: 0 },
+        }
+    }
+
+    fn blank(&mut self, tree: &[u8], nodes: &[u16], output: &mut [u8]) -> Counted {
+        match blanking::blanked(tree, nodes, output.len()) {
             Ok(tree) => write(&tree, output),
             Err(number) => Counted { number, count: 0 },
         }

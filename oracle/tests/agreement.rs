@@ -2,7 +2,7 @@
 
 mod faulty;
 
-use faulty::lines;
+use faulty::{blanks, lines};
 use oracle::calls::{
     Calls, Counted, CutParts, CutPositions, Folded, LeafPlace, LeafRecord, Marked, Planned,
     ReadMargin, ReadSettings, Shared, SizeRecord, SplitList,
@@ -96,6 +96,28 @@ fn drafts() {
     agree(|comparison| comparison.any_stores(&mut Rng::new(31), 400));
 }
 
+#[test]
+fn blanked() {
+    agree(|comparison| comparison.small_blanks(4));
+    agree(|comparison| comparison.blanks(&mut Rng::new(32), 100));
+    agree(|comparison| comparison.any_blanks(&mut Rng::new(33), 400));
+}
+
+/// Alike trees (document 02, 14), with lines and without.
+#[test]
+fn alike() {
+    let (few, bare) = (gen::few_settings(), gen::bare_settings());
+    agree(|comparison| {
+        comparison.small_alike(&mut Rng::new(34), 3, &[few.clone(), bare.clone()].concat())
+    });
+    for rng in [Rng::new(35), Rng::new(35).bare()] {
+        agree(|comparison| comparison.alike(&mut rng.clone(), 200));
+        agree(|comparison| comparison.near_alike(&mut rng.clone(), 1));
+    }
+    agree(|comparison| comparison.alike_series(&mut Rng::new(36), 60));
+    agree(|comparison| comparison.alike_stores(&mut Rng::new(37), 400));
+}
+
 /// The same without lines (document 02, 13).
 #[test]
 fn bare() {
@@ -148,6 +170,11 @@ fn every_number_is_reached() {
             .and_then(|()| comparison.any_plans(&mut rng.clone(), 400))
             .and_then(|()| comparison.any_needs(&mut rng.clone(), 400))
             .and_then(|()| comparison.any_stores(&mut rng.clone(), 400))
+            .and_then(|()| comparison.any_blanks(&mut rng.clone(), 400))
+            .and_then(|()| comparison.alike(&mut rng.clone(), 400))
+            .and_then(|()| comparison.near_alike(&mut rng.clone(), 1))
+            .and_then(|()| comparison.alike_series(&mut rng.clone(), 60))
+            .and_then(|()| comparison.alike_stores(&mut rng.clone(), 400))
             .and_then(|()| comparison.lists(&mut rng.clone(), 10))
             .and_then(|()| comparison.shares(&mut rng.clone(), 3));
         run.expect("a side agrees with itself");
@@ -243,7 +270,7 @@ struct Faulty {
     fault: u8,
 }
 
-const FAULTS: u8 = lines::LAST + 1;
+const FAULTS: u8 = blanks::LAST + 1;
 
 /// The judge's numbers with the margin and without it: whether only the margin makes a sheet too large.
 fn is_large_by_margin(number: u8, settings: &[u8], tree: &[u8]) -> bool {
@@ -764,6 +791,10 @@ impl Calls for Faulty {
         }
     }
 
+    fn blank(&mut self, tree: &[u8], nodes: &[u16], output: &mut [u8]) -> Counted {
+        blanks::blank(self.fault, tree, nodes, output)
+    }
+
     fn short_splits3(&mut self, list: &SplitList, width: u16) -> CutParts {
         let mut answer = self.paper.short_splits3(list, width);
         match self.fault {
@@ -843,6 +874,13 @@ fn without_lines(comparison: &mut Comparison) -> Result<(), Difference> {
     comparison.mixtures()
 }
 
+/// A comparison of the call that blanks.
+fn with_blanks(comparison: &mut Comparison) -> Result<(), Difference> {
+    comparison.small_blanks(3)?;
+    comparison.blanks(&mut Rng::new(18), 50)?;
+    comparison.any_blanks(&mut Rng::new(18), 50)
+}
+
 /// The comparison finds each fault, and nothing without one.
 #[test]
 fn faults_are_found() {
@@ -851,7 +889,10 @@ fn faults_are_found() {
         let (mut one, mut other) = (Paper::default(), Faulty { paper, fault });
         let mut comparison = Comparison::new(&mut one, &mut other);
         let run = match fault {
-            FAULTS => with_lines(&mut comparison).and_then(|()| without_lines(&mut comparison)),
+            FAULTS => with_lines(&mut comparison)
+                .and_then(|()| without_lines(&mut comparison))
+                .and_then(|()| with_blanks(&mut comparison)),
+            blanks::FIRST.. => with_blanks(&mut comparison),
             lines::FIRST.. => without_lines(&mut comparison),
             _ => with_lines(&mut comparison),
         };

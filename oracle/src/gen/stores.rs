@@ -102,7 +102,7 @@ fn contents(rng: &mut Rng) -> Vec<u8> {
 }
 
 /// Up to eight drafts of different names, in any order.
-fn drafts(rng: &mut Rng) -> Vec<Draft> {
+pub fn drafts(rng: &mut Rng) -> Vec<Draft> {
     let mut names = NAMES.to_vec();
     let count = rng.between(0, names.len());
     let mut list = Vec::new();
@@ -115,7 +115,7 @@ fn drafts(rng: &mut Rng) -> Vec<Draft> {
 }
 
 /// The bytes that drafts take.
-fn taken(drafts: &[Draft]) -> usize {
+pub fn taken(drafts: &[Draft]) -> usize {
     drafts.iter().map(|draft| FRONT + draft.tree.len()).sum()
 }
 

@@ -1,5 +1,7 @@
-//! The calls on drafts by the document's steps, with one of them gone wrong: faults 110 to 131, each named where it is made. Those without lines are in `lines`.
+//! The calls on drafts by the document's steps, with one of them gone wrong: faults 110 to 131, each named where it is made. Those without lines are in `lines`, those of
+//! blanked texts in `blanks`.
 
+pub mod blanks;
 pub mod lines;
 
 use oracle::drafting::{encode_store, read_store, Draft, NAMES};

@@ -1,5 +1,6 @@
 //! The commands. One more is a file here with its `COMMAND`, and its name in the table.
 
+mod blank;
 mod check;
 mod draft;
 mod fold;
@@ -28,6 +29,7 @@ pub const COMMANDS: &[Command] = &[
     fold::COMMAND,
     plan::COMMAND,
     widen::COMMAND,
+    blank::COMMAND,
     check::COMMAND,
     draft::NEW,
     draft::SAVE,
@@ -39,7 +41,7 @@ pub const COMMANDS: &[Command] = &[
 pub struct Command {
     /// One word, or more.
     name: &'static str,
-    /// The last may stand in brackets: it can be left out.
+    /// The last may stand in brackets: it can be left out. With two dots it can stand there many times.
     operands: &'static [&'static str],
     /// What it does, for `--help`.
     about: &'static str,
@@ -65,7 +67,8 @@ impl Command {
     pub fn takes(&self, count: usize) -> bool {
         let optional = self.operands.iter().filter(|name| name.starts_with('['));
         let most = self.operands.len();
-        (most - optional.count()..=most).contains(&count)
+        let is_many = self.operands.iter().any(|name| name.ends_with("..]"));
+        most - optional.count() <= count && (is_many || count <= most)
     }
 
     pub fn usage(&self) -> String {
@@ -140,6 +143,7 @@ pub fn help() -> String {
          Nodes are numbered from 0, a parent before its children, these from left to right.\n\
          Lines and columns are counted from 0, in the sheet as it is printed.\n\
          WIDTH is of the sheet inside its edges and margin. BUDGET limits the heights that are tried.\n\
+         blank writes a FILE: legs blank key.legs 7 11 > paper.legs.\n\
          STORE is a file of drafts, up to eight, each under a NAME, A to H. A draft is a tree: no settings are saved, and a FILE that is written keeps its own.\n\
          Whatever happens, a STORE or FILE that is written is there whole, as it was before or as it shall be.\n\n\
          Exit status: 0, or 1 refused, 2 usage, 3 input or output failed.\n"
