@@ -2,6 +2,7 @@
 // None of them asks anything of the caller beyond what a C slice is: a pointer to as many items as its length says.
 pub mod papers;
 pub mod stores;
+pub mod typed_lists;
 
 use collector::below::count_below;
 use numbers::cuts;

@@ -49,7 +49,7 @@ abbrev Tells : Input → List ℕ → Prints → Type 0
 Tells i o p = Told (printedOf i) o (p .answer) (p .out)
 
 -- the largest sheet has 160 lines of 400 columns, with a 0A between them
-largest : (s : Settings) (t : Tree) → tooLarge s t ≡ false → length (sheet s t) < 64160
+pub largest : (s : Settings) (t : Tree) → tooLarge s t ≡ false → length (sheet s t) < 64160
 unfolding tooLarge
 largest s t large =
     let n = large-no (W s t) (H s t) large in

@@ -1,7 +1,7 @@
-// Whole outputs of the sheet program, as `program::answer` gives them, against document 01. The cases are the lines of standard input (the
-// file `stdin`). A line is a letter, a space and its contents; in contents, `\` and two hex digits stand for a byte:
+// Whole outputs of both programs, as `program::answer` gives them against document 01, and `typed_program::answer_typed` of a typed list. The cases are the lines of
+// standard input (the file `stdin`). A line is a letter, a space and its contents; in contents, `\` and two hex digits stand for a byte:
 //   # a title, which is echoed     : the input's bytes     + N, bytes: these go on the input N times
-//   & N, bytes: what the next line wants begins with these, N times     a the whole output
+//   & N, bytes: what the next line wants begins with these, N times     a the whole output     y the whole output for a typed list
 use libc::STDIN_FILENO;
 use lines::compare;
 use lines::contents;
@@ -12,19 +12,29 @@ use lines::tell;
 // The longest output that is shown.
 const SHORT: usize = 200;
 
-// The output, and past it what was there before.
-fn answered(input: &[u8], want: &[u8]) {
-    let mut out = [compare::MADE_OF; program::ANSWER_BYTES];
-    let n = program::answer(input, &mut out);
-    tell::number(input.len());
+// The n bytes of output, and past them what was there before.
+fn judge(bytes: usize, n: usize, out: &[u8], want: &[u8]) {
+    tell::number(bytes);
     tell::text(b" bytes of input, ");
     tell::number(n);
     tell::text(b" of output");
-    tell::verdict(n == want.len() && compare::holds(&out, want));
+    tell::verdict(n == want.len() && compare::holds(out, want));
     tell::end();
     if n <= SHORT {
-        tell::part(&out, n);
+        tell::part(out, n);
     }
+}
+
+fn answered(input: &[u8], want: &[u8]) {
+    let mut out = [compare::MADE_OF; program::ANSWER_BYTES];
+    let n = program::answer(input, &mut out);
+    judge(input.len(), n, &out, want);
+}
+
+fn typed(text: &[u8], want: &[u8]) {
+    let mut out = [compare::MADE_OF; typed_program::ANSWER_BYTES];
+    let n = typed_program::answer_typed(text, &mut out);
+    judge(text.len(), n, &out, want);
 }
 
 // What a line asks for.
@@ -32,6 +42,7 @@ fn ask(kind: u8, input: &[u8], want: &[u8]) {
     match kind {
         b'#' => tell::line(want),
         b'a' => answered(input, want),
+        b'y' => typed(input, want),
         _ => tell::failed(b"unknown kind of line"),
     }
 }
@@ -72,7 +83,7 @@ fn main() {
     let mut cases = io::large_buffer();
     let n = io::read_full(STDIN_FILENO, &mut cases);
     let mut none = [0u8; 1];
-    let mut input = [0u8; 66000];
+    let mut input = [0u8; 131100];
     let mut want = [0u8; 66000];
     run(&cases[..n], &mut none, &mut input, &mut want);
 }

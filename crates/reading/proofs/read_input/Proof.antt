@@ -3,8 +3,8 @@ use mathlib.Core.Path.{_≡_}
 use Prim.Native.Nat.{_≤_, _-_}
 use native.Mathlib.Omega.{arith}
 use lib.ListN.{length}
-use Rattle.leg_sheet.proofs.read_input.Statement.{statement}
-use Rattle.leg_sheet.proofs.read_input.Tie as tie
+use Rattle.reading.proofs.read_input.Statement.{statement}
+use Rattle.reading.proofs.read_input.Tie as tie
 
 abbrev Inv-loop : tie.InvT-loop
 Inv-loop buffer₀ done₀ buffer done = (done ≤ length buffer) × (length buffer ≡ length buffer₀)

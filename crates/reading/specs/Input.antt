@@ -1,7 +1,7 @@
 -- What reading standard input answers.
 use Prim.Native.Nat.{ℕ, _≤_}
-use Rattle.leg_sheet.specs.declared.Input.{Input}
-use Rattle.leg_sheet.specs.declared.Input.the-variants.{Whole, Failed}
+use Rattle.reading.specs.declared.Input.{Input}
+use Rattle.reading.specs.declared.Input.the-variants.{Whole, Failed}
 
 -- the bytes read lie in a buffer of that length
 abbrev pub endsWithin : Input → ℕ → Type 0

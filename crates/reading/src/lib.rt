@@ -1,0 +1,28 @@
+// Standard input read whole, as far as a buffer holds it.
+use libc::STDIN_FILENO;
+ghost use lib.ListN.{length};
+ghost use Rattle.reading.specs.Input.{endsWithin};
+
+// How the reading ended: the input's bytes at the front of the buffer, all or as many as it holds; or a read failed.
+pub enum Input {
+    Whole(usize),
+    Failed,
+}
+
+pub fn read_input(buffer: &mut [u8]) -> Input
+    ensures { λ r. ⌜ endsWithin r (length (now (buffer .exit))) ⌝ }
+{
+    let mut done: usize = 0;
+    while done < buffer.len() {
+        let got = libc::read(STDIN_FILENO, &mut buffer[done..]);
+        if got < 0 {
+            return Input::Failed;
+        }
+        let more = io::count(got, &buffer[done..]);
+        if more == 0 {
+            return Input::Whole(done);
+        }
+        done += more;
+    }
+    Input::Whole(done)
+}

@@ -1,0 +1,6 @@
+pub mod Text
+pub mod Line
+pub mod Scan
+pub mod Typed
+pub mod Print
+pub mod Promises

@@ -1,0 +1,63 @@
+-- The words of the theorems about typed lists.
+use mathlib.Core.Path.{_≡_}
+use mathlib.Core.Logic.{_⊎_}
+use Prim.Native.Nat.{ℕ, _+_, _-_, _≤_}
+use mathlib.Core.List.{List, []}
+use lib.ListN.{length, getD, take, drop}
+use Rattle.tree.specs.Tree.{Tree, nodes}
+use Rattle.tree.specs.Reading.{one, readTree}
+use Rattle.tree.specs.Accepted.{bytesOf}
+use Rattle.sizes.specs.Text.{lines}
+use Rattle.typed.specs.Line.{withoutReturn}
+use Rattle.typed.specs.Scan.{found, scanLines}
+use Rattle.typed.specs.Typed.{TypedOutcome, typedAccepted, typedOf}
+use Rattle.typed.specs.Print.{typedNodes, typeOf}
+use Rattle.typed.specs.declared.Typed.{Typed}
+
+-- ---- a call that answers 0: `typed-accepted`
+
+-- what was written
+abbrev pub treeWritten : TypedOutcome → List ℕ
+treeWritten x = take (x .answer .count) (x .out)
+
+-- of the typed list `text`, where `out` was lent
+pub record TypedTree (text out : List ℕ) (x : TypedOutcome) : Type 0 where
+  pub root : Tree
+  -- the list's nodes, with their levels, are those of one tree
+  pub lines-are : scanLines text ≡ found (typedNodes 0 root)
+  -- its bytes were written, and the tree reader accepts them as that tree
+  pub bytes-are : treeWritten x ≡ bytesOf root
+  pub read : readTree (treeWritten x) ≡ one root (x .answer .count) (nodes root)
+  -- past them the output stays
+  pub kept : drop (x .answer .count) (x .out) ≡ drop (x .answer .count) out
+
+-- ---- every tree that the tree reader accepts: `typed-back`
+
+-- its text is read back to its bytes, wherever there is room for them
+abbrev pub TypedBack : List ℕ → Tree → Type 0
+TypedBack bytes t = (out : List ℕ) → length bytes ≤ length out → typedOf (typeOf t) out ≡ typedAccepted bytes out
+
+-- ---- every answer: `fault-place`
+
+-- it names no line: the tree was written, the output is too short, or the list is too long
+abbrev pub Unplaced : ℕ → Type 0
+Unplaced k = (k ≡ 0) ⊎ (k ≡ 8) ⊎ (k ≡ 30)
+
+-- the line that the answer names, without its carriage return
+abbrev pub namedLine : List ℕ → Typed → List ℕ
+namedLine text a = withoutReturn (getD (lines text) (a .line - 1) [])
+
+pub record FaultAt (text : List ℕ) (a : Typed) : Type 0 where
+  pub number-low : 31 ≤ a .number
+  pub number-high : a .number ≤ 39
+  -- the line is one of the list's
+  pub line-low : 1 ≤ a .line
+  pub line-high : a .line ≤ length (lines text)
+  -- a byte of the line stands at the column; 32 and 39 may be told one past the line's end
+  pub column-low : 1 ≤ a .column
+  pub column-high : a .column ≤ length (namedLine text a) + 1
+  pub on-byte : (a .number ≡ 32 → ⊥) → (a .number ≡ 39 → ⊥) → a .column ≤ length (namedLine text a)
+
+pub record FaultPlace (text : List ℕ) (a : Typed) : Type 0 where
+  pub none : Unplaced (a .number) → (a .line ≡ 0) × (a .column ≡ 0)
+  pub some : (Unplaced (a .number) → ⊥) → FaultAt text a

@@ -1,0 +1,29 @@
+-- `prints-typed`: what the program prints of a list without a fault. Assumes nothing.
+use mathlib.Core.Path.{_≡_, refl, ap, _∙_}
+use Prim.Native.Nat.{ℕ}
+use mathlib.Core.List.{List}
+use lib.ListN.{replicate}
+use Rattle.settings.specs.Defaults.{defaults, recordOf, defaults-read}
+use Rattle.tree.specs.Tree.{Tree}
+use Rattle.tree.specs.Reading.{ReadOne, readTree}
+use Rattle.sizes.specs.Input.{given, inputOf}
+use Rattle.typed.specs.Typed.{typedOf}
+use Rattle.typed.proofs.Calls.{typed-accepted}
+use Rattle.typed_program.specs.TypedProgram.{treeText}
+use Rattle.typed_program.specs.Promises.{PrintsTyped}
+use Rattle.typed_program.proofs.Trees.{typed-tree}
+
+default-input : (s : List ℕ) (t : Tree) (z n : ℕ) → readTree s ≡ ReadOne.one t z n → inputOf (recordOf defaults) s ≡ given defaults t
+unfolding inputOf
+default-input s t z n e = rw (defaults-read, e)
+
+pub prints-typed : (text : List ℕ) → typedOf text (replicate 32768 0) .answer .number ≡ 0 → PrintsTyped text
+unfolding treeText
+prints-typed text h =
+    let x = typedOf text (replicate 32768 0) in
+    let k = typed-accepted text (replicate 32768 0) h in
+    record {
+      root = k .root;
+      lines-are = k .lines-are;
+      prints = typed-tree text (x .out) (x .answer) refl h ∙ ap treeText (default-input _ (k .root) _ _ (k .read));
+    }

@@ -1,0 +1,127 @@
+-- Words, numbers and places of faults, put one after the other. Assumes nothing.
+use mathlib.Core.Path.{_≡_, refl, sym, _∙_}
+use Prim.Native.Nat.{ℕ, zero, suc, _+_, _-_, _/_, _%_, _≤_, _<_}
+use native.Mathlib.Omega.{arith}
+use mathlib.Core.Bool.{Bool, true, false}
+use mathlib.Core.List.{List, [], _∷_, _++_, append-assoc}
+use lib.ListN.{length, set, length-append}
+use lib.Seq.{sets}
+use lib.Dec.{eqb, ltb}
+use borrow.Author.Tests.{ne-eqb, lt-ltb, le-ltb}
+use Rattle.common.specs.Choice.{pick}
+use Rattle.sizes.proofs.Stores.{sets-append}
+use Rattle.block.specs.Paint.{Wrote}
+use Rattle.typed_program.specs.Words.{digits, decimal, faultWords, lineText, columnText, colonText, words30, words31, words32, words33, words34, words35, words36, words37, words38, words39, wordsLarge, placeText, faultText}
+
+-- ---- digits
+
+pub digits-few : (places n : ℕ) → length (digits places n) ≤ places
+unfolding digits
+digits-few zero n = omega arith
+digits-few (suc places) n = go (ltb n 10) (digits-few places (n / 10))
+  where
+    go : (c : Bool) → length (digits places (n / 10)) ≤ places → length (pick c ((48 + n) ∷ []) (digits places (n / 10) ++ ((48 + n % 10) ∷ []))) ≤ suc places
+    go true h = omega arith
+    go false h = rw length-append (omega arith)
+
+module _ (o : List ℕ) (at : ℕ) where
+  pub no-digit : (places n : ℕ) → places ≡ 0 → Wrote at (at + length (digits places n)) o (sets o at (digits places n))
+  unfolding digits
+  no-digit places n z = rw z (record { end-is = omega arith; out-is = refl })
+
+  pub one-digit : (places n : ℕ) → (places ≡ 0 → ⊥) → n < 10 → Wrote (at + 1) (at + length (digits places n)) (set o at (48 + n)) (sets o at (digits places n))
+  unfolding digits
+  one-digit zero n z h = absurd (z refl)
+  one-digit (suc places) n z h = rw (lt-ltb n 10 h) (record { end-is = omega arith; out-is = refl })
+
+  pub more-digits : (places n : ℕ) → (places ≡ 0 → ⊥) → 10 ≤ n → (r : ℕ) (o₁ : List ℕ) → Wrote r (at + length (digits (places - 1) (n / 10))) o₁ (sets o at (digits (places - 1) (n / 10)))
+      → Wrote (r + 1) (at + length (digits places n)) (set o₁ r (48 + n % 10)) (sets o at (digits places n))
+  unfolding digits
+  more-digits zero n z h r o₁ w = absurd (z refl)
+  more-digits (suc places) n z h r o₁ w =
+      let d = digits places (n / 10) in
+      let p : suc places - 1 ≡ places = omega arith in
+      let f : o₁ ≡ sets o at d = rw p at (w .out-is) in
+      let g : r ≡ at + length d = rw p at (w .end-is) in
+      let e : set o₁ r (48 + n % 10) ≡ sets o at (d ++ ((48 + n % 10) ∷ [])) = rw (f, g) (sym (sets-append d ((48 + n % 10) ∷ []) o at)) in
+      rw (le-ltb n 10 h) (record { end-is = omega (arith, length-append d ((48 + n % 10) ∷ [])); out-is = e })
+
+-- ---- words
+
+few-picked : (c : Bool) (x y : List ℕ) → length x ≤ 100 → length y ≤ 100 → length (pick c x y) ≤ 100
+few-picked true x y h j = h
+few-picked false x y h j = j
+
+pub words-few : (k : ℕ) → length (faultWords k) ≤ 100
+unfolding faultWords
+words-few k =
+    few-picked (eqb k 30) words30 _ (omega arith)
+    (few-picked (eqb k 31) words31 _ (omega arith)
+    (few-picked (eqb k 32) words32 _ (omega arith)
+    (few-picked (eqb k 33) words33 _ (omega arith)
+    (few-picked (eqb k 34) words34 _ (omega arith)
+    (few-picked (eqb k 35) words35 _ (omega arith)
+    (few-picked (eqb k 36) words36 _ (omega arith)
+    (few-picked (eqb k 37) words37 _ (omega arith)
+    (few-picked (eqb k 38) words38 _ (omega arith)
+    (few-picked (eqb k 39) words39 _ (omega arith)
+    (omega arith))))))))))
+
+-- the number is none of 30 to 39
+pub words-left : (k : ℕ) → ((((((((((Unit {0} × (k ≡ 30 → ⊥)) × (k ≡ 31 → ⊥)) × (k ≡ 32 → ⊥)) × (k ≡ 33 → ⊥)) × (k ≡ 34 → ⊥)) × (k ≡ 35 → ⊥)) × (k ≡ 36 → ⊥)) × (k ≡ 37 → ⊥)) × (k ≡ 38 → ⊥)) × (k ≡ 39 → ⊥)) → faultWords k ≡ wordsLarge
+unfolding faultWords
+words-left k n =
+    rw (
+      ne-eqb k 30 (n .0 .0 .0 .0 .0 .0 .0 .0 .0 .1),
+      ne-eqb k 31 (n .0 .0 .0 .0 .0 .0 .0 .0 .1),
+      ne-eqb k 32 (n .0 .0 .0 .0 .0 .0 .0 .1),
+      ne-eqb k 33 (n .0 .0 .0 .0 .0 .0 .1),
+      ne-eqb k 34 (n .0 .0 .0 .0 .0 .1),
+      ne-eqb k 35 (n .0 .0 .0 .0 .1),
+      ne-eqb k 36 (n .0 .0 .0 .1),
+      ne-eqb k 37 (n .0 .0 .1),
+      ne-eqb k 38 (n .0 .1),
+      ne-eqb k 39 (n .1),
+    )
+
+-- ---- one text after another
+
+pub then-wrote : (o o₁ o₂ x y : List ℕ) (at r q : ℕ) → Wrote r (at + length x) o₁ (sets o at x) → Wrote q (r + length y) o₂ (sets o₁ r y) → Wrote q (at + length (x ++ y)) o₂ (sets o at (x ++ y))
+then-wrote o o₁ o₂ x y at r q a b =
+    record { end-is = omega (arith, a .end-is, b .end-is, length-append x y); out-is = b .out-is ∙ rw (a .out-is, a .end-is) (sym (sets-append x y o at)) }
+
+-- as the functions have it, from the front on
+pub from-front : (r : ℕ) (o₁ o x y : List ℕ) → x ≡ y → Wrote r (0 + length x) o₁ (sets o 0 x) → Wrote r (length y) o₁ (sets o 0 y)
+from-front r o₁ o x y e w = rw (← e) (record { end-is = omega (arith, w .end-is); out-is = w .out-is })
+
+pub no-place : (l c : ℕ) (o : List ℕ) → l ≡ 0 → Wrote 0 (length (placeText l c)) o (sets o 0 (placeText l c)) × (0 ≤ 30)
+unfolding placeText
+no-place l c o e = (rw e (record { end-is = refl; out-is = refl }), omega arith)
+
+five : (a b c d e : List ℕ) → (((a ++ b) ++ c) ++ d) ++ e ≡ a ++ (b ++ (c ++ (d ++ e)))
+five a b c d e = append-assoc ((a ++ b) ++ c) d e ∙ append-assoc (a ++ b) c (d ++ e) ∙ append-assoc a b (c ++ (d ++ e))
+
+module _ (l c : ℕ) (z : l ≡ 0 → ⊥) where
+  place-is : (((lineText ++ decimal l) ++ columnText) ++ decimal c) ++ colonText ≡ placeText l c
+  unfolding placeText
+  place-is = rw (ne-eqb l 0 z) (five lineText (decimal l) columnText (decimal c) colonText)
+
+  -- `line `, the line, `, column `, the column, `: `
+  pub place-put : (o o₁ o₂ o₃ o₄ o₅ : List ℕ) (r₁ r₂ r₃ r₄ r₅ : ℕ) → Wrote r₁ (0 + 5) o₁ (sets o 0 lineText) → Wrote r₂ (r₁ + length (decimal l)) o₂ (sets o₁ r₁ (decimal l))
+      → Wrote r₃ (r₂ + 9) o₃ (sets o₂ r₂ columnText) → Wrote r₄ (r₃ + length (decimal c)) o₄ (sets o₃ r₃ (decimal c)) → Wrote r₅ (r₄ + 2) o₅ (sets o₄ r₄ colonText)
+      → Wrote r₅ (length (placeText l c)) o₅ (sets o 0 (placeText l c)) × (r₅ ≤ 30)
+  place-put o o₁ o₂ o₃ o₄ o₅ r₁ r₂ r₃ r₄ r₅ w₁ w₂ w₃ w₄ w₅ =
+      let a = then-wrote o o₁ o₂ lineText (decimal l) 0 r₁ r₂ w₁ w₂ in
+      let b = then-wrote o o₂ o₃ (lineText ++ decimal l) columnText 0 r₂ r₃ a w₃ in
+      let d = then-wrote o o₃ o₄ ((lineText ++ decimal l) ++ columnText) (decimal c) 0 r₃ r₄ b w₄ in
+      let e = then-wrote o o₄ o₅ (((lineText ++ decimal l) ++ columnText) ++ decimal c) colonText 0 r₄ r₅ d w₅ in
+      (from-front r₅ o₅ o _ _ place-is e, omega (arith, w₁ .end-is, w₂ .end-is, w₃ .end-is, w₄ .end-is, w₅ .end-is, digits-few 6 l, digits-few 6 c))
+
+-- the place, the words and 0A
+pub fault-put : (k l c : ℕ) (o o₁ o₂ : List ℕ) (r q : ℕ) → Wrote r (length (placeText l c)) o₁ (sets o 0 (placeText l c)) → Wrote q (r + length (faultWords k)) o₂ (sets o₁ r (faultWords k))
+    → Wrote (q + 1) (length (faultText k l c)) (set o₂ q 10) (sets o 0 (faultText k l c))
+unfolding faultText
+fault-put k l c o o₁ o₂ r q a b =
+    let x = then-wrote o o₁ o₂ (placeText l c) (faultWords k) 0 r q (record { end-is = omega (arith, a .end-is); out-is = a .out-is }) b in
+    let y = then-wrote o o₂ (set o₂ q 10) (placeText l c ++ faultWords k) (10 ∷ []) 0 q (q + 1) x (record { end-is = omega arith; out-is = refl }) in
+    from-front (q + 1) (set o₂ q 10) o _ _ (append-assoc (placeText l c) (faultWords k) (10 ∷ [])) y

@@ -1,0 +1,60 @@
+use mathlib.Core.Path.{_≡_, sym, refl}
+use Prim.Native.Nat.{ℕ}
+use native.Mathlib.Omega.{arith}
+use mathlib.Core.List.{List}
+use lib.ListN.{length}
+use lib.Seq.{length-take-le}
+use borrow.Author.Needs.{needs}
+use Rattle.typed_program.specs.TypedProgram.{typedProgramOf}
+use Rattle.typed_program.proofs.Trees.{typed-fault, typed-tree, fault-said}
+use Rattle.typed_program.proofs.answer_typed.Statement.{statement}
+use Rattle.typed_program.proofs.answer_typed.Tie as tie
+
+abbrev typed-text : tie.After-read-typed → List ℕ
+typed-text c = c .before .before .before .args .text .now
+
+long : (c : tie.After-tell) → 64160 ≡ length (c .before .before .before .before .before .before .before .before .args .out .now)
+long c = search needs
+
+slice-aggregate-read-typed : tie.Need-slice-aggregate-read-typed
+slice-aggregate-read-typed c = search needs
+
+read-typed-requires : tie.Need-read-typed-requires
+read-typed-requires c κs = search needs
+
+tell-requires : tie.Need-tell-requires
+tell-requires c κs = search needs
+
+returns : tie.Need-returns
+returns c =
+    let d = c .before .before .before .before .before in
+    fault-said (typedProgramOf (typed-text d)) _ (long c) _ _ _ _ _ _ refl (typed-fault (typed-text d) _ _ (d .read-typed .ensures .0) (c .before .before .if1 .taken)) (c .tell .ensures .0) (c .tell .ensures .1)
+
+array-share-prefix-tree : tie.Need-array-share-prefix-tree
+array-share-prefix-tree c = search needs
+
+slice-aggregate-print-tree : tie.Need-slice-aggregate-print-tree
+slice-aggregate-print-tree c =
+    let d = c .before .before .before .before in
+    sym (length-take-le _ _ (omega (arith, d .read-typed .ensures .1, d .read-typed .kept .1 .0)))
+
+print-tree-requires : tie.Need-print-tree-requires
+print-tree-requires c κs = search needs
+
+returns-2 : tie.Need-returns-2
+returns-2 c =
+    let d = c .before .before .before .before .before .before in
+    rw (typed-tree (typed-text d) _ _ (d .read-typed .ensures .0) (c .before .before .before .if1 .left)) (c .print-tree .ensures)
+
+pub answer-typed-spec : {M : Type 1} → statement M
+answer-typed-spec =
+    tie.close
+    (tie.spec
+    slice-aggregate-read-typed
+    read-typed-requires
+    tell-requires
+    returns
+    array-share-prefix-tree
+    slice-aggregate-print-tree
+    print-tree-requires
+    returns-2)

@@ -1,0 +1,103 @@
+// What is wrong with a typed list, as text.
+use block::bytes::copy;
+ghost use mathlib.Core.Path.{_≡_};
+ghost use Prim.Native.Nat.{_+_, _≤_};
+ghost use lib.ListN.{length};
+ghost use lib.Seq.{sets};
+ghost use Rattle.block.specs.Paint.{Wrote};
+ghost use Rattle.typed_program.specs.Words.{digits, faultWords, placeText, faultText};
+
+// A number's digits from `at` on, at most `places` of them; the answer is where they end.
+fn put_digits(n: usize, places: usize, out: &mut [u8], at: usize) -> usize
+    requires { ⌜ at + places ≤ length (now out) ⌝ }
+    ensures { λ r. ⌜ Wrote r (at + length (digits places n)) (now (out .exit)) (sets (now (out .entry)) at (digits places n)) ⌝ }
+    ensures few { λ r. ⌜ r ≤ at + places ⌝ }
+{
+    if places == 0 {
+        return at;
+    }
+    if n < 10 {
+        out[at] = b'0' + n as u8;
+        return at + 1;
+    }
+    let end = put_digits(n / 10, places - 1, out, at);
+    out[end] = b'0' + (n % 10) as u8;
+    end + 1
+}
+
+// The words of a fault from `at` on; the answer is where they end.
+fn put_words(number: u8, out: &mut [u8], at: usize) -> usize
+    requires { ⌜ at + 100 ≤ length (now out) ⌝ }
+    ensures { λ r. ⌜ Wrote r (at + length (faultWords number)) (now (out .exit)) (sets (now (out .entry)) at (faultWords number)) ⌝ }
+    ensures few { λ r. ⌜ r ≤ at + 100 ⌝ }
+{
+    match number {
+        30 => copy(out, at, b"the list has over 131,072 bytes"),
+        31 => copy(
+            out,
+            at,
+            b"only letters, digits, signs and spaces may stand here: no tab, no accent",
+        ),
+        32 => copy(
+            out,
+            at,
+            b"after a backslash only n or a backslash may stand",
+        ),
+        33 => copy(
+            out,
+            at,
+            b"a level is two spaces, and this line begins with an odd number of them",
+        ),
+        34 => copy(
+            out,
+            at,
+            b"a second root: every line after the first is indented",
+        ),
+        35 => copy(
+            out,
+            at,
+            b"too deep: a line stands at most one level below a row or column, and none below a text",
+        ),
+        36 => copy(out, at, b"over 16 levels"),
+        37 => copy(out, at, b"over 512 rows, columns and texts"),
+        38 => copy(
+            out,
+            at,
+            b"the list is too long: with this line its tree has over 32,768 bytes",
+        ),
+        39 => copy(
+            out,
+            at,
+            b"the list is empty: no line has a row, a column or a text",
+        ),
+        _ => copy(out, at, b"the sheet has over 400 columns or over 160 lines"),
+    }
+}
+
+// Where the fault is, at the front; the answer is where this ends.
+fn put_place(line: usize, column: usize, out: &mut [u8]) -> usize
+    requires { ⌜ 30 ≤ length (now out) ⌝ }
+    ensures { λ r. ⌜ Wrote r (length (placeText line column)) (now (out .exit)) (sets (now (out .entry)) 0 (placeText line column)) ⌝ }
+    ensures few { λ r. ⌜ r ≤ 30 ⌝ }
+{
+    if line == 0 {
+        return 0;
+    }
+    let first = copy(out, 0, b"line ");
+    let second = put_digits(line, 6, out, first);
+    let third = copy(out, second, b", column ");
+    let fourth = put_digits(column, 6, out, third);
+    copy(out, fourth, b": ")
+}
+
+// The place, the words and 0A at the front; the answer is their length.
+pub fn tell(number: u8, line: usize, column: usize, out: &mut [u8]) -> usize
+    requires { ⌜ 200 ≤ length (now out) ⌝ }
+    ensures { λ r. ⌜ Wrote r (length (faultText number line column)) (now (out .exit)) (sets (now (out .entry)) 0 (faultText number line column)) ⌝ }
+    ensures few { λ r. ⌜ r ≤ 200 ⌝ }
+{
+    let at = put_place(line, column, out);
+    let end = put_words(number, out, at);
+    out[end] = b'\n';
+    end + 1
+}
