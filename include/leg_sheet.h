@@ -6,8 +6,8 @@
  *
  * Every function answers a word: LEG_NUMBER is 0 or a refusal's number from the list below, LEG_COUNT what was counted or written, 0 beside a
  * refusal. Each function below names its refusals in the order of its tests; 2 to 5 and 17 are tested element by element in node order, at
- * each one 2, 5, 4, then 3 of a Cell or 17 of a range. A refusal writes to none of the lent lists; otherwise items past those said to be written stay as they were. The
- * functions keep nothing between calls and allocate nothing; on the stack they took up to 77 kilobytes (measured, at depth 16).
+ * each one 2, 5, 4, then 3 of a Cell or 17 of a range. A refusal writes to none of the lent lists (leg_read_typed: but to `place`); otherwise items past those said to be
+ * written stay as they were. The functions keep nothing between calls and allocate nothing; on the stack they took up to 77 kilobytes (measured, at depth 16).
  *
  *   1   settings not of the form or ranges                   11   share: n = 0 or index >= n
  *   2   tree: too long, cut short, unknown tag ..            12   a line or column outside the printed sheet
@@ -19,6 +19,13 @@
  *   8   a lent list is shorter than needed                   18   a store of drafts not of the form
  *   9   the number names no leaf; to leg_blank: no Cell      19   a name other than A to H, or one without a draft
  *  10   split list count over 512                            20   no room in a store beside its other drafts
+ *
+ * and of a typed list
+ *  30   over 131,072 bytes                                   35   too deep: over one level below a group, or below a text
+ *  31   a byte other than 20 to 7E in a text                 36   over 16 levels
+ *  32   a backslash without n or a backslash behind it       37   over 512 rows, columns and texts
+ *  33   an odd number of spaces before a line                38   with this line the tree has over 32,768 bytes
+ *  34   a second root                                        39   no row, column or text
  *
  * Settings, trees and stores are bytes (hex below). docs/FORMS.md has them with pictures, examples and the meaning of each; examples/build.c builds a tree.
  *
@@ -51,6 +58,13 @@
  * A store of drafts, of any length: fields back to back, then 00 to its end; bytes that are all 00 are a store without a draft. A field is a tag, 20 to 27, the length of
  * its contents in two bytes, the high one first, and its contents, a tree. Draft 'A', byte 41, has tag 20, and so on to 'H', byte 48, with tag 27; each stands there
  * once at the most, in any order.
+ *
+ * A typed list is a tree as plain text, of up to LEG_TYPED bytes: lines parted by 0A, a 0D at a line's end taken off. A line is
+ *   `row` or `column`; the lines one level, two spaces, deeper are its children
+ *   a text, up to the line's end, bytes 20 to 7E; \n in it is 0A, \\ a backslash. A quote mark in front is taken off, and what is behind it is a text, whatever it is:
+ *      'row, '# 1, '  indented, and ' alone for the empty text
+ *   a comment, any bytes behind a # that only spaces stand before; or blank, spaces alone
+ * The first line that is no comment and not blank is the root, and all others stand in it. Column[`ab`, Row[`c`, ``]]: "column\n  ab\n  row\n    c\n    '\n" as a C string.
  */
 #ifndef LEG_SHEET_H
 #define LEG_SHEET_H
@@ -76,6 +90,7 @@ extern "C" {
 #define LEG_PLACE 3
 #define LEG_FOUND 3
 #define LEG_ENDS 4
+#define LEG_PLACE_TYPED 2
 
 /* leg_places takes up to LEG_PLACES places, each a number that LEG_AT makes of a line and a column, and writes as many answers, of which LEG_NODE, LEG_LINE and
  * LEG_COLUMN are the parts. A line or column past 32 bits counts as the greatest of 32 bits: both are outside every sheet. */
@@ -92,6 +107,9 @@ extern "C" {
 /* The most bytes of a tree, and so of a draft that was saved; a store of LEG_STORE bytes has room for any eight. */
 #define LEG_TREE 32768
 #define LEG_STORE (8 * (3 + LEG_TREE))
+
+/* The most bytes of a typed list. */
+#define LEG_TYPED 131072
 
 /* Reads settings of 31 or 42 bytes. 1, 8. Writes the 28 numbers after the first tag and length: 15 marks, or 15 zeros; padding left, right, top, bottom;
  * their fills; horizontal and vertical alignment; line mode; width and height priority. Counts 28. */
@@ -165,6 +183,13 @@ uint64_t leg_return_draft(const uint8_t *store, size_t store_len, uint8_t name, 
  * `nodes` has the numbers of these Cells, in any order, repeats allowed; without a number every Cell is blanked. 2 to 5; 9 where a number names no Cell: it is past the last
  * node, or of a Row or a Column, also of an empty one; 8 last, where `out` has under `tree_len` bytes. What is written is a tree alike to this one. Counts `tree_len`. */
 uint64_t leg_blank(const uint8_t *tree, size_t tree_len, const uint16_t *nodes, size_t nodes_len, uint8_t *out, size_t out_len);
+
+/* Reads a typed list: writes its tree to `out`, as every other function takes it. 30; the fault of the first line that has one: 31 or 32, whichever byte comes first in it, then
+ * 33, then 34, 35, 36, 37, 38 in this order; 39 behind the last line; 8 last, where `out` has fewer bytes than the tree, which has LEG_TREE at the most. Writes LEG_PLACE_TYPED
+ * numbers to `place`, beside a refusal too: the fault's line and column, counted from 1 and in bytes; 0 0 where it is accepted, and for 8 and 30. The column of 31 is that byte, of 32
+ * the byte behind the backslash, whatever it is, or the line's end; of 33 to 38 the first byte behind the spaces; 39 is at column 1 of the last line. Settings are not part of a typed list.
+ * Counts the tree's bytes. */
+uint64_t leg_read_typed(const uint8_t *text, size_t text_len, uint8_t *out, size_t out_len, uint32_t *place);
 
 /* Cuts the list of the first `count` of `pieces` at `w`; numbers past them are not looked at. 10; 8 where `pieces` has under `count` numbers or `out` under
  * LEG_CUT. Writes yes or no (1 or 0); the cut's pair: how many pieces it took, and the length left of the first piece not taken, 0 if there is none or it

@@ -5,7 +5,7 @@ use leg_sheet::calls::{self, CUT, ENDS, FOUND, LENT_CUT, LIST, MARGIN, PIECES, S
 use leg_sheet::{List, Place};
 use oracle::calls::{
     Calls, Counted, CutParts, CutPositions, Folded, LeafPlace, LeafRecord, Marked, Planned,
-    ReadMargin, ReadSettings, Shared, SizeRecord, SplitList,
+    ReadMargin, ReadSettings, Shared, SizeRecord, SplitList, Typed,
 };
 use oracle::form::{encode_record, encode_settings, CutPair, Ends, Flags, Margin, Owner, Settings};
 
@@ -305,6 +305,24 @@ impl Calls for Library {
         Counted { number, count }
     }
 
+    fn read_typed(&mut self, list: &[u8], output: &mut [u8]) -> Typed {
+        let mut place = [0; 2];
+        let read = |out: &mut [u8]| {
+            calls::read_typed(list, out).map_err(|fault| {
+                place = [fault.line, fault.column];
+                fault.refusal
+            })
+        };
+        let (number, count) = lent::between(output, read);
+        let [line, column] = place.map(|number| number as usize);
+        Typed {
+            number,
+            count,
+            line,
+            column,
+        }
+    }
+
     fn short_splits3(&mut self, list: &SplitList, width: u16) -> CutParts {
         let writes = Writes {
             left: false,
@@ -386,7 +404,73 @@ impl Calls for Library {
 #[cfg(test)]
 mod tests {
     use leg_sheet::Input;
+    use oracle::calls::{Calls, Typed};
+    use oracle::gen::{typed, Rng};
     use oracle::judge;
+    use oracle::sides::Paper;
+    use oracle::typing::{self, type_of, Marks};
+
+    use super::Library;
+
+    extern "C" {
+        fn leg_read_typed(
+            text: *const u8,
+            text_len: usize,
+            out: *mut u8,
+            out_len: usize,
+            place: *mut u32,
+        ) -> u64;
+    }
+
+    /// The place of a fault is written by every call: 0 and 0 over what stood there, where there is none. The numbers around it stay, and so do bytes that are not lent.
+    #[test]
+    fn a_place_is_always_written() {
+        let mut rng = Rng::new(71);
+        for _ in 0..20_000 {
+            let list = typed::any_list(&mut rng);
+            let mut told = [0xA5; 64];
+            let length = rng.pick(&[0, 3, 20, 64]);
+            let answer = Paper::default().read_typed(&list, &mut told[..length]);
+            let (mut place, mut out) = ([0xA5A5_A5A5; 4], [0xA5; 64]);
+            // SAFETY: pointers and lengths of slices, and of an array from its second number on, that has two and one more.
+            let word = unsafe {
+                let place = place.as_mut_ptr().add(1);
+                leg_read_typed(list.as_ptr(), list.len(), out.as_mut_ptr(), length, place)
+            };
+            let number = u64::from(answer.number);
+            assert_eq!(word, number << 32 | answer.count as u64);
+            let [line, column] = [answer.line, answer.column].map(|number| number as u32);
+            assert_eq!(place, [0xA5A5_A5A5, line, column, 0xA5A5_A5A5]);
+            assert_eq!(out, told);
+        }
+    }
+
+    /// No byte is read or written where none is lent, whatever the pointer.
+    #[test]
+    fn an_empty_list_has_no_root() {
+        let answer = Library.read_typed(&[], &mut []);
+        let told = Typed {
+            number: 39,
+            count: 0,
+            line: 1,
+            column: 1,
+        };
+        assert_eq!(answer, told);
+    }
+
+    /// The library types a tree as the oracle does, with the marks that it needs.
+    #[test]
+    fn trees_are_typed_alike() {
+        let mut rng = Rng::new(72);
+        for _ in 0..2000 {
+            let tree = typed::tree(&mut rng);
+            let short = type_of(&tree, Marks::Short);
+            let read = leg_sheet::Tree::from_typed(typed::typed(&mut rng, &tree));
+            let again = read.expect("a typed list").typed();
+            assert_eq!(again.as_bytes(), short);
+            assert_eq!(typing::read(again.as_bytes()), Ok(tree));
+        }
+    }
 
     /// The library parts the sheet program's input where the judge does.
     #[test]

@@ -17,6 +17,7 @@
 
 use crate::raw;
 use crate::refusal::Refusal;
+use crate::typed::TypedFault;
 
 /// The numbers of the settings' first field, past its tag and length.
 pub const SETTINGS: usize = 28;
@@ -52,6 +53,12 @@ pub const HEIGHT: usize = 160;
 pub const SHEET: usize = (WIDTH + 1) * HEIGHT - 1;
 /// The nodes of a tree at the most.
 pub const NODES: usize = 512;
+/// The bytes of a tree at the most.
+pub const TREE: usize = 32_768;
+/// The bytes of a typed list at the most.
+pub const TYPED: usize = 131_072;
+/// The place of a fault in a typed list: its line and its column.
+pub const PLACE_TYPED: usize = 2;
 
 /// A word has the count, or above 32 bits the number of a refusal.
 fn answer(word: u64) -> Result<usize, Refusal> {
@@ -364,6 +371,30 @@ pub fn blank(tree: &[u8], nodes: &[u16], out: &mut [u8]) -> Result<usize, Refusa
             out.as_mut_ptr(),
             out.len(),
         )
+    })
+}
+
+/// Reads a typed list and writes the bytes of its tree, [`TREE`] at the most, which every other call takes. Counts them. The settings are not part of a typed list.
+///
+/// # Errors
+/// 30; the first fault in reading order, 31 to 39, with its line and column; 8 where `out` has fewer bytes than the tree.
+pub fn read_typed(text: &[u8], out: &mut [u8]) -> Result<usize, TypedFault> {
+    let mut place = [0; PLACE_TYPED];
+    // SAFETY: pointers and lengths of slices, and a pointer to two numbers, that are borrowed here.
+    let word = unsafe {
+        raw::leg_read_typed(
+            text.as_ptr(),
+            text.len(),
+            out.as_mut_ptr(),
+            out.len(),
+            place.as_mut_ptr(),
+        )
+    };
+    let [line, column] = place;
+    answer(word).map_err(|refusal| TypedFault {
+        refusal,
+        line,
+        column,
     })
 }
 

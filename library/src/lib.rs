@@ -19,6 +19,16 @@
 //! # Ok::<(), Refusal>(())
 //! ```
 //!
+//! A tree may also be typed as plain text, a row, column or text to a line:
+//!
+//! ```
+//! use leg_sheet::{Tree, TypedFault};
+//!
+//! let tree = Tree::from_typed("column\n  leg 1\n  row\n    a\n    b\n")?;
+//! assert_eq!(tree, Tree::column(["leg 1".into(), Tree::row(["a", "b"])]));
+//! # Ok::<(), TypedFault>(())
+//! ```
+//!
 //! The functions here take [`Settings`] and a [`Tree`], or a [`Plan`] of one, and answer values; those of [`Input`] take the two as bytes; those of [`calls`] take bytes and
 //! write to buffers that the caller lends. A [`DraftStore`] keeps trees in such a buffer. Under all of them are the same proved functions, which decide every refusal and
 //! write every byte: this crate puts values into bytes and makes values of what was written.
@@ -34,6 +44,7 @@ mod records;
 mod refusal;
 mod settings;
 mod tree;
+mod typed;
 mod values;
 
 pub use drafts::{Draft, DraftStore};
@@ -46,6 +57,7 @@ pub use records::{
 pub use refusal::Refusal;
 pub use settings::{Alignment, Marks, Priority, Settings, Sides};
 pub use tree::Tree;
+pub use typed::TypedFault;
 pub use values::{
     blank, fold, leaf_record, place, places, plan, print_leaf, print_sheet, share, short_splits,
     short_splits3, short_splits3_in_place, sizes, widen,

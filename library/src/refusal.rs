@@ -1,4 +1,4 @@
-//! What is refused, by the tables of documents 01 and 02.
+//! What is refused: by the tables of documents 01 and 02, and in typed lists.
 
 use std::error::Error;
 use std::fmt;
@@ -73,6 +73,16 @@ refusals! {
     18 BadStore "the store's fields are not of their form",
     19 NoDraft "the name is none of A to H, or no draft has it",
     20 NoRoom "the store has no room for the tree beside the other drafts",
+    30 ListTooLong "the list has over 131,072 bytes",
+    31 BadCharacter "only letters, digits, signs and spaces may stand here: no tab, no accent",
+    32 BadEscape "after a backslash only n or a backslash may stand",
+    33 OddIndent "a level is two spaces, and this line begins with an odd number of them",
+    34 SecondRoot "a second root: every line after the first is indented",
+    35 NoParent "too deep: a line stands at most one level below a row or column, and none below a text",
+    36 ListTooDeep "over 16 levels",
+    37 ListTooMany "over 512 rows, columns and texts",
+    38 ListTooLarge "the list is too long: with this line its tree has over 32,768 bytes",
+    39 ListEmpty "the list is empty: no line has a row, a column or a text",
 }
 
 impl Refusal {
@@ -97,11 +107,12 @@ impl Error for Refusal {}
 mod tests {
     use super::*;
 
-    /// From 1 on, and 7 is kept free.
+    /// From 1 to 20, and 7 is kept free; then those of typed lists, from 30 on.
     #[test]
     fn the_table_is_by_number() {
         let numbers = Refusal::TABLE.iter().map(|refusal| refusal.number());
-        assert!(numbers.eq((1..=20).filter(|&number| number != 7)));
+        let all = (1..=20).chain(30..=39);
+        assert!(numbers.eq(all.filter(|&number| number != 7)));
         for &refusal in Refusal::TABLE {
             assert_eq!(Refusal::of_word(u64::from(refusal.number()) << 32), refusal);
         }

@@ -3,9 +3,6 @@
 use crate::calls;
 use crate::refusal::Refusal;
 
-/// The longest tree in bytes.
-pub(crate) const BYTES: usize = 32_768;
-
 /// A sheet's nodes as values. A text is a Cell.
 ///
 /// ```
@@ -119,7 +116,7 @@ impl Tree {
 /// Puts an element behind the bytes, as far as they are not too many for a tree yet. Too many are refused for that alone, so that it does not matter then
 /// which length stands where.
 pub(crate) fn put(bytes: &mut Vec<u8>, tag: u8, contents: impl FnOnce(&mut Vec<u8>)) {
-    if bytes.len() > BYTES {
+    if bytes.len() > calls::TREE {
         return;
     }
     let start = bytes.len() + 3;

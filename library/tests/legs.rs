@@ -331,10 +331,193 @@ fn blanks_are_refused() {
     let (_, message, status) = said(&["blank", "flight.plan", "0"], b"");
     assert!(message.contains("flight.plan: refused 2: "), "{message}");
     assert_eq!(status, Some(1));
-    let empty = "standard input: refused 1: the settings are not of their form or ranges";
-    fails(&["blank", "-"], empty, 1);
+    let (_, message, status) = said(&["blank", "-"], &[0x10; 99]);
+    let settings = "refused 1: the settings are not of their form or ranges";
+    assert_eq!(message, format!("legs: standard input: {settings}\n"));
+    assert_eq!(status, Some(1));
     let missing = "none.legs: No such file or directory (os error 2)";
     fails(&["blank", "none.legs"], missing, 3);
+}
+
+/// A list for every command, typed, and what each answers.
+#[test]
+fn typed_lists() {
+    let list = "# figure F2, with the default settings\ncolumn\n  abcdef\n  row\n    a\n    b\n";
+    let typed = |words: &[&str], answer: &str| {
+        let answered = (answer.into(), String::new(), Some(0));
+        assert_eq!(said(words, list.as_bytes()), answered, "{words:?}");
+    };
+    typed(
+        &["print", "-"],
+        "+--------+\n| abcdef |\n+---+----+\n| a | b  |\n+---+----+\n",
+    );
+    typed(
+        &["check", "-"],
+        "settings: accepted\ntree: accepted, nodes: 5\nsheet: accepted, 10 columns by 5 lines\n",
+    );
+    typed(
+        &["place", "-", "2", "4"],
+        "node 4: line 0, column 0 of its block\n",
+    );
+    typed(&["plan", "-"], "columns: 10\nlines: 5\n");
+    typed(
+        &["widen", "-"],
+        "node  letters  text\n   1        1  abcdef\n   3        2  a\n   4        2  b\n",
+    );
+    let (sizes, _, _) = said(&["sizes", "-"], list.as_bytes());
+    assert_eq!(sizes.lines().count(), 6);
+    let (leaf, _, _) = said(&["leaf", "-", "4"], list.as_bytes());
+    assert!(leaf.ends_with("\n+----+\n| b  |\n+----+\n"), "{leaf}");
+    typed(&["type", "-"], "column\n  abcdef\n  row\n    a\n    b\n");
+    let (folded, _, _) = said(&["fold", "list.list", "60"], b"");
+    assert_eq!(folded, said(&["fold", "list.legs", "60"], b"").0);
+    let lines = "2 5\n2 4\n";
+    assert_eq!(
+        said(
+            &["mark", "figure2.list", "--settings", "figure2.settings"],
+            lines.as_bytes()
+        ),
+        marks("figure2.legs", lines)
+    );
+}
+
+/// The bytes of a typed list go with every command that writes bytes; a typed list is saved as a draft.
+#[test]
+fn typed_lists_as_bytes() {
+    let bytes = |words: &[&str], input: &[u8]| {
+        let output = legs(words, input);
+        assert_eq!((output.stderr.len(), output.status.code()), (0, Some(0)));
+        output.stdout
+    };
+    let list = b"row\n  leg 1\n  '\n";
+    let tree = b"\x02\x00\x0B\x01\x00\x05leg 1\x01\x00\x00";
+    assert_eq!(bytes(&["bytes", "-"], list), [&DEFAULTS[..], tree].concat());
+    let blank = include_bytes!("../../examples/blank.legs");
+    let words = ["bytes", "-", "--settings", "blank.settings"];
+    assert_eq!(bytes(&words, list), blank);
+    assert_eq!(bytes(&["bytes", "-"], blank), blank);
+    let dots = b"\x02\x00\x0B\x01\x00\x05.....\x01\x00\x00";
+    let paper = [&DEFAULTS[..], dots].concat();
+    assert_eq!(bytes(&["blank", "-"], list), paper);
+
+    let folder = Folder::new("typed");
+    let store = folder.path("store");
+    answers(&["draft", "new", &store, "100"], "");
+    answers(&["draft", "save", &store, "A", "blank.list"], "");
+    let draft = bytes(&["draft", "return", &store, "A"], b"");
+    assert_eq!(draft, [&DEFAULTS[..], tree].concat());
+    // A list that was typed is not written over by bytes.
+    let typed = folder.path("typed.list");
+    std::fs::write(&typed, list).expect("a file");
+    let refused = format!("{typed}: refused 1: the settings are not of their form or ranges");
+    fails(&["draft", "return", &store, "A", &typed], &refused, 1);
+    assert_eq!(std::fs::read(&typed).expect("a file"), list);
+}
+
+/// The option for settings.
+const OPTION: &str = "--settings";
+
+/// They stand in the place of the default ones and of a file's own, and are the front of a file.
+#[test]
+fn settings_of_another_file() {
+    let flight = include_str!("../../examples/flight.txt");
+    let binder = include_str!("../../examples/binder.txt");
+    answers(&["print", "flight.list", OPTION, "flight.settings"], flight);
+    answers(&["print", OPTION, "flight.legs", "flight.list"], flight);
+    answers(&[OPTION, "binder.settings", "print", "flight.list"], binder);
+    answers(&["print", "flight.legs", OPTION, "binder.settings"], binder);
+    answers(&["print", "binder.legs", OPTION, "flight.legs"], flight);
+    let front = include_bytes!("../../examples/binder.settings");
+    let printed = said(&["print", "flight.list", OPTION, "-"], front);
+    assert_eq!(printed, (binder.into(), String::new(), Some(0)));
+}
+
+#[test]
+fn settings_that_are_none() {
+    let none = "flight.list: refused 1: the settings are not of their form or ranges";
+    fails(&["print", "list.list", OPTION, "flight.list"], none, 1);
+    fails(&["check", "list.legs", OPTION, "flight.list"], none, 1);
+    let missing = "none: No such file or directory (os error 2)";
+    fails(&["print", "list.list", OPTION, "none"], missing, 3);
+    let once = "--settings FILE, once";
+    misused(&["print", "list.list", OPTION], once);
+    misused(&["print", "a", OPTION, "b", OPTION, "c"], once);
+    misused(&["print", "-", OPTION, "-"], "standard input is read once");
+    let places = "standard input has the places";
+    misused(&["mark", "list.list", OPTION, "-"], places);
+    misused(&["type", "a", OPTION, "b"], "legs type FILE");
+    let list = ["draft", "list", "a", OPTION, "b"];
+    misused(&list, "legs draft list STORE");
+}
+
+/// What is said of a typed list on standard input, whose name is left out here.
+fn mistaken(list: &[u8], shown: &str) {
+    for words in [
+        &["print", "-"][..],
+        &["check", "-"],
+        &["widen", "-"],
+        &["bytes", "-"],
+        &["type", "-"],
+    ] {
+        let (answer, message, status) = said(words, list);
+        assert_eq!((answer.as_str(), status), ("", Some(1)), "{words:?}");
+        assert_eq!(message, format!("standard input{shown}\n"), "{words:?}");
+    }
+}
+
+/// The place, what is wrong, the line, and the caret under the column; what may not stand in a text is made visible.
+#[test]
+fn faults_of_typed_lists() {
+    let letters = "only letters, digits, signs and spaces may stand here: no tab, no accent";
+    let caret = |list: &[u8], place: &str, line: &str, caret: &str| {
+        mistaken(list, &format!(":{place}: {letters}\n{line}\n{caret}"));
+    };
+    caret(b"row\n\tHome pad\n", "2:1", "<tab>Home pad", "^");
+    caret(b"row\n  Home\tpad\n", "2:7", "  Home<tab>pad", "      ^");
+    caret(
+        "row\n  Füzes, tó\n".as_bytes(),
+        "2:4",
+        "  Füzes, tó",
+        "   ^",
+    );
+    caret(b"row\n  F\xFCzes\n", "2:4", "  F<FC>zes", "   ^");
+    caret(
+        "row\n  Home\u{A0}pad".as_bytes(),
+        "2:7",
+        "  Home<U+00A0>pad",
+        "      ^",
+    );
+    caret("\u{FEFF}row\n".as_bytes(), "1:1", "<U+FEFF>row", "^");
+    caret(b"a\x1B[2J\r\n", "1:2", "a<1B>[2J", " ^");
+    caret(b"column\r  a\r", "1:7", "column<0D>  a", "      ^");
+
+    let escape = "after a backslash only n or a backslash may stand";
+    mistaken(b"a\\\n", &format!(":1:3: {escape}\na\\\n  ^"));
+    let two = "a second root: every line after the first is indented";
+    mistaken(b"row\r\n  a\r\nrow\r\n", &format!(":3:1: {two}\nrow\n^"));
+    let empty = "the list is empty: no line has a row, a column or a text";
+    mistaken(b"# nothing yet\n", &format!(":2:1: {empty}\n\n^"));
+    mistaken(b"", &format!(":1:1: {empty}\n\n^"));
+    mistaken(&[b' '; 131_073], ": the list has over 131,072 bytes");
+    let long = "the list is too long: with this line its tree has over 32,768 bytes";
+    let line = "x".repeat(72) + "..";
+    mistaken(&[b'x'; 32_766], &format!(":1:1: {long}\n{line}\n^"));
+}
+
+/// The example of a mistake; and one in a list whose sheet is refused is that of a file of bytes.
+#[test]
+fn a_mistake_in_a_file() {
+    let message = "mistake.list:8:6: a level is two spaces, and this line begins with an odd number of them\n     \
+                   Dam, west end\n     ^\n";
+    for words in [
+        &["print", "mistake.list"][..],
+        &["fold", "mistake.list", "60"],
+        &["draft", "save", "a", "A", "mistake.list"],
+    ] {
+        assert_eq!(said(words, b""), (String::new(), message.into(), Some(1)));
+    }
+    let wide = "refused.list: refused 6: the sheet has over 400 columns or over 160 lines";
+    fails(&["print", "refused.list"], wide, 1);
 }
 
 /// A folder for one test, which goes with it.
@@ -452,7 +635,7 @@ fn other_files_are_refused() {
     let (store, other) = (store.as_str(), other.as_str());
     answers(&["draft", "new", store, "40"], "");
     answers(&["draft", "save", store, "B", "figure2.legs"], "");
-    std::fs::write(other, b"\x20\x00").expect("a file");
+    std::fs::write(other, b"\x10\x00").expect("a file");
     let before = std::fs::read(store).expect("a store");
     let (_, message, _) = said(&["draft", "save", store, "A", "flight.plan"], b"");
     assert!(message.contains("flight.plan: refused 2: "), "{message}");
@@ -470,7 +653,7 @@ fn other_files_are_refused() {
     refused(&["draft", "list", other], no_store);
     refused(&["draft", "save", other, "I", "figure2.legs"], no_store);
     assert_eq!(std::fs::read(store).expect("a store"), before);
-    assert_eq!(std::fs::read(other).expect("a file"), b"\x20\x00");
+    assert_eq!(std::fs::read(other).expect("a file"), b"\x10\x00");
     assert_eq!(folder.files(), ["other", "store"]);
 }
 
@@ -570,7 +753,7 @@ fn checks_without_lines() {
 
 #[test]
 fn check_looks_at_a_tree_behind_bad_settings() {
-    let (answer, _, status) = said(&["check", "-"], &[b'x'; 40]);
+    let (answer, _, status) = said(&["check", "-"], &[0x10; 40]);
     let words = |line: &str| line.split(": ").take(2).collect::<Vec<_>>().join(" ");
     let verdicts: Vec<String> = answer.lines().map(words).collect();
     assert_eq!(
@@ -591,10 +774,15 @@ fn refusals_are_messages() {
     fails(&["place", "figure2.legs", "5", "0"], outside, 1);
     let margin = "binder.legs: refused 13: the place is in the sheet's margin";
     fails(&["place", "binder.legs", "1", "7"], margin, 1);
-    let empty = "standard input: refused 1: the settings are not of their form or ranges";
-    fails(&["print", "-"], empty, 1);
-    fails(&["sizes", "-"], empty, 1);
-    fails(&["place", "-", "0", "0"], empty, 1);
+    let cut = "legs: standard input: refused 1: the settings are not of their form or ranges\n";
+    for words in [
+        &["print", "-"][..],
+        &["sizes", "-"],
+        &["place", "-", "0", "0"],
+    ] {
+        let refused = (String::new(), cut.into(), Some(1));
+        assert_eq!(said(words, &DEFAULTS[..30]), refused);
+    }
 }
 
 #[test]
@@ -612,6 +800,8 @@ fn help() {
         "widen FILE",
         "blank FILE [NODE..]",
         "check FILE",
+        "type FILE",
+        "bytes FILE",
         "draft new STORE BYTES",
         "draft save STORE NAME FILE",
         "draft forget STORE NAME",
@@ -669,6 +859,8 @@ fn usage() {
     fails(&["widen"], "legs widen FILE");
     fails(&["blank"], "legs blank FILE [NODE..]");
     fails(&["blank", "a", "7", "x"], "\"x\" is no number from 0 on");
+    fails(&["type"], "legs type FILE");
+    fails(&["bytes", "a", "b"], "legs bytes FILE");
     fails(
         &["fold", "list.legs", "60", "x"],
         "\"x\" is no number from 0 on",
@@ -703,7 +895,7 @@ fn output_that_fails() {
 #[test]
 fn an_endless_input_ends() {
     let (_, message, status) = said(&["print", "/dev/zero"], b"");
-    assert!(message.contains("refused 1"), "{message}");
+    assert_eq!(message, "/dev/zero: the list has over 131,072 bytes\n");
     assert_eq!(status, Some(1));
 
     let endless = std::fs::File::open("/dev/zero").expect("a device without end");

@@ -124,6 +124,15 @@ pub struct Planned {
     pub ends: Ends,
 }
 
+/// A number, the count of a tree's bytes, and the line and column of a fault: 0 and 0 where it has no place, or there is none.
+#[derive(Debug, Clone, Copy, Default, PartialEq, Eq)]
+pub struct Typed {
+    pub number: u8,
+    pub count: usize,
+    pub line: usize,
+    pub column: usize,
+}
+
 /// What `short_splits3` answers.
 #[derive(Debug, Clone, PartialEq, Eq)]
 pub struct CutParts {
@@ -227,6 +236,9 @@ pub trait Calls {
 
     /// Writes the tree with the texts of these Cells blanked, of all where none is named. Answers its bytes.
     fn blank(&mut self, tree: &[u8], nodes: &[u16], output: &mut [u8]) -> Counted;
+
+    /// Reads a typed list and writes its tree. Answers the tree's bytes, or the fault's place.
+    fn read_typed(&mut self, list: &[u8], output: &mut [u8]) -> Typed;
 
     fn short_splits3(&mut self, list: &SplitList, width: u16) -> CutParts;
 

@@ -4,6 +4,7 @@ mod alike;
 mod bare;
 mod blanks;
 mod drafts;
+mod typed;
 
 use std::collections::BTreeMap;
 use std::fmt;
@@ -57,7 +58,7 @@ impl Counts {
 }
 
 /// The numbers that each call can give, by the documents' tables; and those that it can give to alike trees, whose texts have no forbidden byte.
-pub const NUMBERS: [(&str, &[u8]); 34] = [
+pub const NUMBERS: [(&str, &[u8]); 35] = [
     ("settings", &[0, 1]),
     ("margin", &[0, 1]),
     ("tree", &[0, 2, 3, 4, 5]),
@@ -74,6 +75,7 @@ pub const NUMBERS: [(&str, &[u8]); 34] = [
     ("forget", &[0, 18, 19]),
     ("return", &[0, 8, 18, 19]),
     ("blank", &[0, 2, 3, 4, 5, 8, 9]),
+    ("typed", &[0, 8, 30, 31, 32, 33, 34, 35, 36, 37, 38, 39]),
     ("short_splits3", &[0, 10]),
     ("short_splits3, lent", &[0, 10]),
     ("short_splits", &[0, 10]),
@@ -121,7 +123,7 @@ pub type Part = (
     fn(&mut Comparison, &mut Rng, usize) -> Result<(), Difference>,
 );
 
-/// The parts with lines; those without are in `bare`, those of document 02, 14, in `blanks` and `alike`.
+/// The parts with lines; those without are in `bare`, those of document 02, 14, in `blanks` and `alike`, those of typed lists in `typed`.
 const PARTS: [Part; 26] = [
     ("settings records", |c, _, _| c.settings_records()),
     ("short and faulty trees", |c, _, _| c.faulty_trees()),
@@ -186,7 +188,8 @@ const PARTS: [Part; 26] = [
 /// Every part.
 pub fn parts() -> impl Iterator<Item = Part> {
     let first = PARTS.into_iter().chain(bare::PARTS);
-    first.chain(blanks::PARTS).chain(alike::PARTS)
+    let later = blanks::PARTS.into_iter().chain(alike::PARTS);
+    first.chain(later).chain(typed::PARTS)
 }
 
 fn bytes(bytes: &[u8]) -> String {

@@ -1,7 +1,9 @@
 //! Inputs: exhaustive small ones, random ones, those on each side of each limit, damaged ones.
 
 pub mod alike;
+pub mod long;
 pub mod stores;
+pub mod typed;
 
 use crate::form::{
     encode_element, encode_plan, encode_settings, encode_tree, Fold, Margin, Plan, Range, Settings,

@@ -20,6 +20,7 @@ pub mod planning;
 pub mod plans;
 pub mod replay;
 pub mod sides;
+pub mod typing;
 pub mod widening;
 pub mod widths;
 

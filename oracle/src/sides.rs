@@ -1,16 +1,17 @@
-//! Two sides of the calls: the crate and the documents. Both refuse as the judge says, keep drafts as `drafting` does and blank texts as `blanking` does: the crate has
-//! neither.
+//! Two sides of the calls: the crate and the documents. Both refuse as the judge says, keep drafts as `drafting` does, blank texts as `blanking` does and read typed lists as
+//! `typing` does: the crate has none of these.
 
 use crate::calls::{
     Calls, Counted, CutParts, CutPositions, Folded, LeafPlace, LeafRecord, Marked, Planned,
-    ReadMargin, ReadSettings, Shared, SizeRecord, SplitList,
+    ReadMargin, ReadSettings, Shared, SizeRecord, SplitList, Typed,
 };
 use crate::folding::{self, Chosen};
 use crate::form::{
     Answer, Cut, Cut3, CutPair, Ends, Flags, Fold, Need, Owner, Owners, Plan, Settings, Tree,
 };
 use crate::judge;
-use crate::{blanking, drafting, original, paper, planning, widening};
+use crate::typing::Fault;
+use crate::{blanking, drafting, original, paper, planning, typing, widening};
 
 /// Where the answers of a side come from; the refusals are the judge's.
 pub trait Answers {
@@ -491,6 +492,25 @@ impl<A: Answers> Calls for Side<A> {
         match blanking::blanked(tree, nodes, output.len()) {
             Ok(tree) => write(&tree, output),
             Err(number) => Counted { number, count: 0 },
+        }
+    }
+
+    fn read_typed(&mut self, list: &[u8], output: &mut [u8]) -> Typed {
+        match typing::read_into(list, output.len()) {
+            Ok(tree) => Typed {
+                count: write(&tree, output).count,
+                ..Typed::default()
+            },
+            Err(Fault {
+                number,
+                line,
+                column,
+            }) => Typed {
+                number,
+                count: 0,
+                line,
+                column,
+            },
         }
     }
 

@@ -2,10 +2,10 @@
 
 mod faulty;
 
-use faulty::{blanks, lines};
+use faulty::{blanks, lines, typed};
 use oracle::calls::{
     Calls, Counted, CutParts, CutPositions, Folded, LeafPlace, LeafRecord, Marked, Planned,
-    ReadMargin, ReadSettings, Shared, SizeRecord, SplitList,
+    ReadMargin, ReadSettings, Shared, SizeRecord, SplitList, Typed,
 };
 use oracle::compare::{Comparison, Difference, NUMBERS};
 use oracle::gen::{self, Margins, Rng};
@@ -103,6 +103,14 @@ fn blanked() {
     agree(|comparison| comparison.any_blanks(&mut Rng::new(33), 400));
 }
 
+#[test]
+fn typed_lists() {
+    agree(|comparison| comparison.short_typed(4, 3));
+    agree(|comparison| comparison.typed_trees(&mut Rng::new(38), 1000));
+    agree(|comparison| comparison.any_typed(&mut Rng::new(39), 5000));
+    agree(|comparison| comparison.typed_limits(&mut Rng::new(40), 1));
+}
+
 /// Alike trees (document 02, 14), with lines and without.
 #[test]
 fn alike() {
@@ -171,6 +179,8 @@ fn every_number_is_reached() {
             .and_then(|()| comparison.any_needs(&mut rng.clone(), 400))
             .and_then(|()| comparison.any_stores(&mut rng.clone(), 400))
             .and_then(|()| comparison.any_blanks(&mut rng.clone(), 400))
+            .and_then(|()| comparison.any_typed(&mut rng.clone(), 2000))
+            .and_then(|()| comparison.typed_limits(&mut rng.clone(), 1))
             .and_then(|()| comparison.alike(&mut rng.clone(), 400))
             .and_then(|()| comparison.near_alike(&mut rng.clone(), 1))
             .and_then(|()| comparison.alike_series(&mut rng.clone(), 60))
@@ -270,7 +280,7 @@ struct Faulty {
     fault: u8,
 }
 
-const FAULTS: u8 = blanks::LAST + 1;
+const FAULTS: u8 = typed::LAST + 1;
 
 /// The judge's numbers with the margin and without it: whether only the margin makes a sheet too large.
 fn is_large_by_margin(number: u8, settings: &[u8], tree: &[u8]) -> bool {
@@ -795,6 +805,10 @@ impl Calls for Faulty {
         blanks::blank(self.fault, tree, nodes, output)
     }
 
+    fn read_typed(&mut self, list: &[u8], output: &mut [u8]) -> Typed {
+        typed::read(self.fault, list, output)
+    }
+
     fn short_splits3(&mut self, list: &SplitList, width: u16) -> CutParts {
         let mut answer = self.paper.short_splits3(list, width);
         match self.fault {
@@ -881,6 +895,14 @@ fn with_blanks(comparison: &mut Comparison) -> Result<(), Difference> {
     comparison.any_blanks(&mut Rng::new(18), 50)
 }
 
+/// A comparison of the call that reads typed lists.
+fn with_typed(comparison: &mut Comparison) -> Result<(), Difference> {
+    comparison.short_typed(3, 2)?;
+    comparison.typed_trees(&mut Rng::new(18), 200)?;
+    comparison.any_typed(&mut Rng::new(18), 3000)?;
+    comparison.typed_limits(&mut Rng::new(18), 1)
+}
+
 /// The comparison finds each fault, and nothing without one.
 #[test]
 fn faults_are_found() {
@@ -891,7 +913,9 @@ fn faults_are_found() {
         let run = match fault {
             FAULTS => with_lines(&mut comparison)
                 .and_then(|()| without_lines(&mut comparison))
-                .and_then(|()| with_blanks(&mut comparison)),
+                .and_then(|()| with_blanks(&mut comparison))
+                .and_then(|()| with_typed(&mut comparison)),
+            typed::FIRST.. => with_typed(&mut comparison),
             blanks::FIRST.. => with_blanks(&mut comparison),
             lines::FIRST.. => without_lines(&mut comparison),
             _ => with_lines(&mut comparison),

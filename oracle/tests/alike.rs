@@ -2,7 +2,7 @@
 
 use oracle::calls::{
     Calls, Counted, CutParts, CutPositions, Folded, LeafPlace, LeafRecord, Marked, Planned,
-    ReadMargin, ReadSettings, Shared, SizeRecord, SplitList,
+    ReadMargin, ReadSettings, Shared, SizeRecord, SplitList, Typed,
 };
 use oracle::compare::{Comparison, Difference};
 use oracle::gen::{self, Rng};
@@ -175,6 +175,10 @@ impl Calls for Swayed {
         let answer = self.paper.blank(&tree, nodes, output);
         self.spoil("blank", &mut output[..answer.count]);
         answer
+    }
+
+    fn read_typed(&mut self, list: &[u8], output: &mut [u8]) -> Typed {
+        self.paper.read_typed(list, output)
     }
 
     fn short_splits3(&mut self, list: &SplitList, width: u16) -> CutParts {

@@ -1,8 +1,9 @@
 //! The calls on drafts by the document's steps, with one of them gone wrong: faults 110 to 131, each named where it is made. Those without lines are in `lines`, those of
-//! blanked texts in `blanks`.
+//! blanked texts in `blanks`, those of typed lists in `typed`.
 
 pub mod blanks;
 pub mod lines;
+pub mod typed;
 
 use oracle::drafting::{encode_store, read_store, Draft, NAMES};
 use oracle::judge;

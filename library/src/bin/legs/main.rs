@@ -5,27 +5,34 @@
 
 mod commands;
 mod fault;
+mod file;
+mod help;
 mod operands;
 mod replace;
+mod shown;
 mod store;
 
 use std::ffi::OsString;
 use std::io::{self, Write};
 use std::process::ExitCode;
 
-use commands::{find, help, Answer};
+use commands::{find, Answer};
 use fault::Fault;
+use help::help;
+use operands::{split_settings, Words};
 
 /// Finds the command among the words and runs it on the others.
 fn run(words: &[OsString]) -> Result<Answer, Fault> {
     if words.iter().any(|word| word == "--help") {
         return Ok(Answer::accepted(help()));
     }
-    let (command, operands) = find(words)?;
-    if !command.takes(operands.len()) {
+    let (words, settings) = split_settings(words)?;
+    let (command, operands) = find(&words)?;
+    let settings = settings.as_deref();
+    if !command.takes(operands.len(), settings.is_some()) {
         return Err(Fault::Usage(command.usage()));
     }
-    (command.run)(operands)
+    (command.run)(&Words { operands, settings })
 }
 
 fn write(bytes: &[u8]) -> Result<(), Fault> {
@@ -41,7 +48,7 @@ fn main() -> ExitCode {
     let status = run(&words).and_then(|answer| write(&answer.bytes).map(|()| answer.status));
     ExitCode::from(status.unwrap_or_else(|fault| {
         // Where standard error fails too, the status is all that is left to say it.
-        let _ = writeln!(io::stderr(), "legs: {fault}");
+        let _ = writeln!(io::stderr(), "{fault}");
         fault.status()
     }))
 }

@@ -1,45 +1,56 @@
-//! The operands of a command: files, numbers, names, and places on standard input.
+//! The words behind a command: a file, numbers, names, the option for settings; and places on standard input.
 
-use std::ffi::OsStr;
-use std::fs;
+use std::ffi::{OsStr, OsString};
 use std::io::{self, BufRead, Read};
 
-use leg_sheet::{calls, Input, Place, Refusal};
+use leg_sheet::{calls, Place};
 
 use crate::fault::Fault;
+use crate::file::File;
 
-/// An input that was read, with its name for messages.
-pub struct File {
-    pub name: String,
-    bytes: Vec<u8>,
+/// The option, which may stand anywhere behind the command.
+const SETTINGS: &str = "--settings";
+
+/// What stands behind a command's name.
+pub struct Words<'a> {
+    /// As many as the command takes.
+    pub operands: &'a [OsString],
+    /// The file of the option, where it is given and the command takes it.
+    pub settings: Option<&'a OsStr>,
 }
 
-impl File {
-    /// Reads a file, or standard input where it is called `-`; no more of it than can make a difference.
-    pub fn read(path: &OsStr) -> Result<File, Fault> {
-        if path == "-" {
-            return File::read_from("standard input".into(), || Ok(io::stdin().lock()));
+impl Words<'_> {
+    /// The file that is the first operand, under the settings of the option.
+    pub fn file(&self) -> Result<File, Fault> {
+        let path = &self.operands[0];
+        if path == "-" && self.settings.is_some_and(|settings| settings == "-") {
+            return Err(Fault::Usage("standard input is read once".into()));
         }
-        File::read_from(path.to_string_lossy().into(), || fs::File::open(path))
+        File::read(path, self.settings)
     }
 
-    fn read_from<R: Read>(name: String, open: impl Fn() -> io::Result<R>) -> Result<File, Fault> {
-        let mut bytes = Vec::new();
-        match open().and_then(|source| source.take(Input::BYTES as u64).read_to_end(&mut bytes)) {
-            Ok(_) => Ok(File { name, bytes }),
-            Err(error) => Err(Fault::Failed(name, error)),
+    /// An operand that is a number.
+    pub fn number(&self, at: usize) -> Result<usize, Fault> {
+        number(&self.operands[at])
+    }
+}
+
+/// The words without the option, and the file of the option.
+pub fn split_settings(words: &[OsString]) -> Result<(Vec<OsString>, Option<OsString>), Fault> {
+    let (mut others, mut settings) = (Vec::new(), None);
+    let mut words = words.iter().cloned();
+    while let Some(word) = words.next() {
+        if word != SETTINGS {
+            others.push(word);
+            continue;
         }
+        let file = words.next();
+        if file.is_none() || settings.is_some() {
+            return Err(Fault::Usage(format!("{SETTINGS} FILE, once")));
+        }
+        settings = file;
     }
-
-    /// Its settings and tree.
-    pub fn input(&self) -> Input<'_> {
-        Input::split(&self.bytes)
-    }
-
-    /// What a call answers on its settings and tree.
-    pub fn call<T>(&self, call: impl Fn(Input) -> Result<T, Refusal>) -> Result<T, Fault> {
-        call(self.input()).map_err(|refusal| Fault::Refused(self.name.clone(), refusal))
-    }
+    Ok((others, settings))
 }
 
 /// The name of a draft: a letter's byte, of which the library says whether it is one.

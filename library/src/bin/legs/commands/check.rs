@@ -1,20 +1,19 @@
-use std::ffi::OsString;
-
 use leg_sheet::{calls, Refusal, Settings};
 
 use super::{Answer, Command};
 use crate::fault::Fault;
-use crate::operands::File;
+use crate::operands::Words;
 
 pub const COMMAND: Command = Command {
     name: "check",
     operands: &["FILE"],
+    takes_settings: true,
     about: "what of the settings, the tree and the sheet is refused, and why",
     run,
 };
 
-fn run(words: &[OsString]) -> Result<Answer, Fault> {
-    let file = File::read(&words[0])?;
+fn run(words: &Words) -> Result<Answer, Fault> {
+    let file = words.file()?;
     let input = file.input();
     let settings = Settings::from_bytes(input.settings).map(|_| String::new());
     let tree = calls::read_tree(input.tree).map(|nodes| format!(", nodes: {nodes}"));

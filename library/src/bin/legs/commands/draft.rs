@@ -1,4 +1,4 @@
-use std::ffi::{OsStr, OsString};
+use std::ffi::OsStr;
 use std::fmt::Display;
 use std::io::ErrorKind;
 use std::path::Path;
@@ -7,13 +7,15 @@ use leg_sheet::{Draft, DraftStore, Refusal, Settings};
 
 use super::{Answer, Command};
 use crate::fault::Fault;
-use crate::operands::{draft_name, number, File};
+use crate::file::{read_settings, File};
+use crate::operands::{draft_name, Words};
 use crate::replace::replace;
 use crate::store::StoreFile;
 
 pub const NEW: Command = Command {
     name: "draft new",
     operands: &["STORE", "BYTES"],
+    takes_settings: false,
     about: "a new store of so many bytes, all of them free",
     run: new,
 };
@@ -21,6 +23,7 @@ pub const NEW: Command = Command {
 pub const SAVE: Command = Command {
     name: "draft save",
     operands: &["STORE", "NAME", "FILE"],
+    takes_settings: false,
     about: "saves the tree of FILE as a draft; an older one of that name is dropped",
     run: save,
 };
@@ -28,6 +31,7 @@ pub const SAVE: Command = Command {
 pub const FORGET: Command = Command {
     name: "draft forget",
     operands: &["STORE", "NAME"],
+    takes_settings: false,
     about: "forgets a draft",
     run: forget,
 };
@@ -35,6 +39,7 @@ pub const FORGET: Command = Command {
 pub const RETURN: Command = Command {
     name: "draft return",
     operands: &["STORE", "NAME", "[FILE]"],
+    takes_settings: false,
     about: "puts a draft in the place of FILE's tree; without FILE it is printed, behind the default settings",
     run: return_to,
 };
@@ -42,21 +47,22 @@ pub const RETURN: Command = Command {
 pub const LIST: Command = Command {
     name: "draft list",
     operands: &["STORE"],
+    takes_settings: false,
     about: "the drafts' names and bytes, and how many are free",
     run: list,
 };
 
-fn new(words: &[OsString]) -> Result<Answer, Fault> {
-    StoreFile::create(&words[0], number(&words[1])?)?;
+fn new(words: &Words) -> Result<Answer, Fault> {
+    StoreFile::create(&words.operands[0], words.number(1)?)?;
     Ok(Answer::done())
 }
 
-/// The settings are read, too: a file that has none is no sheet's, and where its tree begins is not known.
-fn save(words: &[OsString]) -> Result<Answer, Fault> {
-    let name = draft_name(&words[1])?;
-    let file = File::read(&words[2])?;
+/// The settings are read, too: where the tree begins behind others is not known.
+fn save(words: &Words) -> Result<Answer, Fault> {
+    let name = draft_name(&words.operands[1])?;
+    let file = File::read(&words.operands[2], None)?;
     file.call(|input| Settings::from_bytes(input.settings))?;
-    let mut store = StoreFile::read(&words[0])?;
+    let mut store = StoreFile::read(&words.operands[0])?;
     let saved = store.call(|store| store.save_bytes(name, file.input().tree));
     saved.map_err(|fault| match fault {
         Fault::Refused(_, refusal) if (2..=5).contains(&refusal.number()) => {
@@ -68,19 +74,19 @@ fn save(words: &[OsString]) -> Result<Answer, Fault> {
     Ok(Answer::done())
 }
 
-fn forget(words: &[OsString]) -> Result<Answer, Fault> {
-    let name = draft_name(&words[1])?;
-    let mut store = StoreFile::read(&words[0])?;
+fn forget(words: &Words) -> Result<Answer, Fault> {
+    let name = draft_name(&words.operands[1])?;
+    let mut store = StoreFile::read(&words.operands[0])?;
     store.call(|store| store.forget(name))?;
     store.keep()?;
     Ok(Answer::done())
 }
 
-fn return_to(words: &[OsString]) -> Result<Answer, Fault> {
-    let name = draft_name(&words[1])?;
-    let mut store = StoreFile::read(&words[0])?;
+fn return_to(words: &Words) -> Result<Answer, Fault> {
+    let name = draft_name(&words.operands[1])?;
+    let mut store = StoreFile::read(&words.operands[0])?;
     let tree = store.call(|store| store.return_bytes(name))?;
-    let Some(path) = words.get(2).filter(|&word| word != "-") else {
+    let Some(path) = words.operands.get(2).filter(|&word| word != "-") else {
         let settings = Settings::default().to_bytes();
         return Ok(Answer::file([settings, tree].concat()));
     };
@@ -90,22 +96,18 @@ fn return_to(words: &[OsString]) -> Result<Answer, Fault> {
     Ok(Answer::done())
 }
 
-/// The settings that a file has, as they stand there; of one that is not there the default ones.
+/// The settings that a file has, as they stand there; of one that is not there the default ones. A typed list has none, and is not written over.
 fn settings_of(path: &OsStr) -> Result<Vec<u8>, Fault> {
-    match File::read(path) {
-        Ok(file) => {
-            file.call(|input| Settings::from_bytes(input.settings))?;
-            Ok(file.input().settings.to_vec())
-        }
+    match read_settings(path) {
         Err(Fault::Failed(_, error)) if error.kind() == ErrorKind::NotFound => {
             Ok(Settings::default().to_bytes())
         }
-        Err(fault) => Err(fault),
+        read => read,
     }
 }
 
-fn list(words: &[OsString]) -> Result<Answer, Fault> {
-    let mut store = StoreFile::read(&words[0])?;
+fn list(words: &Words) -> Result<Answer, Fault> {
+    let mut store = StoreFile::read(&words.operands[0])?;
     Ok(Answer::accepted(store.call(|store| lines(store))?))
 }
 

@@ -1,22 +1,22 @@
-use std::ffi::OsString;
-
 use leg_sheet::{Folded, Input, Refusal, Tree};
 
 use super::{listed, Answer, Command};
 use crate::fault::Fault;
-use crate::operands::{number, File};
+use crate::operands::{number, Words};
 
 pub const COMMAND: Command = Command {
     name: "fold",
     operands: &["FILE", "WIDTH", "[BUDGET]"],
+    takes_settings: true,
     about: "the sheet of a list folded into Columns of one Row, and what was found",
     run,
 };
 
-fn run(words: &[OsString]) -> Result<Answer, Fault> {
-    let width = number(&words[1])?;
-    let budget = words.get(2).map_or(Ok(usize::MAX), |word| number(word))?;
-    let file = File::read(&words[0])?;
+fn run(words: &Words) -> Result<Answer, Fault> {
+    let width = words.number(1)?;
+    let budget = words.operands.get(2);
+    let budget = budget.map_or(Ok(usize::MAX), |word| number(word))?;
+    let file = words.file()?;
     let folded = file.call(|input| input.fold(width, budget))?;
     let sheet = file.call(|input| sheet(input, &folded))?;
     Ok(Answer::accepted(format!("{sheet}\n{}", line(&folded))))

@@ -1,21 +1,20 @@
-use std::ffi::OsString;
-
 use leg_sheet::{CutPair, Flags, LeafRecord};
 
 use super::{listed, Answer, Command};
 use crate::fault::Fault;
-use crate::operands::{number, File};
+use crate::operands::Words;
 
 pub const COMMAND: Command = Command {
     name: "leaf",
     operands: &["FILE", "NODE"],
+    takes_settings: true,
     about: "a leaf's size, flags, cut, split lists and block",
     run,
 };
 
-fn run(words: &[OsString]) -> Result<Answer, Fault> {
-    let node = number(&words[1])?;
-    let file = File::read(&words[0])?;
+fn run(words: &Words) -> Result<Answer, Fault> {
+    let node = words.number(1)?;
+    let file = words.file()?;
     let record = file.call(|input| input.leaf_record(node))?;
     let block = file.call(|input| input.print_leaf(node))?;
     Ok(Answer::accepted(format!("{}\n{block}\n", lines(&record))))

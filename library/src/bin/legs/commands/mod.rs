@@ -1,6 +1,7 @@
 //! The commands. One more is a file here with its `COMMAND`, and its name in the table.
 
 mod blank;
+mod bytes;
 mod check;
 mod draft;
 mod fold;
@@ -10,6 +11,7 @@ mod place;
 mod plan;
 mod print;
 mod sizes;
+mod typing;
 mod widen;
 
 use std::ffi::OsString;
@@ -18,6 +20,7 @@ use std::fmt::Display;
 use leg_sheet::LeafPlace;
 
 use crate::fault::{Fault, REFUSED};
+use crate::operands::Words;
 
 /// In the order of `--help`.
 pub const COMMANDS: &[Command] = &[
@@ -31,6 +34,8 @@ pub const COMMANDS: &[Command] = &[
     widen::COMMAND,
     blank::COMMAND,
     check::COMMAND,
+    typing::COMMAND,
+    bytes::COMMAND,
     draft::NEW,
     draft::SAVE,
     draft::FORGET,
@@ -43,10 +48,12 @@ pub struct Command {
     name: &'static str,
     /// The last may stand in brackets: it can be left out. With two dots it can stand there many times.
     operands: &'static [&'static str],
+    /// Whether `--settings FILE` may stand behind it.
+    takes_settings: bool,
     /// What it does, for `--help`.
-    about: &'static str,
+    pub about: &'static str,
     /// Is handed as many words as it takes.
-    pub run: fn(&[OsString]) -> Result<Answer, Fault>,
+    pub run: fn(&Words) -> Result<Answer, Fault>,
 }
 
 impl Command {
@@ -63,12 +70,13 @@ impl Command {
         Some(rest)
     }
 
-    /// Whether so many words are its operands.
-    pub fn takes(&self, count: usize) -> bool {
+    /// Whether so many words are its operands, and the option may stand there if it does.
+    pub fn takes(&self, count: usize, has_settings: bool) -> bool {
         let optional = self.operands.iter().filter(|name| name.starts_with('['));
         let most = self.operands.len();
         let is_many = self.operands.iter().any(|name| name.ends_with("..]"));
-        most - optional.count() <= count && (is_many || count <= most)
+        let is_count = most - optional.count() <= count && (is_many || count <= most);
+        is_count && (self.takes_settings || !has_settings)
     }
 
     pub fn usage(&self) -> String {
@@ -130,24 +138,6 @@ impl Answer {
             status: REFUSED,
         }
     }
-}
-
-/// What `--help` prints.
-pub fn help() -> String {
-    let line = |command: &Command| format!("  {:<38}{}\n", command.usage(), command.about);
-    let commands: String = COMMANDS.iter().map(line).collect();
-    format!(
-        "Prints leg sheets: bordered tables of nested rows and columns.\n\n{commands}\n\
-         FILE is a settings record, with the margin's field or without, then a tree, as examples/encode.py writes them; - is standard input.\n\
-         For plan the tree may have ranges, where texts are to come; no other command takes them.\n\
-         Nodes are numbered from 0, a parent before its children, these from left to right.\n\
-         Lines and columns are counted from 0, in the sheet as it is printed.\n\
-         WIDTH is of the sheet inside its edges and margin. BUDGET limits the heights that are tried.\n\
-         blank writes a FILE: legs blank key.legs 7 11 > paper.legs.\n\
-         STORE is a file of drafts, up to eight, each under a NAME, A to H. A draft is a tree: no settings are saved, and a FILE that is written keeps its own.\n\
-         Whatever happens, a STORE or FILE that is written is there whole, as it was before or as it shall be.\n\n\
-         Exit status: 0, or 1 refused, 2 usage, 3 input or output failed.\n"
-    )
 }
 
 /// A leaf and a place in its block, as a line.

@@ -1,21 +1,21 @@
-use std::ffi::OsString;
 use std::ops::RangeInclusive;
 
 use leg_sheet::{calls, Planned};
 
 use super::{Answer, Command};
 use crate::fault::Fault;
-use crate::operands::File;
+use crate::operands::Words;
 
 pub const COMMAND: Command = Command {
     name: "plan",
     operands: &["FILE"],
+    takes_settings: true,
     about: "the least and the greatest columns and lines of a planning tree's sheets",
     run,
 };
 
-fn run(words: &[OsString]) -> Result<Answer, Fault> {
-    let planned = File::read(&words[0])?.call(|input| input.plan())?;
+fn run(words: &Words) -> Result<Answer, Fault> {
+    let planned = words.file()?.call(|input| input.plan())?;
     Ok(Answer::accepted(lines(&planned)))
 }
 

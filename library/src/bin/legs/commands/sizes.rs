@@ -1,21 +1,21 @@
-use std::ffi::OsString;
 use std::fmt::Display;
 
 use leg_sheet::SizeRecord;
 
 use super::{Answer, Command};
 use crate::fault::Fault;
-use crate::operands::File;
+use crate::operands::Words;
 
 pub const COMMAND: Command = Command {
     name: "sizes",
     operands: &["FILE"],
+    takes_settings: true,
     about: "what each node needs and is allotted, and the nodes below it, by its number",
     run,
 };
 
-fn run(words: &[OsString]) -> Result<Answer, Fault> {
-    let sizes = File::read(&words[0])?.call(|input| input.sizes())?;
+fn run(words: &Words) -> Result<Answer, Fault> {
+    let sizes = words.file()?.call(|input| input.sizes())?;
     let mut text = line([
         "node",
         "natural width",

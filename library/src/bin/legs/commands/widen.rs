@@ -1,15 +1,15 @@
-use std::ffi::OsString;
 use std::fmt::Display;
 
 use leg_sheet::{Need, Tree};
 
 use super::{Answer, Command};
 use crate::fault::Fault;
-use crate::operands::File;
+use crate::operands::Words;
 
 pub const COMMAND: Command = Command {
     name: "widen",
     operands: &["FILE"],
+    takes_settings: true,
     about: "the fewest letters more that each Cell needs to widen the sheet, the fewest first",
     run,
 };
@@ -17,8 +17,8 @@ pub const COMMAND: Command = Command {
 /// The letters of a text that are shown.
 const SHOWN: usize = 32;
 
-fn run(words: &[OsString]) -> Result<Answer, Fault> {
-    let file = File::read(&words[0])?;
+fn run(words: &Words) -> Result<Answer, Fault> {
+    let file = words.file()?;
     let needs = file.call(|input| input.widen())?;
     let tree = file.call(|input| Tree::from_bytes(input.tree))?;
     let nodes = nodes(&tree);

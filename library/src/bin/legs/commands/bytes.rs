@@ -1,0 +1,21 @@
+use leg_sheet::{calls, Settings};
+
+use super::{Answer, Command};
+use crate::fault::Fault;
+use crate::operands::Words;
+
+pub const COMMAND: Command = Command {
+    name: "bytes",
+    operands: &["FILE"],
+    takes_settings: true,
+    about: "the settings and the tree of a typed list as bytes",
+    run,
+};
+
+fn run(words: &Words) -> Result<Answer, Fault> {
+    let file = words.file()?;
+    file.call(|input| Settings::from_bytes(input.settings))?;
+    file.call(|input| calls::read_tree(input.tree))?;
+    let input = file.input();
+    Ok(Answer::file([input.settings, input.tree].concat()))
+}
