@@ -1,8 +1,8 @@
 -- The walk over a tree whose texts are replaced byte for byte: the same places, sizes, flags and split lists. Assumes nothing.
-use mathlib.Core.Path.{_≡_, refl, sym, ap, ap₂, _∙_}
+use mathlib.Core.Path.{_≡_, refl, sym, ap₂, _∙_}
 use Prim.Native.Nat.{ℕ, suc, _+_}
 use mathlib.Core.Bool.{Bool, true, false}
-use mathlib.Core.List.{List, [], _∷_, _++_, map}
+use mathlib.Core.List.{List, [], _++_, map, map-append}
 use lib.Dec.{eqb}
 use Rattle.common.specs.Choice.{pick}
 use Rattle.settings.specs.declared.Settings.{Settings}
@@ -19,10 +19,6 @@ use Rattle.paper.proofs.Blocks.{Surround, block-recast}
 -- a placed leaf with its text replaced
 abbrev pub placed : (ℕ → ℕ) → Placed → Placed
 placed f l = record { text = map f (l .text); at = l .at }
-
-map-append : {A B : Type 0} (g : A → B) (x y : List A) → map g (x ++ y) ≡ map g x ++ map g y
-map-append g [] y = refl
-map-append g (a ∷ x) y = ap (λ l. g a ∷ l) (map-append g x y)
 
 pub record Cast (f : ℕ → ℕ) (R : ℕ → ℕ → Type 0) (w v : Walked) : Type 0 where
   pub leaves : w .leaves ≡ map (placed f) (v .leaves)

@@ -1,6 +1,6 @@
 -- A fault's line and column are small: a list that is read has 131,072 bytes at the most. Assumes nothing.
 use mathlib.Core.Path.{_≡_, refl}
-use Prim.Native.Nat.{ℕ, zero, suc, _+_, _-_, _≤_, _<_}
+use Prim.Native.Nat.{ℕ, zero, suc, _+_, _-_, _≤_}
 use native.Mathlib.Omega.{arith}
 use mathlib.Core.Bool.{Bool, true, false}
 use mathlib.Core.List.{List, [], _∷_, map}
@@ -42,7 +42,7 @@ named-short t i = omega (arith, trimmed-short (getD (lines t) i []), line-short 
 -- ---- the answer
 
 abbrev SmallPlace : TypedOutcome → Type 0
-SmallPlace x = (x .answer .line < 4294967296) × (x .answer .column < 4294967296)
+SmallPlace x = (x .answer .line ≤ 131073) × (x .answer .column ≤ 131073)
 
 read-small : (t o : List ℕ) → length t ≤ 131072 → SmallPlace (typedOf t o)
 read-small t o h =
