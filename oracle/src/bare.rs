@@ -169,8 +169,8 @@ fn owners(lines: &mut Lines) {
     lines.marks(9, 6, &[(2, 6), (1, 2), (2, 5), (2, 6)]);
 }
 
-/// The lines for a program of crate `script`.
-pub fn lines(seed: u64) -> String {
+/// The lines, as crate `script` takes them; those on places, as crate `place_lines` does.
+pub fn lines(seed: u64) -> [String; 2] {
     let mut rng = Rng::new(seed).bare();
     let mut lines = Lines::default();
     marks(&mut lines);
@@ -180,17 +180,17 @@ pub fn lines(seed: u64) -> String {
     nested(&mut lines, &mut rng, 12);
     replay::tables(&mut lines, &mut rng, Margins::Half, 160, 4);
     replay::damaged(&mut lines, &mut rng, 8);
-    owners(&mut lines);
-    places::random_tables(&mut lines, &mut rng, 3, |lines, rng, read| {
+    let mut on_places = Lines::default();
+    owners(&mut on_places);
+    places::random_tables(&mut on_places, &mut rng, 3, |lines, rng, read| {
         (0..4).for_each(|_| lines.place(gen::place(rng, read)));
     });
-    places::random_tables(&mut lines, &mut rng, 3, places::random_lists);
-    assert!(lines.text.len() < 30_000, "{} bytes", lines.text.len());
-    lines.text
+    places::random_tables(&mut on_places, &mut rng, 3, places::random_lists);
+    [lines.text, on_places.text]
 }
 
-/// The lines for the program `call_tests`: document 02's examples of 9 to 11, then random ones.
-pub fn calls(seed: u64) -> String {
+/// The lines, as crate `test_requests` takes them: document 02's examples of 9 to 11, then random ones.
+pub fn requests(seed: u64) -> String {
     let mut rng = Rng::new(seed).bare();
     let mut lines = Lines::default();
     lines.title("Without lines");
@@ -210,6 +210,5 @@ pub fn calls(seed: u64) -> String {
     folds::random_lists(&mut lines, &mut rng, 2);
     plans::random_plans(&mut lines, &mut rng, 1);
     widths::random_trees(&mut lines, &mut rng, 1);
-    assert!(lines.text.len() < 7_000, "{} bytes", lines.text.len());
     lines.text
 }

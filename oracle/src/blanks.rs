@@ -122,6 +122,5 @@ pub fn lines(seed: u64) -> String {
     small(&mut lines);
     refused(&mut lines);
     random(&mut lines, &mut rng, 20);
-    assert!(lines.text.len() < 16_000, "{} bytes", lines.text.len());
     lines.text
 }

@@ -137,6 +137,5 @@ pub fn lines(seed: u64) -> String {
     forms(&mut lines);
     orders(&mut lines);
     random_stores(&mut lines, &mut rng, 6);
-    assert!(lines.text.len() < 15_000, "{} bytes", lines.text.len());
     lines.text
 }

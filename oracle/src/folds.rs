@@ -128,6 +128,5 @@ pub fn lines(seed: u64) -> String {
     many_tries(&mut lines);
     refused_lists(&mut lines);
     random_lists(&mut lines, &mut rng, 12);
-    assert!(lines.text.len() < 20_000, "{} bytes", lines.text.len());
     lines.text
 }

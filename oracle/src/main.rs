@@ -1,26 +1,18 @@
 //! The oracle on the command line. Settings and tree come as bytes on standard input, as the sheet program takes them.
 
 use std::io::{Read, Write};
+use std::path::Path;
 use std::process::ExitCode;
 
 use oracle::calls::Calls;
 use oracle::compare::Comparison;
 use oracle::sides::{Answers, Crate, Original, Paper};
-use oracle::{bare, blanks, drafts, folds, judge, places, plans, replay, widths};
+use oracle::{judge, replay};
 
 const USAGE: &str = "oracle sheet             the sheet, as the sheet program prints it
 oracle leaves            every node's sizes, every leaf's record and block
 oracle agree [SEED [N]]  the crate against documents 01 and 02, on the exhaustive inputs and N rounds of the random ones
-oracle replay SEED       answers of the crate as the input of the program crates/replay
-oracle faults SEED       the same of crates/replay_faults
-oracle places SEED       places and their leaves as lines for the program crates/replay_later
-oracle bare SEED         answers without lines, places among them, for the same program
-oracle folds SEED        folded lists as lines for the program crates/call_tests
-oracle plans SEED        planning trees as lines for the same program
-oracle widths SEED       the letters that widen a sheet, for it too
-oracle drafts SEED       drafts saved, forgotten and returned to, for it too
-oracle bare-calls SEED   lists, planning trees and letters without lines, for it too
-oracle blanks SEED       trees with their texts blanked as lines for the program crates/paper_tests";
+oracle replay SEED DIR   writes the files of crates/replay/data to DIR: answers of the crate as lines";
 
 fn main() -> ExitCode {
     let arguments: Vec<String> = std::env::args().skip(1).collect();
@@ -28,16 +20,7 @@ fn main() -> ExitCode {
     match arguments[..] {
         ["sheet"] => sheet(),
         ["leaves"] => leaves(),
-        ["replay", seed] => replayed(seed, |seed| replay::lines(seed)[0].clone()),
-        ["faults", seed] => replayed(seed, |seed| replay::lines(seed)[1].clone()),
-        ["places", seed] => replayed(seed, places::lines),
-        ["bare", seed] => replayed(seed, bare::lines),
-        ["folds", seed] => replayed(seed, folds::lines),
-        ["plans", seed] => replayed(seed, plans::lines),
-        ["widths", seed] => replayed(seed, widths::lines),
-        ["drafts", seed] => replayed(seed, drafts::lines),
-        ["bare-calls", seed] => replayed(seed, bare::calls),
-        ["blanks", seed] => replayed(seed, blanks::lines),
+        ["replay", seed, folder] => replayed(seed, folder),
         ["agree", ref rest @ ..] if rest.len() <= 2 => {
             let mut numbers = rest.iter().map(|word| word.parse::<u64>());
             let seed = numbers.next().unwrap_or(Ok(1));
@@ -51,11 +34,14 @@ fn main() -> ExitCode {
     }
 }
 
-fn replayed(seed: &str, lines: fn(u64) -> String) -> ExitCode {
+fn replayed(seed: &str, folder: &str) -> ExitCode {
     let Ok(seed) = seed.parse() else {
         return usage();
     };
-    print(lines(seed).as_bytes());
+    for (name, lines) in replay::files(seed) {
+        let path = Path::new(folder).join(name);
+        std::fs::write(path, lines).expect("the folder can be written");
+    }
     ExitCode::SUCCESS
 }
 

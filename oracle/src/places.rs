@@ -193,6 +193,5 @@ pub fn lines(seed: u64) -> String {
     lists(&mut lines);
     refused_sheets(&mut lines, |lines| lines.marks(0, 257, &[(9, 9)]));
     random_tables(&mut lines, &mut rng, 10, random_lists);
-    assert!(lines.text.len() < 60_000, "{} bytes", lines.text.len());
     lines.text
 }

@@ -113,6 +113,5 @@ pub fn lines(seed: u64) -> String {
     as_many_as_there_may_be(&mut lines);
     refused_plans(&mut lines);
     random_plans(&mut lines, &mut rng, 6);
-    assert!(lines.text.len() < 10_000, "{} bytes", lines.text.len());
     lines.text
 }

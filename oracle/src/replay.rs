@@ -1,10 +1,11 @@
-//! The crate's answers as lines for the programs `replay` and `replay_faults`; crate `script` says what each line means.
+//! The files of the program `replay`: answers as lines. Those of this file are the crate's on shapes, tables, damaged bytes and limits; crate `script` says what each line means.
 
 use crate::calls::Calls;
 use crate::form::{encode_margin, encode_settings, encode_tree, CutPair, Margin, Settings, Tree};
 use crate::gen::{self, Margins, Rng};
 use crate::judge;
 use crate::lines::Lines;
+use crate::{bare, blanks, drafts, folds, places, plans, widths};
 
 /// The same tree with these texts in its Cells, by turns.
 fn with_texts(tree: &Tree, texts: &mut impl Iterator<Item = &'static str>) -> Tree {
@@ -261,8 +262,8 @@ fn pairs(lines: &mut Lines, rng: &mut Rng, most: usize, count: usize) {
     }
 }
 
-/// The lines of the programs `replay` (shapes and tables) and `replay_faults` (damaged bytes and limits), each within what a test program reads.
-pub fn lines(seed: u64) -> [String; 2] {
+/// Shapes and tables; damaged bytes and limits.
+fn lines(seed: u64) -> [String; 2] {
     let mut rng = Rng::new(seed);
     let mut good = Lines::default();
     shapes(&mut good);
@@ -274,8 +275,25 @@ pub fn lines(seed: u64) -> [String; 2] {
     margins(&mut good, &mut rng, 300, 8);
     bad_margins(&mut faulty, &mut rng, 12);
     pairs(&mut good, &mut rng, 200, 20);
-    [good, faulty].map(|lines| {
-        assert!(lines.text.len() < 65_536, "{} bytes", lines.text.len());
-        lines.text
-    })
+    [good.text, faulty.text]
+}
+
+/// The files of the program's data/, in the order of its arguments. The first line says whose the others are.
+pub fn files(seed: u64) -> [(&'static str, String); 11] {
+    let [tables, faults] = lines(seed);
+    let [bare, bare_places] = bare::lines(seed);
+    [
+        ("tables", "calls", tables),
+        ("faults", "calls", faults),
+        ("bare", "calls", bare),
+        ("places", "places", places::lines(seed)),
+        ("bare_places", "places", bare_places),
+        ("folds", "requests", folds::lines(seed)),
+        ("plans", "requests", plans::lines(seed)),
+        ("widths", "requests", widths::lines(seed)),
+        ("bare_requests", "requests", bare::requests(seed)),
+        ("drafts", "drafts", drafts::lines(seed)),
+        ("blanks", "drafts", blanks::lines(seed)),
+    ]
+    .map(|(name, library, lines)| (name, format!("of {library}\n{lines}")))
 }

@@ -95,6 +95,5 @@ pub fn lines(seed: u64) -> String {
     as_many_as_there_may_be(&mut lines);
     refused_trees(&mut lines);
     random_trees(&mut lines, &mut rng, 7);
-    assert!(lines.text.len() < 12_000, "{} bytes", lines.text.len());
     lines.text
 }

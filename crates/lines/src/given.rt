@@ -9,6 +9,15 @@ pub struct Given {
     pub node: usize,
 }
 
+pub fn nothing() -> Given {
+    Given {
+        settings: 0,
+        tree: 0,
+        want: 0,
+        node: 0,
+    }
+}
+
 // Whether a line of this kind gives something, and asks for nothing.
 pub fn gives(kind: u8) -> bool {
     match kind {

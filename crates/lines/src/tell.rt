@@ -45,6 +45,10 @@ pub fn too_long() {
     failed(b"too many bytes");
 }
 
+pub fn unknown() {
+    failed(b"unknown kind of line");
+}
+
 pub fn node(n: usize) {
     text(b"node ");
     number(n);

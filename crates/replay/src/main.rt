@@ -1,5 +1,4 @@
-// Answers of the original (sizes, records, blocks, sheets) on small shapes and random tables, and the readers' numbers by the oracle's judge, replayed:
-// crates/replay/stdin has them as the lines of `script`, made by `oracle replay` (oracle/README.md).
+// Answers that the oracle made, replayed: the lines of the files in data/, which `args` names and `oracle replay` writes (oracle/README.md).
 fn main() {
-    script::run();
+    test_cases::run();
 }

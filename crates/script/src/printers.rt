@@ -4,6 +4,9 @@ use lines::compare;
 use lines::contents;
 use lines::tell;
 
+// The longest sheet has 64,159 bytes; the rest is room past it.
+const ROOM: usize = 66000;
+
 // What is lent beyond the wanted bytes.
 const MORE: usize = 50;
 
@@ -89,7 +92,7 @@ fn printed_in(whole: bool, settings: &[u8], tree: &[u8], node: usize, want: &[u8
 
 // The wanted sheet or block.
 pub fn printed(whole: bool, settings: &[u8], tree: &[u8], node: usize, want: &[u8]) {
-    let mut out = [0u8; crate::ROOM];
+    let mut out = [0u8; ROOM];
     name(whole, node);
     printed_in(whole, settings, tree, node, want, &mut out);
 }

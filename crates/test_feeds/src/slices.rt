@@ -3,6 +3,9 @@ use lines::compare;
 use lines::contents;
 use lines::tell;
 
+// The longest slice of a line that asks for lengths.
+const LONGEST: usize = 600;
+
 // 1 for a line feed.
 fn feed(b: u8) -> usize {
     if b == 10 { 1 } else { 0 }
@@ -77,7 +80,7 @@ fn places(s: &mut [u8]) -> usize {
 }
 
 // All slices of the lengths `first` to `last`; of each length one more than it has bytes.
-pub fn lengths(room: &mut [u8], first: usize, last: usize) {
+fn lengths(room: &mut [u8], first: usize, last: usize) {
     let mut all: usize = 0;
     let mut right: usize = 0;
     let end = contents::within(last, room);
@@ -88,6 +91,12 @@ pub fn lengths(room: &mut [u8], first: usize, last: usize) {
         n = n + 1;
     }
     told(right, all);
+}
+
+// The same, in bytes of its own.
+pub fn each_length(first: usize, last: usize) {
+    let mut room = [0u8; LONGEST];
+    lengths(&mut room, first, last);
 }
 
 fn told(right: usize, all: usize) {
