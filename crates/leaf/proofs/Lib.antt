@@ -3,3 +3,4 @@ pub mod Seek
 pub mod Calls
 pub mod Prints
 pub mod Pair
+pub mod Numbers
