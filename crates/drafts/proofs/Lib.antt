@@ -1,7 +1,9 @@
 pub mod Fields
 pub mod Series
+pub mod AnyStore
 pub mod Copies
 pub mod Scans
 pub mod Formed
 pub mod Opens
 pub mod Calls
+pub mod GivesBack

@@ -41,7 +41,7 @@ tag-name : (n k : ℕ) → isName n ≡ true → isName k ≡ true → tagFor n 
 unfolding tagFor
 tag-name n k h j e = omega (arith, name-range n h, name-range k j)
 
-is-name : isName 65 ≡ true
+pub is-name : isName 65 ≡ true
 unfolding isName
 is-name = refl
 
@@ -66,7 +66,7 @@ state-zeros n = let e : n ≡ n - 0 = omega arith in record { fs = []; good = tt
 
 -- ---- one call, and the draft named k
 
-other-noted : (k q : ℕ) (c : DraftCall) (m : Option (List ℕ)) → (nameIn c ≡ k → ⊥) → noted k q c m ≡ m
+pub other-noted : (k q : ℕ) (c : DraftCall) (m : Option (List ℕ)) → (nameIn c ≡ k → ⊥) → noted k q c m ≡ m
 unfolding noted nameIn
 other-noted k q (save j tree) m d = rw (ne-eqb j k d)
 other-noted k q (forget j) m d = rw (ne-eqb j k d)
@@ -170,13 +170,13 @@ module _ (n k : ℕ) (name : isName k ≡ true) where
         named true p = there (hasTag (tagFor j) fs) p
         named false p = stay o m x 19 (λ z. omega arith) (forget j)
 
-    call-next : (c : DraftCall) → CallNext (answerTo o c) c m
+    pub call-next : (c : DraftCall) → CallNext (answerTo o c) c m
     unfolding answerTo noted
     call-next (save j tree) = save-next j tree
     call-next (forget j) = forget-next j
     call-next (return j out) = x
 
-  series : (cs : List DraftCall) (o : List ℕ) (m : Option (List ℕ)) → Next o m → Next (storeAfter o cs) (lastSaved k o cs m)
+  pub series : (cs : List DraftCall) (o : List ℕ) (m : Option (List ℕ)) → Next o m → Next (storeAfter o cs) (lastSaved k o cs m)
   unfolding storeAfter lastSaved
   series [] o m x = x
   series (c ∷ cs) o m x = series cs (answerTo o c .store) (noted k (answerTo o c .number) c m) (call-next o m x c)

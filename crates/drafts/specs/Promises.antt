@@ -2,9 +2,11 @@
 use mathlib.Core.Path.{_≡_}
 use Prim.Native.Nat.{ℕ, _≤_}
 use mathlib.Core.List.{List}
+use mathlib.Core.Option.{some}
 use lib.ListN.{length}
 use Rattle.tree.specs.Tree.{Tree}
 use Rattle.tree.specs.Reading.{ReadOne, readTree}
+use Rattle.drafts.specs.Store.{fieldsOf}
 use Rattle.drafts.specs.Series.{DraftCall, save, forget, return}
 
 -- the name that a call is about
@@ -20,3 +22,9 @@ pub record TreeRead (bytes : List ℕ) : Type 0 where
   pub nodes : ℕ
   pub reads : readTree bytes ≡ ReadOne.one tree-is size nodes
   pub short : length bytes ≤ 32768
+
+-- a store of the form, of n bytes
+pub record OfForm (n : ℕ) (s : List ℕ) : Type 0 where
+  pub fields : List (List ℕ)
+  pub reads : fieldsOf s ≡ some fields
+  pub long : length s ≡ n
