@@ -26,14 +26,18 @@ abbrev pub blankWritten : Blanks → List ℕ
 blankWritten o = take (o .answer .count) (o .out)
 
 -- where the call answers 0
-pub record PaperOf (tree ns : List ℕ) (o : Blanks) : Type 0 where
+pub record PaperRead (tree ns : List ℕ) (o : Blanks) : Type 0 where
   pub tree-is : Tree
   pub size : ℕ
   pub count : ℕ
   -- the tree was accepted, and so is what was written: as the tree with the named texts blanked
   pub reads : readTree tree ≡ ReadOne.one tree-is size count
   pub accepted : readTree (blankWritten o) ≡ ReadOne.one (blanked (dotsFor ns) 0 tree-is) size count
-  -- it is alike, of equal length, and equal outside those texts
+  -- it is alike, and of equal length
   pub alike : Alike tree-is (blanked (dotsFor ns) 0 tree-is)
   pub same-length : length (blankWritten o) ≡ length tree
-  pub outside : (i : ℕ) → getD (inTexts (dotsFor ns) 0 tree-is) i false ≡ false → getD (blankWritten o) i 0 ≡ getD tree i 0
+
+-- and it is equal outside those texts
+pub record PaperOf (tree ns : List ℕ) (o : Blanks) : Type 0 where
+  pub read : PaperRead tree ns o
+  pub outside : (i : ℕ) → getD (inTexts (dotsFor ns) 0 (read .tree-is)) i false ≡ false → getD (blankWritten o) i 0 ≡ getD tree i 0

@@ -1,6 +1,7 @@
 // The texts of a tree's Cells blanked by dots (document 02, 14: the question paper).
 ghost use mathlib.Core.Path.{_≡_};
 ghost use Rattle.blank.specs.Blank.{blankOf};
+ghost use Rattle.blank.specs.Promises.{PaperOf};
 
 pub mod elements;
 pub mod names;
@@ -24,6 +25,7 @@ fn refuse(n: u8) -> Blanked
 pub fn blank_texts(tree: &[u8], nodes: &[u16], out: &mut [u8]) -> Blanked
     ensures { λ r. ⌜ r ≡ blankOf (now (tree .entry)) (now (nodes .entry)) (now (out .entry)) .answer ⌝ }
     ensures written { λ _. ⌜ now (out .exit) ≡ blankOf (now (tree .entry)) (now (nodes .entry)) (now (out .entry)) .out ⌝ }
+    ensures paper { λ r. ⌜ (r .number ≡ 0 → PaperOf (now (tree .entry)) (now (nodes .entry)) (record { answer = r; out = now (out .exit) })) ⌝ }
 {
     let read = tree::read_tree(tree);
     let number = read.number;

@@ -14,7 +14,7 @@ use Rattle.blank.specs.Blank.{shownByte, blanked, blanked*}
 use Rattle.blank.specs.Promises.{inTexts, inTexts*}
 use Rattle.blank.proofs.Exact.{tree-exact}
 use Rattle.blank.proofs.Paper.{blanked-outside}
-use Rattle.paper.specs.Pairs.{AlikeBytes}
+use Rattle.paper.specs.Pairs.{AlikeTrees}
 
 -- every text
 abbrev every : ℕ → Bool
@@ -69,13 +69,16 @@ texts-equal t u h = same-texts t 0 0 ∙ ap (inTexts every 0) h ∙ sym (same-te
 
 -- ---- the bytes
 
-pub bytes-agree : {p q : List ℕ} (b : AlikeBytes p q) → Every (λ c. c < 256) p → Every (λ c. c < 256) q → (i : ℕ) → getD (inTexts (λ n. true) 0 (b .tree)) i false ≡ false → getD p i 0 ≡ getD q i 0
-bytes-agree {p} {q} b k l i h =
-    let t = b .tree in
-    let u = b .other in
-    let e : p ≡ bytesOf t = tree-exact t p k (b .first .is) (b .first .ends) in
-    let d : q ≡ bytesOf u = tree-exact u q l (b .second .is) (b .second .ends) in
-    let j : getD (inTexts every 0 u) i false ≡ false = sym (ap (λ (x : List Bool). getD x i false) (texts-equal t u (b .alike))) ∙ h in
+pub trees-agree : (t u : Tree) → Alike t u → (i : ℕ) → getD (inTexts (λ n. true) 0 t) i false ≡ false → getD (bytesOf t) i 0 ≡ getD (bytesOf u) i 0
+trees-agree t u a i h =
+    let j : getD (inTexts every 0 u) i false ≡ false = sym (ap (λ (x : List Bool). getD x i false) (texts-equal t u a)) ∙ h in
     let x : getD (bytesOf (blanked every 0 t)) i 0 ≡ getD (bytesOf t) i 0 = blanked-outside every t i h in
     let y : getD (bytesOf (blanked every 0 u)) i 0 ≡ getD (bytesOf u) i 0 = blanked-outside every u i j in
-    ap (λ (z : List ℕ). getD z i 0) e ∙ sym x ∙ ap (λ (v : Tree). getD (bytesOf v) i 0) (blanked-equal t u (b .alike)) ∙ y ∙ sym (ap (λ (z : List ℕ). getD z i 0) d)
+    sym x ∙ ap (λ (v : Tree). getD (bytesOf v) i 0) (blanked-equal t u a) ∙ y
+
+-- bytes that are read as them: they are those, where each is below 256, as in every slice of bytes
+pub bytes-agree : {p q : List ℕ} (b : AlikeTrees p q) → Every (λ c. c < 256) p → Every (λ c. c < 256) q → (i : ℕ) → getD (inTexts (λ n. true) 0 (b .tree)) i false ≡ false → getD p i 0 ≡ getD q i 0
+bytes-agree {p} {q} b k l i h =
+    let e : p ≡ bytesOf (b .tree) = tree-exact (b .tree) p k (b .first .is) (b .first .ends) in
+    let d : q ≡ bytesOf (b .other) = tree-exact (b .other) q l (b .second .is) (b .second .ends) in
+    ap (λ (z : List ℕ). getD z i 0) e ∙ trees-agree (b .tree) (b .other) (b .alike) i h ∙ sym (ap (λ (z : List ℕ). getD z i 0) d)

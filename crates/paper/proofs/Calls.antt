@@ -1,10 +1,11 @@
--- The calls whose answers have no byte of a text: for alike trees, under equal settings and whatever else is handed in, the answer and all lent memory are equal.
--- Assumes nothing.
+-- The calls whose answers have no byte of a text: for bytes that are alike, under equal settings and whatever else is handed in, with as much memory lent, the answers
+-- and all that is written are equal, and what is past that stays. Assumes nothing.
 use mathlib.Core.Path.{_≡_, refl, ap}
 use Prim.Native.Nat.{ℕ}
 use mathlib.Core.Bool.{Bool, true, false}
 use mathlib.Core.List.{List, [], _∷_, map}
 use mathlib.Core.Option.{Option, some}
+use lib.ListN.{length}
 use lib.Dec.{eqb}
 use Rattle.common.specs.Choice.{pick}
 use Rattle.settings.specs.declared.Settings.{Settings}
@@ -26,13 +27,15 @@ use Rattle.widen.specs.Widening.{treeNeeds}
 use Rattle.widen.specs.Answers.{nearestOf}
 use Rattle.blank.specs.Alike.{covered, masked}
 use Rattle.paper.specs.Pairs as pairs
-use Rattle.paper.specs.Pairs.{AlikeBytes, AlikePlanBytes, planMasked, SameRead, SameInput, SamePlanInput}
+use Rattle.paper.specs.Pairs.{AlikeBytes, planMasked, SameRead, SameInput, SamePlanInput}
+use Rattle.paper.specs.Lent.{BothCollect, BothFind, BothFold, BothNearest}
 use Rattle.paper.proofs.Recast.{nodes-recast, naturals-recast, tree-sizes-recast}
 use Rattle.paper.proofs.Walks.{placed}
 use Rattle.paper.proofs.Masks.{mask-keeps, alike-by}
 use Rattle.paper.proofs.Sheets.{masked-leaves, masked-wide, masked-tall, masked-W, masked-H, masked-large}
 use Rattle.paper.proofs.Shapes.{belows-recast, locate-recast, listed-recast, list-recast, needs-recast, end-recast}
-use Rattle.paper.proofs.Pairs.{plan-alike-by, reads-alike, inputs-alike, plan-inputs-alike, tree-plans-alike}
+use Rattle.paper.proofs.Pairs.{plan-alike-by, reads-alike, inputs-alike, plan-inputs-alike}
+use Rattle.paper.proofs.Lent.{collect-lent, finds-lent, fold-lent, nearest-lent}
 
 -- what depends on what is handed in through the tree's mask alone
 pub same-by : {A : Type 0} (g : Input → A) → ((s : Settings) (t : Tree) → g (given s (masked t)) ≡ g (given s t)) → {x y : Input} → SameInput x y → g x ≡ g y
@@ -129,31 +132,43 @@ module _ {p q : List ℕ} (b : AlikeBytes p q) where
       go (pairs.both-read t u z n e) = refl
 
   module _ (settings : List ℕ) where
-    pub collect-sizes-alike : (l : List SizeRecord) → collectOf (inputOf settings p) l ≡ collectOf (inputOf settings q) l
-    collect-sizes-alike l = same-by (λ (x : Input). collectOf x l) (λ s t. masked-collected s t l) (inputs-alike b settings)
+    abbrev x : Input
+    x = inputOf settings p
 
-    pub leaf-record-alike : (n : ℕ) → leafRecordOf (inputOf settings p) n ≡ leafRecordOf (inputOf settings q) n
-    leaf-record-alike n = same-by (λ (x : Input). leafRecordOf x n) (λ s t. masked-record s t n) (inputs-alike b settings)
+    abbrev y : Input
+    y = inputOf settings q
 
-    pub leaf-at-alike : (line column : ℕ) → leafPlaceOf (inputOf settings p) line column ≡ leafPlaceOf (inputOf settings q) line column
-    leaf-at-alike line column = same-by (λ (x : Input). leafPlaceOf x line column) (λ s t. masked-leaf-place s t line column) (inputs-alike b settings)
+    pub leaf-record-alike : (n : ℕ) → leafRecordOf x n ≡ leafRecordOf y n
+    leaf-record-alike n = same-by (λ (i : Input). leafRecordOf i n) (λ s t. masked-record s t n) (inputs-alike b settings)
 
-    pub find-places-alike : (places found : List ℕ) → findsOf (inputOf settings p) places found ≡ findsOf (inputOf settings q) places found
-    find-places-alike places found = same-by (λ (x : Input). findsOf x places found) (λ s t. masked-finds s t places found) (inputs-alike b settings)
+    pub leaf-at-alike : (line column : ℕ) → leafPlaceOf x line column ≡ leafPlaceOf y line column
+    leaf-at-alike line column = same-by (λ (i : Input). leafPlaceOf i line column) (λ s t. masked-leaf-place s t line column) (inputs-alike b settings)
 
-    pub fold-list-alike : (width budget : ℕ) (l : List ℕ) → foldOf (inputOf settings p) width budget l ≡ foldOf (inputOf settings q) width budget l
-    fold-list-alike width budget l = same-by (λ (x : Input). foldOf x width budget l) (λ s t. masked-fold s t width budget l) (inputs-alike b settings)
+    -- with as much lent
 
-    pub nearest-cells-alike : (ns ls : List ℕ) → nearestOf (inputOf settings p) ns ls ≡ nearestOf (inputOf settings q) ns ls
-    nearest-cells-alike ns ls = same-by (λ (x : Input). nearestOf x ns ls) (λ s t. masked-nearest s t ns ls) (inputs-alike b settings)
+    pub collect-sizes-alike : (o r : List SizeRecord) → length o ≡ length r → BothCollect o r (collectOf x o) (collectOf y r)
+    collect-sizes-alike o r e =
+        let k : collectOf x r ≡ collectOf y r = same-by (λ (i : Input). collectOf i r) (λ s t. masked-collected s t r) (inputs-alike b settings) in
+        rw (← k) (collect-lent x o r e)
+
+    pub find-places-alike : (places o r : List ℕ) → length o ≡ length r → BothFind o r (findsOf x places o) (findsOf y places r)
+    find-places-alike places o r e =
+        let k : findsOf x places r ≡ findsOf y places r = same-by (λ (i : Input). findsOf i places r) (λ s t. masked-finds s t places r) (inputs-alike b settings) in
+        rw (← k) (finds-lent o r e x places)
+
+    pub fold-list-alike : (width budget : ℕ) (o r : List ℕ) → length o ≡ length r → BothFold o r (foldOf x width budget o) (foldOf y width budget r)
+    fold-list-alike width budget o r e =
+        let k : foldOf x width budget r ≡ foldOf y width budget r = same-by (λ (i : Input). foldOf i width budget r) (λ s t. masked-fold s t width budget r) (inputs-alike b settings) in
+        rw (← k) (fold-lent o r e x width budget)
+
+    pub nearest-cells-alike : (ns ms ls ks : List ℕ) → length ns ≡ length ms → length ls ≡ length ks → BothNearest ns ms ls ks (nearestOf x ns ls) (nearestOf y ms ks)
+    nearest-cells-alike ns ms ls ks e d =
+        let k : nearestOf x ms ks ≡ nearestOf y ms ks = same-by (λ (i : Input). nearestOf i ms ks) (λ s t. masked-nearest s t ms ks) (inputs-alike b settings) in
+        rw (← k) (nearest-lent ns ms ls ks e d x)
 
 planned-same : {x y : PlanInput} → SamePlanInput x y → plannedOf x ≡ plannedOf y
 planned-same (pairs.both-refused k) = refl
 planned-same (pairs.both-given s p q h) = plan-alike-by (λ (r : Plan). plannedOf (PlanInput.given s r)) (masked-plan s) p q h
 
--- of planning trees, and of trees
-pub plan-sheet-alike : {p q : List ℕ} → AlikePlanBytes p q → (settings : List ℕ) → plannedOf (planInput settings p) ≡ plannedOf (planInput settings q)
+pub plan-sheet-alike : {p q : List ℕ} → AlikeBytes p q → (settings : List ℕ) → plannedOf (planInput settings p) ≡ plannedOf (planInput settings q)
 plan-sheet-alike b settings = planned-same (plan-inputs-alike b settings)
-
-pub plan-tree-alike : {p q : List ℕ} → AlikeBytes p q → (settings : List ℕ) → plannedOf (planInput settings p) ≡ plannedOf (planInput settings q)
-plan-tree-alike b settings = planned-same (tree-plans-alike b settings)

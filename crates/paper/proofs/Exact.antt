@@ -22,17 +22,17 @@ use Rattle.paper.proofs.Sheets.{sheet-recast, leaf-recast}
 
 -- ---- no mark and no fill is 1: marks are hex 20 to 7E, or all 0
 
-no-one : (n least greatest : ℕ) (l : List ℕ) → Bounded n least greatest l → ((b : ℕ) → least ≤ b → b ≤ greatest → b ≡ 1 → ⊥) → (i : ℕ) → getD l i 0 ≡ 1 → ⊥
+pub no-one : (n least greatest : ℕ) (l : List ℕ) → Bounded n least greatest l → ((b : ℕ) → least ≤ b → b ≤ greatest → b ≡ 1 → ⊥) → (i : ℕ) → getD l i 0 ≡ 1 → ⊥
 no-one n least greatest l b h i e = go (ltb i n) refl
   where
     go : (c : Bool) → ltb i n ≡ c → ⊥
     go true k = let r = b .each i (ltb-true i n k) in h (getD l i 0) (r .0) (r .1) e
     go false k = let z : getD l i 0 ≡ 0 = List·getD-eq-default l 0 (omega (arith, b .many, ltb-false i n k)) in omega arith
 
-printable : (b : ℕ) → 32 ≤ b → b ≤ 126 → b ≡ 1 → ⊥
+pub printable : (b : ℕ) → 32 ≤ b → b ≤ 126 → b ≡ 1 → ⊥
 printable b h k e = omega arith
 
-mark-range : (c : Bool) (b : ℕ) → pick c 32 0 ≤ b → b ≤ pick c 126 0 → b ≡ 1 → ⊥
+pub mark-range : (c : Bool) (b : ℕ) → pick c 32 0 ≤ b → b ≤ pick c 126 0 → b ≡ 1 → ⊥
 mark-range true b h k e = omega arith
 mark-range false b h k e = omega arith
 

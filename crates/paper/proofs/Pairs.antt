@@ -1,120 +1,164 @@
--- The readers answer equally for the bytes of alike trees, and of alike planning trees: the limits look at no text. Assumes nothing.
+-- What the calls are handed for bytes that are alike: the same refusal, or alike trees. The bytes of alike trees, and of alike planning trees, are. Assumes nothing.
 use mathlib.Core.Path.{_≡_, refl, sym, ap, ap₂, _∙_}
-use Prim.Native.Nat.{ℕ, _+_}
+use Prim.Native.Nat.{ℕ, _+_, _≤_}
 use native.Mathlib.Omega.{arith}
-use mathlib.Core.Bool.{Bool, true, false}
-use mathlib.Core.List.{List}
-use lib.ListN.{length, drop, length-map, length-drop}
-use lib.Dec.{ltb}
-use Rattle.common.specs.Choice.{pick}
+use mathlib.Core.Bool.{true, false}
+use mathlib.Core.List.{List, [], _∷_, map}
+use lib.ListN.{length, getD, drop, length-map}
+use lib.Seq.{drop-length}
 use Rattle.settings.specs.Reading.{Parsed, readSettings}
 use Rattle.tree.specs.Tree as tree
-use Rattle.tree.specs.Tree.{Tree, Trees}
-use Rattle.tree.specs.Bytes.{lengthAt, contents}
-use Rattle.tree.specs.Reading.{ReadOne, readTree}
+use Rattle.tree.specs.Tree.{Axis, Tree, Trees}
+use Rattle.tree.specs.Bytes.{lengthAt, contents, tagOf}
+use Rattle.tree.specs.Reading.{isText, ReadOne, readTree}
 use Rattle.tree.specs.Accepted.{Texts, Texts*}
 use Rattle.tree.specs.Planning.{Plan, Plans, PlanOne, PlanIs, PlanAre, wholeIn}
-use Rattle.tree.proofs.Same.{treeRead, read-same}
-use Rattle.tree.proofs.Plain.{planOf, plansOf, tree-again, plan-is}
+use Rattle.tree.proofs.Same.{treeOf, treesOf, treeRead, read-same}
+use Rattle.tree.proofs.Plain.{planOf, plansOf, plan-is}
 use Rattle.tree.proofs.Fronts.{contents-length}
-use Rattle.tree.proofs.PlanSound.{plan-whole}
-use Rattle.tree.proofs.Limits.{Verdict, bad, good, next, limits, limits*, limits-next, outcome, TextsIn, TextsIn*, whole-reads}
+use Rattle.sizes.specs.Text.{lineLengths}
 use Rattle.sizes.specs.Input.{inputOf, settingsInput}
 use Rattle.plan.specs.Answers as plan
 use Rattle.plan.specs.Answers.{planInput}
 use Rattle.blank.specs.Alike.{recast, recast*, covered, masked, Alike}
 use Rattle.paper.specs.Pairs as pairs
-use Rattle.paper.specs.Pairs.{AlikeBytes, planRecast, planRecast*, planMasked, PlanTexts, PlanTexts*, AlikePlanBytes, SameRead, SameInput, SamePlanInput}
-
--- ---- the bytes of a plan are as many as its shape and its texts' lengths say
-
-unfoldable mutual
-  planSize : Plan → ℕ
-  planSize (Plan.cell x) = 3 + length x
-  planSize (Plan.range a b c d) = 7
-  planSize (Plan.group x ps) = 3 + planSize* ps
-
-  planSize* : Plans → ℕ
-  planSize* Plans.none = 0
-  planSize* (Plans.more p ps) = planSize p + planSize* ps
-
-mutual
-  unfolding planSize PlanIs
-
-  is-plan-size : (p : Plan) (s : List ℕ) → PlanIs p s → 3 + lengthAt s ≡ planSize p
-  is-plan-size (Plan.cell x) = λ s k. let e : length (contents s) ≡ length x = ap length (k .2) in omega (arith, contents-length s (k .0))
-  is-plan-size (Plan.range a b c d) = λ s k. let e : length (contents s) ≡ 4 = ap length (k .2) in omega (arith, contents-length s (k .0))
-  is-plan-size (Plan.group x ps) = λ s k. omega (arith, contents-length s (k .0), are-plan-size ps (contents s) (k .2))
-
-  are-plan-size : (ps : Plans) (s : List ℕ) → PlanAre ps s → length s ≡ planSize* ps
-  are-plan-size Plans.none = λ s k. k
-  are-plan-size (Plans.more p ps) = λ s k. omega (arith, is-plan-size p s (k .0), plan-whole p s (k .0), are-plan-size ps (drop (3 + lengthAt s) s) (k .1), length-drop (3 + lengthAt s) s)
-
--- ---- neither its size nor the limits' verdict depends on its texts' bytes
-
-mutual
-  unfolding planSize planRecast
-
-  size-recast : (f : ℕ → ℕ) (p : Plan) → planSize (planRecast f p) ≡ planSize p
-  size-recast f (Plan.cell x) = ap (λ (n : ℕ). 3 + n) (length-map x f)
-  size-recast f (Plan.range a b c d) = refl
-  size-recast f (Plan.group x ps) = ap (λ (n : ℕ). 3 + n) (size*-recast f ps)
-
-  size*-recast : (f : ℕ → ℕ) (ps : Plans) → planSize* (planRecast* f ps) ≡ planSize* ps
-  size*-recast f Plans.none = refl
-  size*-recast f (Plans.more p ps) = ap₂ (λ (n m : ℕ). n + m) (size-recast f p) (size*-recast f ps)
-
-next-same : (v : Verdict) (g h : ℕ → Verdict) → ((m : ℕ) → g m ≡ h m) → next v g ≡ next v h
-next-same (bad k) g h e = refl
-next-same (good m) g h e = e m
-
-mutual
-  unfolding limits planRecast
-
-  limits-recast : (f : ℕ → ℕ) (p : Plan) (d n : ℕ) → limits d n (planRecast f p) ≡ limits d n p
-  limits-recast f (Plan.cell x) = λ d n. refl
-  limits-recast f (Plan.range a b c e) = λ d n. refl
-  limits-recast f (Plan.group x ps) = λ d n. rw (limits*-recast f ps (d + 1) (n + 1))
-
-  limits*-recast : (f : ℕ → ℕ) (ps : Plans) (d n : ℕ) → limits* d n (planRecast* f ps) ≡ limits* d n ps
-  limits*-recast f Plans.none = λ d n. refl
-  limits*-recast f (Plans.more p ps) = λ d n.
-      limits-next d n (planRecast f p) (planRecast* f ps) ∙ ap (λ (v : Verdict). next v (λ m. limits* d m (planRecast* f ps))) (limits-recast f p d n)
-      ∙ next-same (limits d n p) (λ m. limits* d m (planRecast* f ps)) (λ m. limits* d m ps) (λ m. limits*-recast f ps d m) ∙ sym (limits-next d n p ps)
+use Rattle.paper.specs.Pairs.{AlikeBytes, SameFront, behind, AlikeTrees, planRecast, planRecast*, planMasked, PlanTexts, PlanTexts*, AlikePlans, SameRead, SameInput, SamePlanInput}
+use Rattle.paper.proofs.Lines.{alike-lines}
+use Rattle.paper.proofs.Readers as readers
+use Rattle.paper.proofs.Readers.{SamePlans, length-alike, whole-alike}
 
 -- what depends on a plan through its mask alone
 pub plan-alike-by : {A : Type 0} (g : Plan → A) → ((p : Plan) → g (planMasked p) ≡ g p) → (p q : Plan) → planMasked p ≡ planMasked q → g p ≡ g q
 plan-alike-by g e p q h = sym (e p) ∙ ap g h ∙ e q
 
-size-alike : (p q : Plan) → planMasked p ≡ planMasked q → planSize p ≡ planSize q
-unfolding planMasked
-size-alike = plan-alike-by planSize (size-recast (covered 1))
+-- ---- the tree reader
 
-limits-alike : (p q : Plan) → planMasked p ≡ planMasked q → limits 1 0 p ≡ limits 1 0 q
-unfolding planMasked
-limits-alike = plan-alike-by (limits 1 0) (λ p. limits-recast (covered 1) p 1 0)
+mutual
+  unfolding treeOf planRecast recast
 
--- ---- two answers of the reader: the same refusal, or the two plans with as many bytes and nodes
+  tree-recast : (f : ℕ → ℕ) (p : Plan) → treeOf (planRecast f p) ≡ recast f (treeOf p)
+  tree-recast f (Plan.cell x) = refl
+  tree-recast f (Plan.range a b c d) = refl
+  tree-recast f (Plan.group a ps) = ap (tree.group a) (trees-recast f ps)
 
-data SamePlans (p q : Plan) : PlanOne → PlanOne → Type 0 where
-  both-refused : (k : ℕ) → SamePlans p q (PlanOne.refused k) (PlanOne.refused k)
-  both-read : (z n : ℕ) → SamePlans p q (PlanOne.one p z n) (PlanOne.one q z n)
+  trees-recast : (f : ℕ → ℕ) (ps : Plans) → treesOf (planRecast* f ps) ≡ recast* f (treesOf ps)
+  trees-recast f Plans.none = refl
+  trees-recast f (Plans.more p ps) = ap₂ tree.more (tree-recast f p) (trees-recast f ps)
 
-module _ (P : Bool) (s r : List ℕ) (p q : Plan) (is₁ : PlanIs p s) (is₂ : PlanIs q r) (ends₁ : 3 + lengthAt s ≡ length s) (ends₂ : 3 + lengthAt r ≡ length r) (h : planMasked p ≡ planMasked q) where
-  lengths-same : length r ≡ length s
-  lengths-same = sym ends₂ ∙ is-plan-size q r is₂ ∙ sym (size-alike p q h) ∙ sym (is-plan-size p s is₁) ∙ ends₁
+tree-masks : (p q : Plan) → planMasked p ≡ planMasked q → Alike (treeOf p) (treeOf q)
+unfolding Alike masked planMasked
+tree-masks p q h = sym (tree-recast (covered 1) p) ∙ ap treeOf h ∙ tree-recast (covered 1) q
 
-  plans-same : TextsIn P p → TextsIn P q → SamePlans p q (wholeIn P s) (wholeIn P r)
-  plans-same l k =
-      let m : limits 1 0 q ≡ limits 1 0 p = sym (limits-alike p q h) in
-      rw (whole-reads P s p is₁ ends₁ l, whole-reads P r q is₂ ends₂ k, lengths-same, m) (go (ltb 32768 (length s)) (limits 1 0 p))
+module _ {p q : List ℕ} (b : AlikeBytes p q) where
+  pub reads-alike : SameRead (readTree p) (readTree q)
+  reads-alike = rw (← read-same p, ← read-same q) (go (whole-alike false b))
     where
-      go : (c : Bool) (v : Verdict) → SamePlans p q (pick c (PlanOne.refused 2) (outcome p (length s) v)) (pick c (PlanOne.refused 2) (outcome q (length s) v))
-      go true v = both-refused 2
-      go false (bad k) = both-refused k
-      go false (good n) = both-read (length s) n
+      go : {x y : PlanOne} → SamePlans x y → SameRead (treeRead x) (treeRead y)
+      go (readers.no-plans k) = pairs.both-refused k
+      go (readers.two-plans p q z n e) = pairs.both-read (treeOf p) (treeOf q) z n (tree-masks p q e)
 
--- ---- a tree as a plan
+  pub inputs-alike : (settings : List ℕ) → SameInput (inputOf settings p) (inputOf settings q)
+  unfolding inputOf
+  inputs-alike settings = go (readSettings settings) reads-alike
+    where
+      go : (x : Parsed) {y z : ReadOne} → SameRead y z → SameInput (settingsInput x y) (settingsInput x z)
+      go Parsed.refused r = pairs.both-refused 1
+      go (Parsed.read s) (pairs.both-refused k) = pairs.both-refused k
+      go (Parsed.read s) (pairs.both-read t u z n e) = pairs.both-given s t u e
+
+  -- the planning reader
+  pub plan-inputs-alike : (settings : List ℕ) → SamePlanInput (planInput settings p) (planInput settings q)
+  unfolding planInput
+  plan-inputs-alike settings = go (readSettings settings) (whole-alike true b)
+    where
+      go : (x : Parsed) {y z : PlanOne} → SamePlans y z → SamePlanInput (plan.settingsInput x y) (plan.settingsInput x z)
+      go Parsed.refused r = pairs.both-refused 1
+      go (Parsed.read s) (readers.no-plans k) = pairs.both-refused k
+      go (Parsed.read s) (readers.two-plans p q z n e) = pairs.both-given s p q e
+
+-- ---- the bytes of two plans that are alike
+
+cell-in : {x y : List ℕ} → Plan.cell x ≡ Plan.cell y → x ≡ y
+cell-in e = cc
+
+range-in : {a b c d a′ b′ c′ d′ : ℕ} → Plan.range a b c d ≡ Plan.range a′ b′ c′ d′ → _≡_ {A = List ℕ} (a ∷ b ∷ c ∷ d ∷ []) (a′ ∷ b′ ∷ c′ ∷ d′ ∷ [])
+range-in e = cc
+
+group-in : {a b : Axis} {ps qs : Plans} → Plan.group a ps ≡ Plan.group b qs → (a ≡ b) × (ps ≡ qs)
+group-in e = (cc, cc)
+
+more-in : {p q : Plan} {ps qs : Plans} → Plans.more p ps ≡ Plans.more q qs → (p ≡ q) × (ps ≡ qs)
+more-in e = (cc, cc)
+
+clash : {A : Type 0} → _≡_ {A = ℕ} 0 1 → A
+clash e = absurd (omega arith)
+
+nothing : (s : List ℕ) → length s ≡ 0 → s ≡ []
+nothing [] e = refl
+nothing (b ∷ s) e = absurd (omega arith)
+
+empty-alike : (s r : List ℕ) → length s ≡ 0 → length r ≡ 0 → AlikeBytes s r
+empty-alike s r e d = rw (nothing s e, nothing r d) (pairs.same [])
+
+-- whole elements of one tag, whose contents are as long
+same-front : (s r : List ℕ) → 3 + lengthAt s ≤ length s → 3 + lengthAt r ≤ length r → getD s 0 0 ≡ getD r 0 0 → length (contents s) ≡ length (contents r) → SameFront s r
+same-front s r h k t e = record { tag = t; long = omega (arith, contents-length s h, contents-length r k); whole = h; other-whole = k }
+
+mask-lengths : (x y : List ℕ) → map (covered 1) x ≡ map (covered 1) y → length x ≡ length y
+mask-lengths x y e = sym (length-map x (covered 1)) ∙ ap length e ∙ length-map y (covered 1)
+
+abbrev Behind : Plan → Plan → Type 0
+Behind p q = (s r : List ℕ) → PlanIs p s → PlanIs q r → planRecast (covered 1) p ≡ planRecast (covered 1) q → PlanTexts p → PlanTexts q → AlikeBytes (behind s) (behind r) → AlikeBytes s r
+
+cells-front : (x y : List ℕ) → Behind (Plan.cell x) (Plan.cell y)
+unfolding PlanIs planRecast PlanTexts
+cells-front x y s r k l e a b z =
+    let m : map (covered 1) (contents s) ≡ map (covered 1) (contents r) = ap (map (covered 1)) (k .2) ∙ cell-in e ∙ ap (map (covered 1)) (sym (l .2)) in
+    pairs.cell (same-front s r (k .0) (l .0) (k .1 ∙ sym (l .1)) (mask-lengths (contents s) (contents r) m)) (k .1) (alike-lines (contents s) (contents r) m)
+    (ap isText (k .2) ∙ a ∙ sym b ∙ ap isText (sym (l .2))) z
+
+ranges-front : (a b c d a′ b′ c′ d′ : ℕ) → Behind (Plan.range a b c d) (Plan.range a′ b′ c′ d′)
+unfolding PlanIs planRecast
+ranges-front a b c d a′ b′ c′ d′ s r k l e x y z =
+    let m : contents s ≡ contents r = k .2 ∙ range-in e ∙ sym (l .2) in
+    pairs.kept (same-front s r (k .0) (l .0) (k .1 ∙ sym (l .1)) (ap length m)) m z
+
+groups-front : (x y : Axis) (ps qs : Plans) → (s r : List ℕ) → PlanIs (Plan.group x ps) s → PlanIs (Plan.group y qs) r → x ≡ y → AlikeBytes (contents s) (contents r) → AlikeBytes (behind s) (behind r) → AlikeBytes s r
+unfolding PlanIs
+groups-front x y ps qs s r k l e m z = pairs.group x (same-front s r (k .0) (l .0) (k .1 ∙ ap tagOf e ∙ sym (l .1)) (length-alike m)) (k .1) m z
+
+mutual
+  unfolding PlanIs planRecast PlanTexts
+
+  front-alike : (p q : Plan) → Behind p q
+  front-alike (Plan.cell x) (Plan.cell y) = cells-front x y
+  front-alike (Plan.cell x) (Plan.range a b c d) = λ s r k l e m n z. clash (cc)
+  front-alike (Plan.cell x) (Plan.group a qs) = λ s r k l e m n z. clash (cc)
+  front-alike (Plan.range a b c d) (Plan.cell y) = λ s r k l e m n z. clash (cc)
+  front-alike (Plan.range a b c d) (Plan.range a′ b′ c′ d′) = ranges-front a b c d a′ b′ c′ d′
+  front-alike (Plan.range a b c d) (Plan.group x qs) = λ s r k l e m n z. clash (cc)
+  front-alike (Plan.group x ps) (Plan.cell y) = λ s r k l e m n z. clash (cc)
+  front-alike (Plan.group x ps) (Plan.range a b c d) = λ s r k l e m n z. clash (cc)
+  front-alike (Plan.group x ps) (Plan.group y qs) = λ s r k l e m n z.
+      groups-front x y ps qs s r k l (group-in e .0) (fronts-alike ps qs (contents s) (contents r) (k .2) (l .2) (group-in e .1) m n) z
+
+  fronts-alike : (ps qs : Plans) (s r : List ℕ) → PlanAre ps s → PlanAre qs r → planRecast* (covered 1) ps ≡ planRecast* (covered 1) qs → PlanTexts* ps → PlanTexts* qs → AlikeBytes s r
+  fronts-alike Plans.none Plans.none = λ s r k l e m n. empty-alike s r k l
+  fronts-alike Plans.none (Plans.more q qs) = λ s r k l e m n. clash (cc)
+  fronts-alike (Plans.more p ps) Plans.none = λ s r k l e m n. clash (cc)
+  fronts-alike (Plans.more p ps) (Plans.more q qs) = λ s r k l e m n.
+      front-alike p q s r (k .0) (l .0) (more-in e .0) (m .0) (n .0) (fronts-alike ps qs (behind s) (behind r) (k .1) (l .1) (more-in e .1) (m .1) (n .1))
+
+no-more : (s : List ℕ) → 3 + lengthAt s ≡ length s → length (behind s) ≡ 0
+no-more s e = rw e (ap length (drop-length s))
+
+pub plans-alike : {p q : List ℕ} → AlikePlans p q → AlikeBytes p q
+unfolding planMasked
+plans-alike {p} {q} b =
+    front-alike (b .plan) (b .other) p q (b .first .is) (b .second .is) (b .alike) (b .first .texts) (b .second .texts)
+    (empty-alike (behind p) (behind q) (no-more p (b .first .ends)) (no-more q (b .second .ends)))
+
+-- ---- the bytes of two trees that are alike
 
 mutual
   unfolding planOf planRecast recast
@@ -127,73 +171,27 @@ mutual
   plans-recast f tree.none = refl
   plans-recast f (tree.more t ts) = ap₂ Plans.more (plan-recast f t) (plans-recast f ts)
 
-plans-alike : (t u : Tree) → Alike t u → planMasked (planOf t) ≡ planMasked (planOf u)
+plan-masks : (t u : Tree) → Alike t u → planMasked (planOf t) ≡ planMasked (planOf u)
 unfolding Alike masked planMasked
-plans-alike t u h = sym (plan-recast (covered 1) t) ∙ ap planOf h ∙ plan-recast (covered 1) u
+plan-masks t u h = sym (plan-recast (covered 1) t) ∙ ap planOf h ∙ plan-recast (covered 1) u
 
 mutual
-  unfolding planOf Texts TextsIn
+  unfolding planOf Texts PlanTexts
 
-  texts-in : (P : Bool) (t : Tree) → Texts t → TextsIn P (planOf t)
-  texts-in P (tree.cell x) k = k
-  texts-in P (tree.group a ts) k = texts-in* P ts k
+  plan-texts : (t : Tree) → Texts t → PlanTexts (planOf t)
+  plan-texts (tree.cell x) k = k
+  plan-texts (tree.group a ts) k = plan-texts* ts k
 
-  texts-in* : (P : Bool) (ts : Trees) → Texts* ts → TextsIn* P (plansOf ts)
-  texts-in* P tree.none k = tt
-  texts-in* P (tree.more t ts) k = (texts-in P t (k .0), texts-in* P ts (k .1))
+  plan-texts* : (ts : Trees) → Texts* ts → PlanTexts* (plansOf ts)
+  plan-texts* tree.none k = tt
+  plan-texts* (tree.more t ts) k = (plan-texts t (k .0), plan-texts* ts (k .1))
 
-mutual
-  unfolding PlanTexts TextsIn
-
-  plan-texts-in : (p : Plan) → PlanTexts p → TextsIn true p
-  plan-texts-in (Plan.cell x) k = k
-  plan-texts-in (Plan.range a b c d) k = refl
-  plan-texts-in (Plan.group x ps) k = plan-texts-in* ps k
-
-  plan-texts-in* : (ps : Plans) → PlanTexts* ps → TextsIn* true ps
-  plan-texts-in* Plans.none k = tt
-  plan-texts-in* (Plans.more p ps) k = (plan-texts-in p (k .0), plan-texts-in* ps (k .1))
-
--- ---- the tree reader
-
-module _ {p q : List ℕ} (b : AlikeBytes p q) where
-  pub length-alike : length p ≡ length q
-  length-alike = sym (lengths-same false p q (planOf (b .tree)) (planOf (b .other)) (plan-is (b .tree) p (b .first .is)) (plan-is (b .other) q (b .second .is)) (b .first .ends) (b .second .ends) (plans-alike (b .tree) (b .other) (b .alike)))
-
-  same-plans : (P : Bool) → SamePlans (planOf (b .tree)) (planOf (b .other)) (wholeIn P p) (wholeIn P q)
-  same-plans P =
-      plans-same P p q (planOf (b .tree)) (planOf (b .other)) (plan-is (b .tree) p (b .first .is)) (plan-is (b .other) q (b .second .is)) (b .first .ends) (b .second .ends)
-      (plans-alike (b .tree) (b .other) (b .alike)) (texts-in P (b .tree) (b .first .texts)) (texts-in P (b .other) (b .second .texts))
-
-  pub reads-alike : SameRead (readTree p) (readTree q)
-  reads-alike = rw (← read-same p, ← read-same q) (go (same-plans false))
-    where
-      go : {x y : PlanOne} → SamePlans (planOf (b .tree)) (planOf (b .other)) x y → SameRead (treeRead x) (treeRead y)
-      go (both-refused k) = pairs.both-refused k
-      go (both-read z n) = rw (tree-again (b .tree), tree-again (b .other)) (pairs.both-read (b .tree) (b .other) z n (b .alike))
-
-  pub inputs-alike : (settings : List ℕ) → SameInput (inputOf settings p) (inputOf settings q)
-  unfolding inputOf
-  inputs-alike settings = go (readSettings settings) reads-alike
-    where
-      go : (x : Parsed) {y z : ReadOne} → SameRead y z → SameInput (settingsInput x y) (settingsInput x z)
-      go Parsed.refused r = pairs.both-refused 1
-      go (Parsed.read s) (pairs.both-refused k) = pairs.both-refused k
-      go (Parsed.read s) (pairs.both-read t u z n e) = pairs.both-given s t u e
-
--- ---- the planning reader: planning trees, and trees as planning trees
-
-plan-inputs : (x : Parsed) (p q : Plan) → planMasked p ≡ planMasked q → {y z : PlanOne} → SamePlans p q y z → SamePlanInput (plan.settingsInput x y) (plan.settingsInput x z)
-plan-inputs Parsed.refused p q h r = pairs.both-refused 1
-plan-inputs (Parsed.read s) p q h (both-refused k) = pairs.both-refused k
-plan-inputs (Parsed.read s) p q h (both-read z n) = pairs.both-given s p q h
-
-pub plan-inputs-alike : {p q : List ℕ} → AlikePlanBytes p q → (settings : List ℕ) → SamePlanInput (planInput settings p) (planInput settings q)
-unfolding planInput
-plan-inputs-alike {p} {q} b settings =
-    plan-inputs (readSettings settings) (b .plan) (b .other) (b .alike)
-    (plans-same true p q (b .plan) (b .other) (b .first .is) (b .second .is) (b .first .ends) (b .second .ends) (b .alike) (plan-texts-in (b .plan) (b .first .texts)) (plan-texts-in (b .other) (b .second .texts)))
-
-pub tree-plans-alike : {p q : List ℕ} → AlikeBytes p q → (settings : List ℕ) → SamePlanInput (planInput settings p) (planInput settings q)
-unfolding planInput
-tree-plans-alike b settings = plan-inputs (readSettings settings) (planOf (b .tree)) (planOf (b .other)) (plans-alike (b .tree) (b .other) (b .alike)) (same-plans b true)
+pub trees-alike : {p q : List ℕ} → AlikeTrees p q → AlikeBytes p q
+trees-alike {p} {q} b =
+    plans-alike (record {
+      plan = planOf (b .tree);
+      other = planOf (b .other);
+      first = record { is = plan-is (b .tree) p (b .first .is); ends = b .first .ends; texts = plan-texts (b .tree) (b .first .texts) };
+      second = record { is = plan-is (b .other) q (b .second .is); ends = b .second .ends; texts = plan-texts (b .other) (b .second .texts) };
+      alike = plan-masks (b .tree) (b .other) (b .alike);
+    })

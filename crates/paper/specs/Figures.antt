@@ -13,7 +13,8 @@ use Rattle.sizes.specs.Sizes.{sep}
 use Rattle.sizes.specs.Input.{Input, refused, given, inputOf}
 use Rattle.splits.specs.Figures.{same, all}
 use Rattle.sheet.specs.Sheet.{sheet}
-use Rattle.blank.specs.Alike.{masked, Alike}
+use Rattle.blank.specs.Alike.{covered, masked, Alike}
+use Rattle.paper.specs.Blurred.{blurred}
 
 -- ---- the texts' own bytes
 
@@ -97,3 +98,18 @@ counts-differ h = let e : _≡_ {A = ℕ} 1 10 = ap second h in omega arith
 pub shapes-differ : Alike (cell (97 ∷ 98 ∷ [])) (group across (more (cell (97 ∷ 98 ∷ [])) none)) → ⊥
 unfolding Alike second
 shapes-differ h = let e : _≡_ {A = ℕ} 1 0 = ap second h in omega arith
+
+-- ---- bytes that are no tree
+
+-- a Row of `ab` or `..` and an element of tag 9; a Column of a text and half an element; a planning tree of a text and a range
+pub broken-pair : blurred 9 (2 ∷ 0 ∷ 8 ∷ 1 ∷ 0 ∷ 2 ∷ 97 ∷ 98 ∷ 9 ∷ 0 ∷ 0 ∷ []) ≡ blurred 9 (2 ∷ 0 ∷ 8 ∷ 1 ∷ 0 ∷ 2 ∷ 46 ∷ 46 ∷ 9 ∷ 0 ∷ 0 ∷ [])
+unfolding blurred covered
+broken-pair = refl
+
+pub half-pair : blurred 9 (3 ∷ 0 ∷ 6 ∷ 1 ∷ 0 ∷ 1 ∷ 97 ∷ 1 ∷ 0 ∷ []) ≡ blurred 9 (3 ∷ 0 ∷ 6 ∷ 1 ∷ 0 ∷ 1 ∷ 46 ∷ 1 ∷ 0 ∷ [])
+unfolding blurred covered
+half-pair = refl
+
+pub plan-pair : blurred 9 (2 ∷ 0 ∷ 11 ∷ 1 ∷ 0 ∷ 1 ∷ 97 ∷ 4 ∷ 0 ∷ 4 ∷ 1 ∷ 2 ∷ 1 ∷ 1 ∷ []) ≡ blurred 9 (2 ∷ 0 ∷ 11 ∷ 1 ∷ 0 ∷ 1 ∷ 46 ∷ 4 ∷ 0 ∷ 4 ∷ 1 ∷ 2 ∷ 1 ∷ 1 ∷ [])
+unfolding blurred covered
+plan-pair = refl

@@ -1,26 +1,49 @@
 -- The bytes of two trees, or of two planning trees, that are alike (document 02, 14), and what the readers make of them.
 use mathlib.Core.Path.{_≡_}
-use Prim.Native.Nat.{ℕ, _+_}
-use mathlib.Core.Logic.{_⊎_}
+use Prim.Native.Nat.{ℕ, _+_, _≤_}
 use mathlib.Core.Bool.{true}
 use mathlib.Core.List.{List, [], _∷_, map}
 use mathlib.Core.Option.{some}
-use lib.ListN.{length, take, drop}
+use lib.ListN.{length, getD, take, drop}
 use Rattle.settings.specs.declared.Settings.{Settings}
 use Rattle.settings.specs.Reading.{settingsEnd}
-use Rattle.tree.specs.Tree.{Tree}
-use Rattle.tree.specs.Bytes.{Is, lengthAt}
+use Rattle.tree.specs.Tree.{Axis, Tree}
+use Rattle.tree.specs.Bytes.{Is, lengthAt, contents, tagOf}
 use Rattle.tree.specs.Reading.{isText, ReadOne}
 use Rattle.tree.specs.Accepted.{Texts}
 use Rattle.tree.specs.Planning.{Plan, Plans, PlanIs}
+use Rattle.sizes.specs.Text.{lineLengths}
 use Rattle.sizes.specs.Input.{Input, refused, given, inputOf}
 use Rattle.plan.specs.Answers.{PlanInput}
-use Rattle.drafts.specs.Store.{tagIn, fieldsOf, StoreAnswer, DraftOut}
+use Rattle.drafts.specs.Store.{tagIn, fieldsOf, StoreAnswer}
 use Rattle.drafts.specs.Series.{DraftCall, save, forget, return}
 use Rattle.blank.specs.Alike.{covered, Alike}
-use Rattle.blank.specs.Blank.{Blanks}
 
--- ---- trees
+-- ---- bytes, of a tree or of none
+
+-- what is behind the element at the front of s
+abbrev pub behind : List ℕ → List ℕ
+behind s = drop (3 + lengthAt s) s
+
+-- both begin with a whole element, of one tag and one length
+pub record SameFront (s r : List ℕ) : Type 0 where
+  pub tag : getD s 0 0 ≡ getD r 0 0
+  pub long : lengthAt s ≡ lengthAt r
+  pub whole : 3 + lengthAt s ≤ length s
+  pub other-whole : 3 + lengthAt r ≤ length r
+
+-- Two byte strings "that differ only inside Cells' texts, each text having in both the same number of lines, line for line of the same length": whole elements, one
+-- after the other, that do, and then the same bytes, whatever they are. No tree need be there: a reader may turn both away, anywhere. Of two texts that differ both
+-- hold a forbidden byte, or neither.
+pub data AlikeBytes : List ℕ → List ℕ → Type 0 where
+  same : (s : List ℕ) → AlikeBytes s s
+  -- an element of any tag with equal contents; a Cell; a Row or a Column whose contents differ so
+  kept : {s r : List ℕ} → SameFront s r → contents s ≡ contents r → AlikeBytes (behind s) (behind r) → AlikeBytes s r
+  cell : {s r : List ℕ} → SameFront s r → getD s 0 0 ≡ 1 → lineLengths (contents s) ≡ lineLengths (contents r) → isText (contents s) ≡ isText (contents r)
+      → AlikeBytes (behind s) (behind r) → AlikeBytes s r
+  group : {s r : List ℕ} (a : Axis) → SameFront s r → getD s 0 0 ≡ tagOf a → AlikeBytes (contents s) (contents r) → AlikeBytes (behind s) (behind r) → AlikeBytes s r
+
+-- ---- the bytes of two trees: they are alike as bytes (`trees-alike`)
 
 -- s is the bytes of the tree t, of any size, and no text holds a forbidden byte
 pub record TreeBytes (s : List ℕ) (t : Tree) : Type 0 where
@@ -28,14 +51,14 @@ pub record TreeBytes (s : List ℕ) (t : Tree) : Type 0 where
   pub ends : 3 + lengthAt s ≡ length s
   pub texts : Texts t
 
-pub record AlikeBytes (p q : List ℕ) : Type 0 where
+pub record AlikeTrees (p q : List ℕ) : Type 0 where
   pub tree : Tree
   pub other : Tree
   pub first : TreeBytes p tree
   pub second : TreeBytes q other
   pub alike : Alike tree other
 
--- ---- planning trees
+-- ---- planning trees: so are their bytes (`plans-alike`)
 
 unfoldable mutual
   pub planRecast : (ℕ → ℕ) → Plan → Plan
@@ -67,7 +90,7 @@ pub record PlanBytes (s : List ℕ) (p : Plan) : Type 0 where
   pub ends : 3 + lengthAt s ≡ length s
   pub texts : PlanTexts p
 
-pub record AlikePlanBytes (p q : List ℕ) : Type 0 where
+pub record AlikePlans (p q : List ℕ) : Type 0 where
   pub plan : Plan
   pub other : Plan
   pub first : PlanBytes p plan
@@ -99,22 +122,19 @@ pub record AlikeInputs (i j : List ℕ) : Type 0 where
 abbrev pub programInput : List ℕ → Input
 programInput i = inputOf (take (settingsEnd i) i) (drop (settingsEnd i) i)
 
--- ---- drafts: equal, or the bytes of alike trees
-
-abbrev pub SameDraft : List ℕ → List ℕ → Type 0
-SameDraft d e = (d ≡ e) ⊎ AlikeBytes d e
+-- ---- drafts
 
 pub record SameField (f g : List ℕ) : Type 0 where
   pub tag : tagIn f ≡ tagIn g
   pub long : length f ≡ length g
-  pub draft : SameDraft (drop 3 f) (drop 3 g)
+  pub draft : AlikeBytes (drop 3 f) (drop 3 g)
 
 pub data SameFields : List (List ℕ) → List (List ℕ) → Type 0 where
   none : SameFields [] []
   more : {f g : List ℕ} {fs gs : List (List ℕ)} → SameField f g → SameFields fs gs → SameFields (f ∷ fs) (g ∷ gs)
 
--- two stores of one length, with the same names in the same order, of equal or alike trees
-pub record AlikeStores (o r : List ℕ) : Type 0 where
+-- two stores of one length, with the same names in the same order, of drafts that are alike
+pub record FormedStores (o r : List ℕ) : Type 0 where
   pub fields : List (List ℕ)
   pub others : List (List ℕ)
   pub reads : fieldsOf o ≡ some fields
@@ -122,32 +142,22 @@ pub record AlikeStores (o r : List ℕ) : Type 0 where
   pub same : SameFields fields others
   pub long : length o ≡ length r
 
+-- such stores, or one and the same, of the form or not
+pub data AlikeStores : List ℕ → List ℕ → Type 0 where
+  one-store : (o : List ℕ) → AlikeStores o o
+  two-stores : {o r : List ℕ} → FormedStores o r → AlikeStores o r
+
 -- the same number, and stores that are again alike
 pub record SameStoreAnswer (x y : StoreAnswer) : Type 0 where
   pub number : x .number ≡ y .number
   pub stores : AlikeStores (x .store) (y .store)
 
--- two calls of one kind under one name, of alike trees; two series of such calls
+-- two calls of one kind under one name, of bytes that are alike, with as much lent; two series of such calls
 pub data SameCall : DraftCall → DraftCall → Type 0 where
   both-save : (n : ℕ) {p q : List ℕ} → AlikeBytes p q → SameCall (save n p) (save n q)
   both-forget : (n : ℕ) → SameCall (forget n) (forget n)
-  both-return : (n : ℕ) (out : List ℕ) → SameCall (return n out) (return n out)
+  both-return : (n : ℕ) (out other : List ℕ) → length out ≡ length other → SameCall (return n out) (return n other)
 
 pub data SameCalls : List DraftCall → List DraftCall → Type 0 where
   no-calls : SameCalls [] []
   more-calls : {c d : DraftCall} {cs ds : List DraftCall} → SameCall c d → SameCalls cs ds → SameCalls (c ∷ cs) (d ∷ ds)
-
--- the first n bytes of two lists are equal or the bytes of alike trees, and those past them are equal
-pub record SameTrees (n : ℕ) (x y : List ℕ) : Type 0 where
-  pub draft : SameDraft (take n x) (take n y)
-  pub rest : drop n x ≡ drop n y
-
--- the same answer, and such trees returned
-pub record SameReturn (x y : DraftOut) : Type 0 where
-  pub answer : x .answer ≡ y .answer
-  pub out : SameTrees (x .answer .count) (x .out) (y .out)
-
--- the same answer, and such trees written
-pub record SameBlanks (x y : Blanks) : Type 0 where
-  pub answer : x .answer ≡ y .answer
-  pub out : SameTrees (x .answer .count) (x .out) (y .out)

@@ -94,7 +94,7 @@ module _ (P : Bool) where
       rw (le-ltb _ _ h₀, le-ltb _ _ h₁, le-ltb _ _ h₂, le-ltb _ _ h₃, e)
 
   -- what an element's front leads to
-  opened : ℕ → ℕ → ℕ → List ℕ → Header → PlanOne
+  unfoldable pub opened : ℕ → ℕ → ℕ → List ℕ → Header → PlanOne
   opened f d n s (Fault k) = PlanOne.refused k
   opened f d n s (Element tag len) = elim (eqb tag 1) [
     | true ↦ cellIn (take len (drop 3 s)) (3 + len) n
@@ -104,7 +104,7 @@ module _ (P : Bool) where
     ]
   ]
 
-  by-front : (f d n : ℕ) (s : List ℕ) → elementIn P (suc f) d n s ≡ opened f d n s (headerIn P s d n)
+  pub by-front : (f d n : ℕ) (s : List ℕ) → elementIn P (suc f) d n s ≡ opened f d n s (headerIn P s d n)
   unfolding elementIn opened
   by-front f d n s = go (headerIn P s d n) refl
     where
@@ -178,11 +178,11 @@ module _ (P : Bool) where
   more-out p ps (good m) = refl
 
   -- what a sequence's first element leads to
-  followed : ℕ → ℕ → List ℕ → PlanOne → PlanAll
+  unfoldable pub followed : ℕ → ℕ → List ℕ → PlanOne → PlanAll
   followed f d s (PlanOne.refused k) = PlanAll.refused k
   followed f d s (PlanOne.one p z m) = moreIn p (sequenceIn P f d m (drop z s))
 
-  by-first : (f d n b : ℕ) (s : List ℕ) → sequenceIn P (suc f) d n (b ∷ s) ≡ followed f d (b ∷ s) (elementIn P f d n (b ∷ s))
+  pub by-first : (f d n b : ℕ) (s : List ℕ) → sequenceIn P (suc f) d n (b ∷ s) ≡ followed f d (b ∷ s) (elementIn P f d n (b ∷ s))
   unfolding elementIn followed
   by-first f d n b s = go (elementIn P f d n (b ∷ s)) refl
     where

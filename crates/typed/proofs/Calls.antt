@@ -14,6 +14,7 @@ use Rattle.tree.specs.Tree.{Tree, nodes}
 use Rattle.tree.specs.Reading.{one, readTree}
 use Rattle.tree.specs.Accepted.{bytesOf}
 use Rattle.tree.proofs.Sound.{tree-sound}
+use Rattle.blank.proofs.Lengths.{is-bytes-in, bytes-length}
 use Rattle.blank.proofs.Exact.{tree-exact}
 use Rattle.typed.specs.Scan.{TypedNode, found, scanLines}
 use Rattle.typed.specs.Typed.{rootOf, typedRefusal, typedAccepted, typedOf}
@@ -71,10 +72,19 @@ fault-place t o =
 
 -- ---- every tree that the tree reader accepts can be typed, and is read back to the same bytes
 
-pub typed-back : (s : List ℕ) (t : Tree) (size n : ℕ) → Every (λ b. b < 256) s → readTree s ≡ one t size n → TypedBack s t
-typed-back s t size n h e o l =
+-- its bytes, as `bytesOf` has them
+pub typed-again : (s : List ℕ) (t : Tree) (size n : ℕ) → readTree s ≡ one t size n → (length (bytesOf t) ≡ length s) × TypedBack (bytesOf t) t
+typed-again s t size n e =
     let g = tree-sound s t size n e in
-    let b : s ≡ bytesOf t = tree-exact t s h (g .is) (g .ends) in
-    round-trip t (omega (arith, g .short, ap length b)) (g .few) (g .shallow) (g .texts) o
-    ∙ ap (λ (c : Bool). pick c (typedRefusal 8 0 0 o) (typedAccepted (bytesOf t) o)) (le-ltb (length o) (length (bytesOf t)) (omega (arith, ap length b)))
-    ∙ ap (λ (y : List ℕ). typedAccepted y o) (sym b)
+    let b : length (bytesOf t) ≡ length s = bytes-length t ∙ sym (is-bytes-in t s (g .is)) ∙ g .ends in (
+      b,
+      λ o l.
+          round-trip t (omega (arith, g .short)) (g .few) (g .shallow) (g .texts) o
+          ∙ ap (λ (c : Bool). pick c (typedRefusal 8 0 0 o) (typedAccepted (bytesOf t) o)) (le-ltb (length o) (length (bytesOf t)) l),
+    )
+
+-- the bytes that were read: they are those, where each is below 256, as in every slice of bytes
+pub typed-back : (s : List ℕ) (t : Tree) (size n : ℕ) → Every (λ b. b < 256) s → readTree s ≡ one t size n → TypedBack s t
+typed-back s t size n h e =
+    let g = tree-sound s t size n e in
+    rw (tree-exact t s h (g .is) (g .ends)) (typed-again s t size n e .1)

@@ -2,6 +2,7 @@ use mathlib.Core.Path.{sym, ap, _∙_}
 use borrow.Author.Needs.{needs}
 use Rattle.blank.specs.Blank.{Blanks}
 use Rattle.blank.proofs.Answered.{TreeHere, got-elements, refused-blank, no-cell, no-room, blanks}
+use Rattle.blank.proofs.Calls.{all-told}
 use Rattle.blank.proofs.blank_texts.Statement.{statement}
 use Rattle.blank.proofs.blank_texts.Tie as tie
 
@@ -18,7 +19,7 @@ refuse-requires c κs = search needs
 returns : tie.Need-returns
 returns c =
     let k = refused-blank _ _ (c .before .before .read-tree .ensures) (c .before .if1 .taken) _ _ in
-    (c .refuse .ensures ∙ sym (ap (λ (y : Blanks). y .answer) k), sym (ap (λ (y : Blanks). y .out) k))
+    all-told _ _ _ _ _ (c .before .before .before .before .before .shared-slice-known .given) (c .refuse .ensures ∙ sym (ap (λ (y : Blanks). y .answer) k)) (sym (ap (λ (y : Blanks). y .out) k))
 
 find-cells-requires : tie.Need-find-cells-requires
 find-cells-requires c κs = here-at c .elements
@@ -34,7 +35,7 @@ returns-2 c =
     let d = c .before .before .before in
     let q = here-at (d .before .before) in
     let k = no-room _ _ q _ _ _ (d .before .find-cells .ensures (q .elements)) (d .name-cells .ensures .0) (c .before .before .if2 .taken) (c .before .if3 .taken) in
-    (c .refuse2 .ensures ∙ sym (ap (λ (y : Blanks). y .answer) k), sym (ap (λ (y : Blanks). y .out) k))
+    all-told _ _ _ _ _ (c .before .before .before .before .before .before .before .before .before .shared-slice-known .given) (c .refuse2 .ensures ∙ sym (ap (λ (y : Blanks). y .answer) k)) (sym (ap (λ (y : Blanks). y .out) k))
 
 put-elements-requires : tie.Need-put-elements-requires
 put-elements-requires c κs = (here-at (c .before .before .before .before .before .before) .elements, c .before .before .if3 .left)
@@ -49,7 +50,7 @@ returns-3 c =
     let n = d .name-cells in
     let q = here-at (d .before .before) in
     let k = blanks _ _ q _ _ _ (d .before .find-cells .ensures (q .elements)) (n .ensures .0) (u .before .if2 .taken) (u .if3 .left) (n .result .dots) _ (n .ensures .1) (c .before .before .put-elements .ensures (q .elements)) in
-    (sym (ap (λ (y : Blanks). y .answer) k), sym (ap (λ (y : Blanks). y .out) k))
+    all-told _ _ _ _ _ (c .before .before .before .before .before .before .before .before .before .before .before .before .before .shared-slice-known .given) (sym (ap (λ (y : Blanks). y .answer) k)) (sym (ap (λ (y : Blanks). y .out) k))
 
 refuse-requires-3 : tie.Need-refuse-requires-3
 refuse-requires-3 c κs = search needs
@@ -59,7 +60,7 @@ returns-4 c =
     let d = c .before .before in
     let q = here-at (d .before .before) in
     let k = no-cell _ _ q _ _ _ (d .before .find-cells .ensures (q .elements)) (d .name-cells .ensures .0) (c .before .if2 .left) in
-    (c .refuse3 .ensures ∙ sym (ap (λ (y : Blanks). y .answer) k), sym (ap (λ (y : Blanks). y .out) k))
+    all-told _ _ _ _ _ (c .before .before .before .before .before .before .before .before .shared-slice-known .given) (c .refuse3 .ensures ∙ sym (ap (λ (y : Blanks). y .answer) k)) (sym (ap (λ (y : Blanks). y .out) k))
 
 pub blank-texts-spec : {M : Type 1} → statement M
 blank-texts-spec =

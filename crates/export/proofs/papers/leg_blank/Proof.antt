@@ -12,7 +12,7 @@ same-length : tie.Need-same-length
 same-length c = search needs
 
 returns : tie.Need-returns
-returns c = let e = c .before .before .before .blank-texts .ensures in (rw (c .pack .ensures, e .0), e .1)
+returns c = let e = c .before .before .before .blank-texts .ensures in (rw (c .pack .ensures, e .0), e .1 .0)
 
 pub leg-blank-spec : {M : Type 1} → statement M
 leg-blank-spec = tie.close (tie.spec blank-texts-requires pack-requires same-length returns)
