@@ -1,5 +1,5 @@
 -- What is seen of a text, byte by byte.
-use Prim.Native.Nat.{ℕ, suc, _+_, _-_, _≤_, _<_, max}
+use Prim.Native.Nat.{ℕ, suc, _+_, _-_, _%_, _≤_, _<_, max}
 use mathlib.Core.Path.{_≡_}
 use mathlib.Core.List.{List, [], _∷_}
 use lib.ListN.{length, drop}
@@ -10,9 +10,9 @@ use Rattle.feeds.specs.declared.seen.Seen.{Seen}
 abbrev pub none : Seen
 none = record { feeds = 0; longest = 0; start = 0 }
 
--- a line feed at i
+-- a line feed at i, which is counted in with its line
 abbrev pub afterFeed : ℕ → Seen → Seen
-afterFeed i r = record { feeds = r .feeds + 1; longest = max (r .longest) (i - r .start); start = i + 1 }
+afterFeed i r = record { feeds = r .feeds + 1; longest = max (r .longest) (i + 1 - r .start); start = i + 1 }
 
 -- past bytes, the first of which stands at i
 unfoldable pub after : List ℕ → ℕ → Seen → Seen
@@ -33,3 +33,15 @@ pub record Reached (t : List ℕ) (i : ℕ) (r : Seen) : Type 0 where
   pub within : i ≤ length t
   pub fine : Fine i r
   pub same : after (drop i t) i r ≡ after t 0 none
+
+-- i and then end lie in t, each a whole number of times n bytes from its beginning
+pub record Whole (n : ℕ) (t : List ℕ) (i end : ℕ) : Type 0 where
+  pub on : i ≤ end
+  pub within : end ≤ length t
+  pub first : i % n ≡ 0
+  pub last : end % n ≡ 0
+
+-- nothing is seen from i to j
+pub record Passed (t : List ℕ) (i j : ℕ) : Type 0 where
+  pub on : i ≤ j
+  pub same : (r : Seen) → Reached t i r → Reached t j r

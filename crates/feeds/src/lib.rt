@@ -1,14 +1,15 @@
-// The line feeds of a text counted, and its longest line measured, in one pass: eight bytes as one 64-bit word where eight remain, the tail byte by byte.
+// The line feeds of a text counted, and its longest line measured, in one pass from its beginning: eight bytes as one 64-bit word where eight
+// remain, the tail byte by byte.
 mod seen;
 mod words;
 
-use seen::Seen;
+use words::hint_at;
 ghost use mathlib.Core.Path.{_≡_};
-ghost use Prim.Native.Nat.{_+_, _%_, _≤_};
+ghost use Prim.Native.Nat.{_+_, _≤_};
 ghost use lib.ListN.{length, take, drop};
 ghost use mathlib.Core.Bool.{true};
 ghost use Rattle.feeds.specs.Feeds.{feedCount, countedOf};
-ghost use Rattle.feeds.specs.Seeing.{Reached};
+ghost use Rattle.feeds.specs.Seeing.{Whole, Passed};
 
 // The line feeds of a text, and the letters of its longest line.
 pub struct Counted {
@@ -16,71 +17,45 @@ pub struct Counted {
     pub longest: usize,
 }
 
-// Whether the `n` bytes from `from` on have no line feed. The loop has no way out before the end, so that they are looked at together.
-fn is_plain(s: &[u8], from: usize, n: usize) -> bool
-    requires { ⌜ from + n ≤ length (now s) ⌝ }
-    ensures { λ r. ⌜ (r ≡ true → feedCount (take n (drop from (now (s .entry)))) ≡ 0) ⌝ }
+// Whether none of the four words from `at` on hints at a line feed.
+fn is_plain(s: &[u8], at: usize) -> bool
+    requires { ⌜ at + 32 ≤ length (now s) ⌝ }
+    ensures { λ r. ⌜ (r ≡ true → feedCount (take 32 (drop at (now (s .entry)))) ≡ 0) ⌝ }
 {
-    let mut plain = true;
-    let mut i = 0;
-    while i < n {
-        plain = common::both(plain, s[from + i] != 10);
-        i += 1;
-    }
-    plain
+    hint_at(s, at) | hint_at(s, at + 8) | hint_at(s, at + 16) | hint_at(s, at + 24) == 0
 }
 
-// Past the 16 bytes from `at` on: without a line feed they only make their line longer, else they are gone through as two words.
-fn in_half(s: &[u8], at: usize, before: Seen) -> Seen
-    requires { ⌜ (at + 16 ≤ length (now s)) × Reached (now s) at before ⌝ }
-    ensures { λ r. ⌜ Reached (now (s .entry)) (at + 16) r ⌝ }
+// Past the plain groups of four words from `at` on, to the next that is not plain, or to `end`.
+fn past_plain(s: &[u8], at: usize, end: usize) -> usize
+    requires { ⌜ Whole 32 (now s) at end ⌝ }
+    ensures { λ r. ⌜ Whole 32 (now (s .entry)) r end × Passed (now (s .entry)) at r ⌝ }
 {
-    if is_plain(s, at, 16) {
-        return before;
-    }
-    let r = seen::in_word(s, at, before);
-    seen::in_word(s, at + 8, r)
-}
-
-// Past the 32 bytes from `at` on, at once where they have no line feed.
-fn in_group(s: &[u8], at: usize, before: Seen) -> Seen
-    requires { ⌜ (at + 32 ≤ length (now s)) × Reached (now s) at before ⌝ }
-    ensures { λ r. ⌜ Reached (now (s .entry)) (at + 32) r ⌝ }
-{
-    if is_plain(s, at, 32) {
-        return before;
-    }
-    let mut r = before;
     let mut i = at;
-    while i < at + 32 {
-        r = in_half(s, i, r);
-        i += 16;
-    }
-    r
-}
-
-// Past all groups of 32 bytes up to `end`.
-fn in_groups(s: &[u8], end: usize) -> Seen
-    requires { ⌜ (end ≤ length (now s)) × (end % 32 ≡ 0) ⌝ }
-    ensures { λ r. ⌜ Reached (now (s .entry)) end r ⌝ }
-{
-    let mut r = seen::nothing();
-    let mut i = 0;
     while i < end {
-        r = in_group(s, i, r);
+        if !is_plain(s, i) {
+            return i;
+        }
         i += 32;
     }
-    r
+    i
 }
 
-// The line feeds of `s`, and its longest line.
+// The line feeds of `s`, and its longest line: past groups of four words, where not plain word by word, then past the words that remain, then past
+// the tail.
 pub fn count_feeds(s: &[u8]) -> Counted
     ensures { λ r. ⌜ r ≡ countedOf (now (s .entry)) ⌝ }
 {
     let end = s.len() - s.len() % 32;
-    let r = seen::in_rest(s, end, in_groups(s, end));
+    let mut r = seen::nothing();
+    let mut i = past_plain(s, 0, end);
+    while i < end {
+        r = seen::in_words(s, i, i + 32, r);
+        i = past_plain(s, i + 32, end);
+    }
+    let tail = s.len() - s.len() % 8;
+    r = seen::in_bytes(s, tail, seen::in_words(s, end, tail, r));
     Counted {
         feeds: r.feeds,
-        longest: common::greater(r.longest, s.len() - r.start),
+        longest: common::greater(common::less_one(r.longest), s.len() - r.start),
     }
 }
