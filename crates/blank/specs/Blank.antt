@@ -46,7 +46,7 @@ unfoldable pub oneOf : ℕ → List ℕ → Bool
 oneOf n [] = false
 oneOf n (k ∷ ks) = pick (eqb k n) true (oneOf n ks)
 
--- "of the named Cells, or of all": a list that names none names all
+-- a reading (docs/DECISIONS.md): a list that names none names all
 unfoldable pub dotsFor : List ℕ → ℕ → Bool
 unfolding oneOf
 dotsFor [] n = true
