@@ -80,7 +80,7 @@ unpack-fields n l k a b =
     let z : (n * 4294967296 + l * 65536 + k) % 65536 ≡ k = omega arith in
     rw (x, y, z)
 
-unpack-same : (r : LeafPlace) → r .number ≡ 0 → r .line < 65536 → r .column < 65536 → unpacked (placeWord r) ≡ r
+pub unpack-same : (r : LeafPlace) → r .number ≡ 0 → r .line < 65536 → r .column < 65536 → unpacked (placeWord r) ≡ r
 unpack-same r e a b = unpack-fields (r .node) (r .line) (r .column) a b ∙ ap (λ (x : ℕ). record { number = x; node = r .node; line = r .line; column = r .column }) (sym e)
 
 word-place : (l k : ℕ) → k < 4294967296 → (lineOf (l * 4294967296 + k) ≡ l) × (columnOf (l * 4294967296 + k) ≡ k)
