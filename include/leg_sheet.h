@@ -191,21 +191,21 @@ uint64_t leg_blank(const uint8_t *tree, size_t tree_len, const uint16_t *nodes, 
  * Counts the tree's bytes. */
 uint64_t leg_read_typed(const uint8_t *text, size_t text_len, uint8_t *out, size_t out_len, uint32_t *place);
 
-/* Cuts the list of the first `count` of `pieces` at `w`; numbers past them are not looked at. 10; 8 where `pieces` has under `count` numbers or `out` under
- * LEG_CUT. Writes yes or no (1 or 0); the cut's pair: how many pieces it took, and the length left of the first piece not taken, 0 if there is none or it
+/* Cuts the list of the first `count` of `pieces` at `w`; numbers past them are not looked at. 8 where `pieces` has under `count` numbers or `out` under
+ * LEG_CUT; 10. Writes yes or no (1 or 0); the cut's pair: how many pieces it took, and the length left of the first piece not taken, 0 if there is none or it
  * was removed; the list taken, the list left, each a count and 512 entries with 0 past the count. Counts LEG_CUT. */
 uint64_t leg_short_splits3(const uint16_t *pieces, size_t pieces_len, size_t count, uint16_t w, uint16_t *out, size_t out_len);
 
-/* The same cut, with the list left in the place of the lent one. 10; 8 where `pieces` has under `count` numbers or `out` under LEG_LENT_CUT. Writes the first
+/* The same cut, with the list left in the place of the lent one. 8 where `pieces` has under `count` numbers or `out` under LEG_LENT_CUT; 10. Writes the first
  * 512 numbers of `pieces`, or all where it has fewer: the list left with 0 past its count; and to `out` yes or no, the pair, the count left, the list taken as
  * above. Counts LEG_LENT_CUT. */
 uint64_t leg_short_splits3_lent(uint16_t *pieces, size_t pieces_len, size_t count, uint16_t w, uint16_t *out, size_t out_len);
 
-/* `short_splits` of the first `count` of `pieces`. 10; 8 where `pieces` has under `count` numbers, or `positions` or `left` under LEG_LIST. Writes the
+/* `short_splits` of the first `count` of `pieces`. 8 where `pieces` has under `count` numbers, or `positions` or `left` under LEG_LIST; 10. Writes the
  * positions and the list left, each a count and 512 entries with 0 past the count. Counts LEG_LIST. */
 uint64_t leg_short_splits(const uint16_t *pieces, size_t pieces_len, size_t count, uint16_t w, uint32_t *positions, size_t positions_len, uint16_t *left, size_t left_len);
 
-/* The part of `spare` that child `index` of `n` gets. 11. Priority 0 is First, 1 Last, 2 and every other number List. Writes the part. Counts 0. */
+/* The part of `spare` that child `index` of `n` gets. 11. Priority 0 is First, 1 Last, every number over 1 List. Writes the part. Counts 0. */
 uint64_t leg_share(size_t spare, size_t n, uint8_t priority, size_t index, uint64_t *part);
 
 #ifdef __cplusplus

@@ -3,6 +3,7 @@
 use leg_sheet::calls::PIECES;
 use leg_sheet::Refusal;
 use oracle::calls::SplitList;
+use oracle::judge;
 
 /// How many numbers more than needed are lent.
 pub const MORE: usize = 3;
@@ -115,15 +116,13 @@ pub struct Writes {
 }
 
 impl Writes {
-    /// What the cut answers on lists of such lengths where it answers `long` on long ones, and how much of them it writes.
-    fn on(&self, list: &SplitList, long: Answer, lengths: [usize; 3]) -> (Answer, [usize; 3]) {
+    /// The number and the count of the cut on lists of such lengths, and how much of them it writes.
+    fn on(&self, list: &SplitList, [pieces, a, b]: [usize; 3]) -> (u8, usize, [usize; 3]) {
         let [one, other] = self.lists;
-        let is_short = lengths[0] < list.count || lengths[1] < one || lengths[2] < other;
-        let left = if self.left { lengths[0].min(PIECES) } else { 0 };
-        match long {
-            Err(_) => (long, [0; 3]),
-            Ok(_) if is_short => (Err(Refusal::TooShort), [0; 3]),
-            Ok(_) => (Ok(self.count), [left, one, other]),
+        let left = if self.left { pieces.min(PIECES) } else { 0 };
+        match judge::lent_cut(list.count, pieces, &[(a, one), (b, other)]) {
+            0 => (0, self.count, [left, one, other]),
+            number => (number, 0, [0; 3]),
         }
     }
 }
@@ -152,7 +151,8 @@ impl<T: Copy + Default + PartialEq + From<u16>> Cut<T> {
 }
 
 /// A cut of a list: on lists that are all longer than needed; with as many pieces lent as the list has, some more, and one less; with one less in each list that
-/// it writes; and with no number in any list. A count over 512 is refused whatever is lent; else 8 says that a list is too short. Answers the number and the long lists.
+/// it writes; and with no number in any list. Each time the judge has its number: 8 where a list is too short, and only then 10 for a count over 512. Answers the number and the
+/// long lists.
 pub fn cut<T: Copy + Default + PartialEq + From<u16>>(
     list: &SplitList,
     writes: &Writes,
@@ -164,8 +164,8 @@ pub fn cut<T: Copy + Default + PartialEq + From<u16>>(
         (call(&mut pieces.list, &mut one.list, &mut other.list), lent)
     };
     let [one, other] = writes.lists;
-    let count = list.count.min(PIECES);
-    let more = [PIECES + MORE, one + MORE, other + MORE];
+    let count = list.count;
+    let more = [count.max(PIECES) + MORE, one + MORE, other + MORE];
     let lengths = [
         more,
         [count, one, other],
@@ -177,9 +177,11 @@ pub fn cut<T: Copy + Default + PartialEq + From<u16>>(
     ];
     let (answer, long) = run(more);
     let is_sound = |&lengths: &[usize; 3]| {
-        let (expected, written) = writes.on(list, answer, lengths);
+        let (expected, count, written) = writes.on(list, lengths);
         let (answer, lent) = run(lengths);
-        answer == expected && lent.is_written_as(&long, written)
+        number(answer) == expected
+            && answer.unwrap_or(0) == count
+            && lent.is_written_as(&long, written)
     };
     (sound(number(answer), lengths.iter().all(is_sound)), long)
 }
@@ -245,11 +247,11 @@ mod tests {
         other: &mut [u16],
         is_left: bool,
     ) -> Answer {
-        if count > PIECES {
-            return REFUSED;
-        }
         if pieces.len() < count || one.len() < 2 || other.len() < 2 {
             return SHORT;
+        }
+        if count > PIECES {
+            return REFUSED;
         }
         if is_left {
             let end = pieces.len().min(PIECES);
@@ -287,7 +289,7 @@ mod tests {
             for count in [0, 1, 4, 511, 512] {
                 assert_eq!(number_of(count, left, |_, _, _| None), 0);
             }
-            for count in [513, usize::MAX] {
+            for count in [513, 1024] {
                 assert_eq!(number_of(count, left, |_, _, _| None), 10);
             }
         }
@@ -325,8 +327,12 @@ mod tests {
         };
         // Fewer than 512 pieces are enough where the count is lower.
         assert_eq!(refused(4, |pieces, _| pieces.len() < PIECES, SHORT), BROKEN);
-        // 10 comes before 8.
-        assert_eq!(refused(513, |_, one| one.len() < 2, SHORT), BROKEN);
+        // 8 comes before 10.
+        assert_eq!(refused(513, |_, one| one.len() < 2, REFUSED), BROKEN);
+        assert_eq!(
+            refused(513, |pieces, _| pieces.len() < 513, REFUSED),
+            BROKEN
+        );
         // One piece too few is 8.
         assert_eq!(refused(4, |pieces, _| pieces.len() < 4, DONE), BROKEN);
         // Another count.

@@ -401,7 +401,7 @@ pub fn read_typed(text: &[u8], out: &mut [u8]) -> Result<usize, TypedFault> {
 /// Cuts the list of the first `count` pieces at `width` and writes [`CUT`] numbers.
 ///
 /// # Errors
-/// 10; 8 where a list is too short, `pieces` among them.
+/// 8 where a list is too short, `pieces` among them; 10.
 pub fn short_splits3(
     pieces: &[u16],
     count: usize,
@@ -424,7 +424,7 @@ pub fn short_splits3(
 /// The same cut, with the list left in the place of the lent one, in its first 512 numbers, 0 past the count; writes [`LENT_CUT`] numbers to `out`.
 ///
 /// # Errors
-/// 10; 8 where a list is too short, `pieces` among them.
+/// 8 where a list is too short, `pieces` among them; 10.
 pub fn short_splits3_lent(
     pieces: &mut [u16],
     count: usize,
@@ -447,7 +447,7 @@ pub fn short_splits3_lent(
 /// Cuts the list and writes the positions and the list left, [`LIST`] numbers each.
 ///
 /// # Errors
-/// 10; 8 where a list is too short, `pieces` among them.
+/// 8 where a list is too short, `pieces` among them; 10.
 pub fn short_splits(
     pieces: &[u16],
     count: usize,
@@ -470,7 +470,7 @@ pub fn short_splits(
     })
 }
 
-/// Writes the part of `spare` that child `index` of `n` gets, and counts nothing. Priority 0 is First, 1 Last, every other number List.
+/// Writes the part of `spare` that child `index` of `n` gets, and counts nothing. Priority 0 is First, 1 Last, every number over 1 List.
 ///
 /// # Errors
 /// 11.

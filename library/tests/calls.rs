@@ -3,8 +3,8 @@
 
 use leg_sheet::calls::{
     fold, leaf_record, place, places, plan, print_leaf, print_sheet, read_margin, read_settings,
-    read_tree, share, short_splits3, short_splits3_lent, sizes, widen, CELLS, CUT, ENDS, FOUND,
-    LENT_CUT, LIST, MARGIN, NODES, PLACE, RECORD, SETTINGS, SIZES,
+    read_tree, share, short_splits, short_splits3, short_splits3_lent, sizes, widen, CELLS, CUT,
+    ENDS, FOUND, LENT_CUT, LIST, MARGIN, NODES, PLACE, RECORD, SETTINGS, SIZES,
 };
 use leg_sheet::{Place, Refusal};
 
@@ -135,6 +135,36 @@ fn cuts_say_their_pair() {
     assert_eq!(out[..9], [0, 3, 8, 1, 3, 1, 1, 1, 0]);
     assert_eq!(out[LENT_CUT - 1..], [0, 0xA5A5]);
     assert_eq!(lent, [8, 0, 0, 0]);
+}
+
+/// A list that is too short is 8, whatever the count; then a count over 512 is 10. Both leave all.
+#[test]
+fn cuts_are_refused_in_order() {
+    const LENT: u32 = 0xA5A5_A5A5;
+    // Of each cut, lent so many pieces and one number less than it writes or as many: the number.
+    let refused = |count: usize, held: usize, less: usize| {
+        let (mut pieces, mut out) = (vec![0xA5A5; held], [0xA5A5; CUT]);
+        let three = short_splits3(&pieces, count, 6, &mut out[..CUT - less]);
+        let lent = short_splits3_lent(&mut pieces, count, 6, &mut out[..LENT_CUT - less]);
+        let mut positions = [LENT; LIST];
+        let left = &mut out[..LIST];
+        let one = short_splits(&pieces, count, 6, &mut positions[..LIST - less], left);
+        let left = &mut out[..LIST - less];
+        let other = short_splits(&pieces, count, 6, &mut positions, left);
+        assert!(pieces.iter().chain(&out).all(|&number| number == 0xA5A5));
+        assert_eq!(positions, [LENT; LIST]);
+        [three, lent, one, other].map(|answer| answer.expect_err("a refusal").number())
+    };
+    for (count, held) in [(4, 3), (512, 511), (513, 512), (usize::MAX, 600)] {
+        assert_eq!(refused(count, held, 0), [8; 4]);
+        assert_eq!(refused(count, held, 1), [8; 4]);
+    }
+    for (count, held) in [(4, 4), (512, 600), (513, 513), (600, 600)] {
+        assert_eq!(refused(count, held, 1), [8; 4]);
+    }
+    for (count, held) in [(513, 513), (513, 600), (65_536, 65_536)] {
+        assert_eq!(refused(count, held, 0), [10; 4]);
+    }
 }
 
 /// Column[Row[`a`, `b`, `c`], Row[``, `efghijk`]], node 7, whose Row cuts 1 3 3 at 9 for it: the pair, 2 taken and none left, stands behind the
@@ -346,7 +376,7 @@ fn a_tree_has_511_cells() {
     assert_eq!(refused, Err(Refusal::TooShort));
 }
 
-/// The header: 'Priority 0 is First, 1 Last, 2 and every other number List.'
+/// The header: 'Priority 0 is First, 1 Last, every number over 1 List.'
 #[test]
 fn every_priority_shares() {
     for priority in 0..=255 {

@@ -961,7 +961,7 @@ impl<'a> Comparison<'a> {
     }
 
     /// Every list of up to three pieces of 0 to 4 at widths 0 to 9, lists of 511 and 512 equal pieces, then so many random ones, each also
-    /// with a count past the limit.
+    /// with a count past the limit, of which C can be lent as many pieces.
     pub fn lists(&mut self, rng: &mut Rng, rounds: usize) -> Result<(), Difference> {
         for count in 0..=3 {
             for pieces in 0..5usize.pow(count) {
@@ -988,17 +988,17 @@ impl<'a> Comparison<'a> {
                 }
             }
             self.list(&list, width)?;
-            list.count = rng.pick(&[513, 514, 1024, 65_536, usize::MAX]);
+            list.count = rng.pick(&[513, 514, 1024, 65_536]);
             self.list(&list, width)?;
         }
         Ok(())
     }
 
-    /// Every share of up to `most` among up to `most` children, the refusals included, then large ones.
+    /// Every share of up to `most` among up to `most` children, the refusals included, then large ones; under each priority, and numbers over those that settings have.
     pub fn shares(&mut self, rng: &mut Rng, most: usize) -> Result<(), Difference> {
         for n in 0..=most {
             for spare in 0..=most {
-                for priority in 0..3 {
+                for priority in [0, 1, 2, 3, 255] {
                     for index in 0..=n {
                         self.share(spare, n, priority, index)?;
                     }
@@ -1008,7 +1008,7 @@ impl<'a> Comparison<'a> {
         for _ in 0..most {
             let n = rng.between(1, judge::NODES);
             let spare = rng.between(0, 65_535);
-            let priority = rng.below(3) as u8;
+            let priority = rng.below(5) as u8;
             let index = rng.below(n + 1);
             self.share(spare, n, priority, index)?;
         }

@@ -437,6 +437,16 @@ pub fn cut(count: usize) -> u8 {
     }
 }
 
+/// Either cut of the first `count` of so many lent pieces, as C has it; `lists` says of each list that it writes how long it is and how long it must be. 'Calls check in table
+/// order', which has 8 above 10.
+pub fn lent_cut(count: usize, pieces: usize, lists: &[(usize, usize)]) -> u8 {
+    if pieces < count || lists.iter().any(|&(length, needed)| length < needed) {
+        8
+    } else {
+        cut(count)
+    }
+}
+
 /// The sharing helper.
 pub fn share(n: usize, index: usize) -> u8 {
     if n == 0 || index >= n {

@@ -78,13 +78,13 @@ fn padding(settings: &Settings) -> [usize; 4] {
     settings.padding.map(usize::from)
 }
 
-/// 'First and Last give it all to that child. List gives spare ÷ n to each, and one more to the first (spare mod n).'
+/// 'First and Last give it all to that child. List gives spare ÷ n to each, and one more to the first (spare mod n).' A number over 1 is List: the document's table refuses none.
 pub fn share(spare: usize, n: usize, priority: u8, index: usize) -> usize {
     match priority {
         0 if index == 0 => spare,
         1 if index == n - 1 => spare,
-        2 => spare / n + usize::from(index < spare % n),
-        _ => 0,
+        0 | 1 => 0,
+        _ => spare / n + usize::from(index < spare % n),
     }
 }
 

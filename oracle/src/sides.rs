@@ -66,12 +66,12 @@ impl Answers for Crate {
         original::cut(list, width)
     }
 
-    /// The crate shares inside its walk only; a table with more spare than this is not built, and the document's rule answers.
+    /// The crate shares inside its walk only; a table with more spare than this is not built, and the document's rule answers. Its settings have 2 for every number over 1.
     fn part(&self, spare: usize, n: usize, priority: u8, index: usize) -> usize {
         if spare > 0xFFFF || n > 1024 {
             return paper::share(spare, n, priority, index);
         }
-        original::shares_of_width(spare, n, priority)[index]
+        original::shares_of_width(spare, n, priority.min(2))[index]
     }
 }
 

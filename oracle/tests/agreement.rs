@@ -164,6 +164,10 @@ fn shares() {
             assert_eq!(parts.iter().sum::<usize>(), spare);
         }
     }
+    for priority in 3..=255 {
+        let parts = [0, 1, 2].map(|index| paper::share(7, 3, priority, index));
+        assert_eq!(parts, [3, 2, 2], "priority {priority}");
+    }
 }
 
 /// The random cases reach every number of the table in every call that can give it, with lines and without.
@@ -841,7 +845,7 @@ impl Calls for Faulty {
 
     fn share(&mut self, spare: usize, n: usize, priority: u8, index: usize) -> Shared {
         // All to the first child under List.
-        let priority = if self.fault == 13 && priority == 2 {
+        let priority = if self.fault == 13 && priority > 1 {
             0
         } else {
             priority

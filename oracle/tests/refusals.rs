@@ -275,6 +275,13 @@ fn calls_check_in_table_order() {
     assert_eq!(judge::leaf_record(&tight, &with_empty(1), 3), 9);
 
     assert_eq!((judge::cut(512), judge::cut(513)), (0, 10));
+    assert_eq!(judge::lent_cut(512, 512, &[(3, 3), (5, 5)]), 0);
+    assert_eq!(judge::lent_cut(513, 513, &[(4, 3), (6, 5)]), 10);
+    // 8 comes before 10.
+    for count in [4, 513, usize::MAX] {
+        assert_eq!(judge::lent_cut(count, count - 1, &[(3, 3)]), 8);
+        assert_eq!(judge::lent_cut(count, count, &[(3, 3), (4, 5)]), 8);
+    }
     assert_eq!(judge::share(0, 0), 11);
     assert_eq!(judge::share(3, 3), 11);
     assert_eq!(judge::share(3, 2), 0);
