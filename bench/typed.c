@@ -71,9 +71,8 @@ static void comments(void) {
 static double least(int is_typed) {
     double best = 1e18, start = now();
     for (int round = 0; round < 20 || now() - start < 2e8; round++) {
-        uint32_t place[LEG_PLACE_TYPED];
         double begun = now();
-        uint64_t word = is_typed ? leg_read_typed(text, text_len, tree, sizeof tree, place) : leg_read_tree(tree, tree_len);
+        uint64_t word = is_typed ? leg_read_typed(text, text_len, tree, sizeof tree) : leg_read_tree(tree, tree_len);
         double taken = now() - begun;
         if (word != (is_typed ? tree_len : nodes))
             return 0;
@@ -84,8 +83,7 @@ static double least(int is_typed) {
 }
 
 static int line(const char *name) {
-    uint32_t place[LEG_PLACE_TYPED];
-    tree_len = LEG_COUNT(leg_read_typed(text, text_len, tree, sizeof tree, place));
+    tree_len = LEG_COUNT(leg_read_typed(text, text_len, tree, sizeof tree));
     nodes = LEG_COUNT(leg_read_tree(tree, tree_len));
     double typed = least(1), read = least(0);
     printf("%-24s %7zu %6zu %7zu %10.0f %8.2f %10.0f\n", name, text_len, nodes, tree_len, typed, typed / text_len, read);

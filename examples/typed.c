@@ -13,10 +13,9 @@ static const uint8_t settings[31] = "\x10\x00\x1C" "--||-|+++++++++" "\x01\x01\x
 /* The sheet of a list, or the fault and its place. */
 static void show(const char *list) {
     static uint8_t tree[LEG_TREE], out[64159];
-    uint32_t place[LEG_PLACE_TYPED];
-    uint64_t word = leg_read_typed((const uint8_t *)list, strlen(list), tree, sizeof tree, place);
+    uint64_t word = leg_read_typed((const uint8_t *)list, strlen(list), tree, sizeof tree);
     if (LEG_NUMBER(word) != 0) {
-        printf("line %u, column %u: refused %u\n", place[0], place[1], LEG_NUMBER(word));
+        printf("line %zu, column %zu: refused %u\n", LEG_FAULT_LINE(word), LEG_FAULT_COLUMN(word), LEG_NUMBER(word));
         return;
     }
     word = leg_print_sheet(settings, sizeof settings, tree, LEG_COUNT(word), out, sizeof out);

@@ -6,8 +6,9 @@
  *
  * Every function answers a word: LEG_NUMBER is 0 or a refusal's number from the list below, LEG_COUNT what was counted or written, 0 beside a
  * refusal. Each function below names its refusals in the order of its tests; 2 to 5 and 17 are tested element by element in node order, at
- * each one 2, 5, 4, then 3 of a Cell or 17 of a range. A refusal writes to none of the lent lists (leg_read_typed: but to `place`); otherwise items past those said to be
- * written stay as they were. The functions keep nothing between calls and allocate nothing; on the stack they took up to 77 kilobytes (measured, at depth 16).
+ * each one 2, 5, 4, then 3 of a Cell or 17 of a range. A refusal writes to none of the lent lists; the line and the column of a typed list's fault are its own answer, and stand in
+ * the word: LEG_FAULT_LINE, LEG_FAULT_COLUMN. Where nothing is refused, items past those said to be written stay as they were. The functions keep nothing between calls and allocate
+ * nothing; on the stack they took up to 77 kilobytes (measured, at depth 16).
  *
  *   1   settings not of the form or ranges                   11   share: n = 0 or index >= n
  *   2   tree: too long, cut short, unknown tag ..            12   a line or column outside the printed sheet
@@ -76,8 +77,13 @@
 extern "C" {
 #endif
 
+/* The parts of a word: the number in bits 32 to 39, a fault's line above it; in the lower 32 bits the count where the number is 0, else a fault's column. */
+static inline size_t leg_count(uint64_t word) { return word >> 32 ? 0 : (size_t)word; }
+static inline size_t leg_fault_column(uint64_t word) { return word >> 32 ? (size_t)(word & 0xFFFFFFFFu) : 0; }
 #define LEG_NUMBER(word) ((uint8_t)((word) >> 32))
-#define LEG_COUNT(word) ((size_t)((word) & 0xFFFFFFFFu))
+#define LEG_COUNT(word) leg_count(word)
+#define LEG_FAULT_LINE(word) ((size_t)((word) >> 40))
+#define LEG_FAULT_COLUMN(word) leg_fault_column(word)
 
 /* Lengths of the lists that are written whole. */
 #define LEG_SETTINGS 28
@@ -90,7 +96,6 @@ extern "C" {
 #define LEG_PLACE 3
 #define LEG_FOUND 3
 #define LEG_ENDS 4
-#define LEG_PLACE_TYPED 2
 
 /* leg_places takes up to LEG_PLACES places, each a number that LEG_AT makes of a line and a column, and writes as many answers, of which LEG_NODE, LEG_LINE and
  * LEG_COLUMN are the parts. A line or column past 32 bits counts as the greatest of 32 bits: both are outside every sheet. */
@@ -185,11 +190,11 @@ uint64_t leg_return_draft(const uint8_t *store, size_t store_len, uint8_t name, 
 uint64_t leg_blank(const uint8_t *tree, size_t tree_len, const uint16_t *nodes, size_t nodes_len, uint8_t *out, size_t out_len);
 
 /* Reads a typed list: writes its tree to `out`, as every other function takes it. 30; the fault of the first line that has one: 31 or 32, whichever byte comes first in it, then
- * 33, then 34, 35, 36, 37, 38 in this order; 39 behind the last line; 8 last, where `out` has fewer bytes than the tree, which has LEG_TREE at the most. Writes LEG_PLACE_TYPED
- * numbers to `place`, beside a refusal too: the fault's line and column, counted from 1 and in bytes; 0 0 where it is accepted, and for 8 and 30. The column of 31 is that byte, of 32
+ * 33, then 34, 35, 36, 37, 38 in this order; 39 behind the last line; 8 last, where `out` has fewer bytes than the tree, which has LEG_TREE at the most. LEG_FAULT_LINE and
+ * LEG_FAULT_COLUMN of the word are the fault's line and column, counted from 1 and in bytes; 0 and 0 where it is accepted, and for 8 and 30. The column of 31 is that byte, of 32
  * the byte behind the backslash, whatever it is, or the line's end; of 33 to 38 the first byte behind the spaces; 39 is at column 1 of the last line. Settings are not part of a typed list.
  * Counts the tree's bytes. */
-uint64_t leg_read_typed(const uint8_t *text, size_t text_len, uint8_t *out, size_t out_len, uint32_t *place);
+uint64_t leg_read_typed(const uint8_t *text, size_t text_len, uint8_t *out, size_t out_len);
 
 /* Cuts the list of the first `count` of `pieces` at `w`; numbers past them are not looked at. 8 where `pieces` has under `count` numbers or `out` under
  * LEG_CUT; 10. Writes yes or no (1 or 0); the cut's pair: how many pieces it took, and the length left of the first piece not taken, 0 if there is none or it

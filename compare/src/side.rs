@@ -413,35 +413,33 @@ mod tests {
     use super::Library;
 
     extern "C" {
-        fn leg_read_typed(
-            text: *const u8,
-            text_len: usize,
-            out: *mut u8,
-            out_len: usize,
-            place: *mut u32,
-        ) -> u64;
+        fn leg_read_typed(text: *const u8, text_len: usize, out: *mut u8, out_len: usize) -> u64;
     }
 
-    /// The place of a fault is written by every call: 0 and 0 over what stood there, where there is none. The numbers around it stay, and so do bytes that are not lent.
+    /// The word has the number above 32 bits and a fault's line above 40; below it has the count, or a fault's column. A refusal writes nothing, and bytes that are not lent stay.
     #[test]
-    fn a_place_is_always_written() {
+    fn a_word_has_the_place() {
         let mut rng = Rng::new(71);
         for _ in 0..20_000 {
             let list = typed::any_list(&mut rng);
             let mut told = [0xA5; 64];
             let length = rng.pick(&[0, 3, 20, 64]);
             let answer = Paper::default().read_typed(&list, &mut told[..length]);
-            let (mut place, mut out) = ([0xA5A5_A5A5; 4], [0xA5; 64]);
-            // SAFETY: pointers and lengths of slices, and of an array from its second number on, that has two and one more.
-            let word = unsafe {
-                let place = place.as_mut_ptr().add(1);
-                leg_read_typed(list.as_ptr(), list.len(), out.as_mut_ptr(), length, place)
-            };
-            let number = u64::from(answer.number);
-            assert_eq!(word, number << 32 | answer.count as u64);
-            let [line, column] = [answer.line, answer.column].map(|number| number as u32);
-            assert_eq!(place, [0xA5A5_A5A5, line, column, 0xA5A5_A5A5]);
+            let mut out = [0xA5; 64];
+            // SAFETY: pointers and lengths of slices, of the second the front.
+            let word =
+                unsafe { leg_read_typed(list.as_ptr(), list.len(), out.as_mut_ptr(), length) };
+            let Typed {
+                number,
+                count,
+                line,
+                column,
+            } = answer;
+            let lower = if number == 0 { count } else { column };
+            let upper = line * 256 + usize::from(number);
+            assert_eq!(word, (upper as u64) << 32 | lower as u64);
             assert_eq!(out, told);
+            assert!(number == 0 || out == [0xA5; 64]);
         }
     }
 

@@ -57,14 +57,15 @@ pub const NODES: usize = 512;
 pub const TREE: usize = 32_768;
 /// The bytes of a typed list at the most.
 pub const TYPED: usize = 131_072;
-/// The place of a fault in a typed list: its line and its column.
-pub const PLACE_TYPED: usize = 2;
 
 /// A word has the count, or above 32 bits the number of a refusal.
+fn answer_or<E>(word: u64, refused: impl FnOnce(u64) -> E) -> Result<usize, E> {
+    let count = u32::try_from(word);
+    count.map(|count| count as usize).map_err(|_| refused(word))
+}
+
 fn answer(word: u64) -> Result<usize, Refusal> {
-    u32::try_from(word)
-        .map(|count| count as usize)
-        .map_err(|_| Refusal::of_word(word))
+    answer_or(word, Refusal::of_word)
 }
 
 /// Reads settings, with a margin or without, and writes the [`SETTINGS`] numbers of the first field.
@@ -379,23 +380,10 @@ pub fn blank(tree: &[u8], nodes: &[u16], out: &mut [u8]) -> Result<usize, Refusa
 /// # Errors
 /// 30; the first fault in reading order, 31 to 39, with its line and column; 8 where `out` has fewer bytes than the tree.
 pub fn read_typed(text: &[u8], out: &mut [u8]) -> Result<usize, TypedFault> {
-    let mut place = [0; PLACE_TYPED];
-    // SAFETY: pointers and lengths of slices, and a pointer to two numbers, that are borrowed here.
-    let word = unsafe {
-        raw::leg_read_typed(
-            text.as_ptr(),
-            text.len(),
-            out.as_mut_ptr(),
-            out.len(),
-            place.as_mut_ptr(),
-        )
-    };
-    let [line, column] = place;
-    answer(word).map_err(|refusal| TypedFault {
-        refusal,
-        line,
-        column,
-    })
+    // SAFETY: pointers and lengths of slices that are borrowed here.
+    let word =
+        unsafe { raw::leg_read_typed(text.as_ptr(), text.len(), out.as_mut_ptr(), out.len()) };
+    answer_or(word, TypedFault::of_word)
 }
 
 /// Cuts the list of the first `count` pieces at `width` and writes [`CUT`] numbers.

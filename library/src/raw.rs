@@ -136,13 +136,7 @@ extern "C" {
         out_len: usize,
     ) -> u64;
 
-    pub fn leg_read_typed(
-        text: *const u8,
-        text_len: usize,
-        out: *mut u8,
-        out_len: usize,
-        place: *mut u32,
-    ) -> u64;
+    pub fn leg_read_typed(text: *const u8, text_len: usize, out: *mut u8, out_len: usize) -> u64;
 
     pub fn leg_short_splits3(
         pieces: *const u16,

@@ -86,7 +86,7 @@ refusals! {
 }
 
 impl Refusal {
-    /// The refusal in a C function's word: its number above 32 bits, and no count below.
+    /// The refusal in a C function's word: its number above 32 bits, and nothing else.
     pub(crate) fn of_word(word: u64) -> Refusal {
         let mut table = Refusal::TABLE.iter().copied();
         table

@@ -29,6 +29,17 @@ pub struct TypedFault {
     pub column: u32,
 }
 
+impl TypedFault {
+    /// The fault in the word of `leg_read_typed`: its line above 40 bits, its number above 32, its column below.
+    pub(crate) fn of_word(word: u64) -> TypedFault {
+        TypedFault {
+            refusal: Refusal::of_word(word & 0xFF_0000_0000),
+            line: (word >> 40) as u32,
+            column: word as u32,
+        }
+    }
+}
+
 impl fmt::Display for TypedFault {
     fn fmt(&self, f: &mut fmt::Formatter<'_>) -> fmt::Result {
         if self.line > 0 {

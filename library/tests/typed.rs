@@ -167,6 +167,10 @@ fn the_limits() {
     );
     assert_eq!(read(long(TYPED + 1).as_bytes(), 4), Err((30, 0, 0)));
     assert_eq!(fault("\t".repeat(TYPED + 1)), (30, 0, 0));
+    // The last line and the last column that there can be.
+    assert_eq!(fault("\n".repeat(TYPED)), (39, 131_073, 1));
+    let backslash = "x".repeat(TYPED - 1) + "\\";
+    assert_eq!(fault(backslash), (32, 1, 131_073));
 }
 
 /// Each number, 30 to 39, as what is refused and in words.

@@ -1,7 +1,7 @@
 //! The public calls, as one trait that each side of a comparison implements: `sides::Original` (the crate's answers under the documents'
 //! refusals), `sides::Paper` (the documents' words) and, in a driver, the proved library.
 //!
-//! On a refusal every field beside the number is 0 or no, and no lent list or output is written.
+//! On a refusal every field beside the number is 0 or no, and no lent list or output is written; the line and column of a typed list's fault are the refusal's own answer.
 
 use crate::form::{CutPair, Ends, Flags, Margin, Owner, Settings};
 use crate::judge;

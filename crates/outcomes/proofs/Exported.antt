@@ -24,12 +24,14 @@ use Rattle.plan.specs.Answers.{planInput, plannedOf}
 use Rattle.widen.specs.Answers.{nearestOf}
 use Rattle.drafts.specs.Store.{returnOf}
 use Rattle.blank.specs.Blank.{oneOf, blankOf}
-use Rattle.numbers.specs.Words.{packed}
+use Rattle.typed.specs.Typed.{typedOf}
+use Rattle.numbers.specs.Words.{packed, typedWord, numberIn}
+use Rattle.numbers.proofs.TypedWord.{typed-word}
 use Rattle.numbers.specs.Numbers.{Gives, refusal, written, offered, settingsNumbers, marginNumbers, readGiven, sizeNumbers, sizesGiven, recordNumbers, recordGiven}
 use Rattle.numbers.specs.Cuts.{refusedBy, unless, GivesTwo, refusalTwo, writtenTwo, keptGiven, shortGiven, splits3Given, lentGiven, splitsGiven}
 use Rattle.numbers.specs.Places.{placeNumbers, placeGiven}
 use Rattle.numbers.specs.Plans.{endsWord}
-use Rattle.outcomes.specs.Promises.{Among, Answers, inputIn, numberIn, ofShare, ofSizes, ofRecord, ofLeaf, ofPlace, ofLegSettings, ofLegPlace, ofLegCut, ExportNumbers}
+use Rattle.outcomes.specs.Promises.{Among, Answers, inputIn, ofShare, ofSizes, ofRecord, ofLeaf, ofPlace, ofLegSettings, ofLegPlace, ofLegCut, ExportNumbers}
 use Rattle.outcomes.specs.Figures.{leg-settings-met, leg-margin-met, leg-sizes-met, leg-record-met, leg-place-met, leg-splits3-met, leg-lent-met, leg-splits-met, leg-share-met}
 use Rattle.outcomes.proofs.Numbers.{call-numbers, number-of, input-among}
 
@@ -190,4 +192,5 @@ export-numbers = record {
   leg-short-splits3-lent = record { only = λ x. lent-among (x .0) (x .1) (x .2) (x .3); met = leg-lent-met };
   leg-short-splits = record { only = λ x. splits-among (x .0) (x .1) (x .2) (x .3) (x .4); met = leg-splits-met };
   leg-share = record { only = λ x. word-among ofShare refl _ 0 (call-numbers .share .only (x .0, x .1, priorityOf (x .2), x .3)); met = leg-share-met };
+  leg-read-typed = same-answers (call-numbers .read-typed) refl (λ x. typedWord (typedOf (x .0) (x .1) .answer)) (λ x h. typed-word (x .0) (x .1) .number-is);
 }

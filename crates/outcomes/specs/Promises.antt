@@ -1,7 +1,7 @@
 -- The numbers that each call answers (the tables of documents 01 and 02; README's table of calls), and each C function in its word (include/leg_sheet.h): one of a list, whatever it is
 -- handed, and each number of the list for some input.
 use mathlib.Core.Path.{_≡_}
-use Prim.Native.Nat.{ℕ, _/_, _%_}
+use Prim.Native.Nat.{ℕ}
 use mathlib.Core.Bool.{true}
 use mathlib.Core.List.{List, [], _∷_, map}
 use Rattle.settings.specs.declared.Priority.{Priority}
@@ -23,7 +23,7 @@ use Rattle.widen.specs.Answers.{nearestOf}
 use Rattle.drafts.specs.Store.{saveOf, forgetOf, returnOf}
 use Rattle.blank.specs.Blank.{oneOf, blankOf}
 use Rattle.typed.specs.Typed.{typedOf}
-use Rattle.numbers.specs.Words.{packed}
+use Rattle.numbers.specs.Words.{packed, typedWord, numberIn}
 use Rattle.numbers.specs.Numbers.{settingsGiven, marginGiven, sizesGiven, recordGiven}
 use Rattle.numbers.specs.Cuts.{splits3Given, lentGiven, splitsGiven}
 use Rattle.numbers.specs.Places.{placeGiven}
@@ -214,10 +214,6 @@ pub record CallNumbers : Type 0 where
 
 -- ---- the number in the word of each C function; what is lent is last
 
--- LEG_NUMBER of a word
-abbrev pub numberIn : ℕ → ℕ
-numberIn word = word / 4294967296 % 256
-
 abbrev pub legSettings : List ℕ × List ℕ → ℕ
 legSettings x = numberIn (settingsGiven (readSettings (x .0)) (x .1) .word)
 
@@ -280,7 +276,9 @@ legSplits x = numberIn (splitsGiven (x .0) (x .1) (x .2) (x .3) (x .4) .word)
 abbrev pub legShare : ℕ × ℕ × ℕ × ℕ → ℕ
 legShare x = numberIn (packed (shareOf (x .0) (x .1) (priorityOf (x .2)) (x .3) .number) 0)
 
--- leg_read_typed is not among them: its number is that of `read_typed`
+abbrev pub legTyped : List ℕ × List ℕ → ℕ
+legTyped x = numberIn (typedWord (typedOf (x .0) (x .1) .answer))
+
 pub record ExportNumbers : Type 0 where
   pub leg-read-settings : Answers legSettings ofLegSettings
   pub leg-read-margin : Answers legMargin ofLegSettings
@@ -302,3 +300,4 @@ pub record ExportNumbers : Type 0 where
   pub leg-short-splits3-lent : Answers legLent ofLegCut
   pub leg-short-splits : Answers legSplits ofLegCut
   pub leg-share : Answers legShare ofShare
+  pub leg-read-typed : Answers legTyped ofTyped
