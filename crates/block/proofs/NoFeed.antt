@@ -80,7 +80,7 @@ no-feed-map : (f : List ℕ → List ℕ) → ((l : List ℕ) → Free l → Fre
 no-feed-map f g none = none
 no-feed-map f g (more {l = l} p h) = more (g l p) (no-feed-map f g h)
 
-no-feed-lines : (t : List ℕ) → NoFeed (lines t)
+pub no-feed-lines : (t : List ℕ) → NoFeed (lines t)
 unfolding lines onto
 no-feed-lines [] = more none none
 no-feed-lines (b ∷ t) = go (eqb b 10) (no-feed-lines t) (eqb-false b 10)

@@ -1,7 +1,7 @@
 -- Typed lists for each number of `read_typed`, computed on the definitions.
-use mathlib.Core.Path.{_≡_, refl}
+use mathlib.Core.Path.{refl}
 use Prim.Native.Nat.{ℕ, zero, suc, _*_}
-use mathlib.Core.List.{List, [], _∷_, _++_, map}
+use mathlib.Core.List.{List, [], _∷_, _++_}
 use lib.ListN.{replicate}
 use Rattle.tree.specs.Accepted.{bytesOf}
 use Rattle.sizes.specs.Text.{lines, onto}

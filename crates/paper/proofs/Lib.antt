@@ -21,3 +21,8 @@ pub mod Blanked
 pub mod OneLayout
 pub mod Exported
 pub mod TypedLists
+pub mod Apart
+pub mod TextPlaces
+pub mod Placing
+pub mod TextBytes
+pub mod OwnPlaces

@@ -5,3 +5,4 @@ pub mod Promises
 pub mod Lines
 pub mod Blurred
 pub mod Figures
+pub mod Layout
