@@ -56,13 +56,13 @@ pub fn both(a: bool, b: bool) -> bool
     if b { a } else { false }
 }
 
-pub fn pick(test: bool, x: bool, y: bool) -> bool
+pub fn pick_byte(test: bool, x: u8, y: u8) -> u8
     ensures { λ r. ⌜ r ≡ choice.pick test x y ⌝ }
 {
     if test { x } else { y }
 }
 
-pub fn pick_byte(test: bool, x: u8, y: u8) -> u8
+pub fn pick_number(test: bool, x: usize, y: usize) -> usize
     ensures { λ r. ⌜ r ≡ choice.pick test x y ⌝ }
 {
     if test { x } else { y }

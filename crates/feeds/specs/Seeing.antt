@@ -2,9 +2,9 @@
 use Prim.Native.Nat.{ℕ, suc, _+_, _-_, _%_, _≤_, _<_, max}
 use mathlib.Core.Path.{_≡_}
 use mathlib.Core.List.{List, [], _∷_}
-use lib.ListN.{length, drop}
+use lib.ListN.{length, take, drop}
 use Rattle.common.specs.Choice.{pick}
-use Rattle.feeds.specs.Feeds.{isFeed}
+use Rattle.feeds.specs.Feeds.{isFeed, feedCount, firstFeed}
 use Rattle.feeds.specs.declared.seen.Seen.{Seen}
 
 abbrev pub none : Seen
@@ -34,14 +34,20 @@ pub record Reached (t : List ℕ) (i : ℕ) (r : Seen) : Type 0 where
   pub fine : Fine i r
   pub same : after (drop i t) i r ≡ after t 0 none
 
--- i and then end lie in t, each a whole number of times n bytes from its beginning
+-- i and then end lie in t, a whole number of times n bytes apart
 pub record Whole (n : ℕ) (t : List ℕ) (i end : ℕ) : Type 0 where
   pub on : i ≤ end
   pub within : end ≤ length t
-  pub first : i % n ≡ 0
-  pub last : end % n ≡ 0
+  pub parts : (end - i) % n ≡ 0
 
--- nothing is seen from i to j
+-- from i up to j there is no line feed
 pub record Passed (t : List ℕ) (i j : ℕ) : Type 0 where
   pub on : i ≤ j
-  pub same : (r : Seen) → Reached t i r → Reached t j r
+  pub within : j ≤ length t
+  pub plain : feedCount (take (j - i) (drop i t)) ≡ 0
+
+-- the first line feed from `from` on is the first from i on
+pub record Onward (t : List ℕ) (from i : ℕ) : Type 0 where
+  pub on : from ≤ i
+  pub within : i ≤ length t
+  pub same : from + firstFeed (drop from t) ≡ i + firstFeed (drop i t)

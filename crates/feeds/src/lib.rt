@@ -8,7 +8,7 @@ ghost use mathlib.Core.Path.{_≡_};
 ghost use Prim.Native.Nat.{_+_, _≤_};
 ghost use lib.ListN.{length, take, drop};
 ghost use mathlib.Core.Bool.{true};
-ghost use Rattle.feeds.specs.Feeds.{feedCount, countedOf};
+ghost use Rattle.feeds.specs.Feeds.{feedCount, countedOf, firstFeed};
 ghost use Rattle.feeds.specs.Seeing.{Whole, Passed};
 
 // The line feeds of a text, and the letters of its longest line.
@@ -58,4 +58,35 @@ pub fn count_feeds(s: &[u8]) -> Counted
         feeds: r.feeds,
         longest: common::greater(common::less_one(r.longest), s.len() - r.start),
     }
+}
+
+// Where the first line feed from `from` on is, or the end: byte by byte, for a few bytes.
+pub fn next_feed_bytewise(s: &[u8], from: usize) -> usize
+    requires { ⌜ from ≤ length (now s) ⌝ }
+    ensures { λ r. ⌜ r ≡ from + firstFeed (drop from (now (s .entry))) ⌝ }
+{
+    let mut i = from;
+    while i < s.len() {
+        if s[i] == 10 {
+            return i;
+        }
+        i += 1;
+    }
+    i
+}
+
+// The same: past groups of four words, then word by word where eight bytes remain, then byte by byte.
+pub fn next_feed(s: &[u8], from: usize) -> usize
+    requires { ⌜ from ≤ length (now s) ⌝ }
+    ensures { λ r. ⌜ r ≡ from + firstFeed (drop from (now (s .entry))) ⌝ }
+{
+    let mut i = past_plain(s, from, s.len() - (s.len() - from) % 32);
+    while 8 <= s.len() - i {
+        let marked = words::feeds_at(s, i);
+        if marked != 0 {
+            return i + (u64::trailing_zeros(marked) / 8) as usize;
+        }
+        i += 8;
+    }
+    next_feed_bytewise(s, i)
 }

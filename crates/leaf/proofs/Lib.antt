@@ -1,6 +1,8 @@
 -- What the proofs of several functions, and the layers above, use.
 pub mod Seek
 pub mod Calls
-pub mod Prints
+pub mod Bytes
+pub mod Records
+mod Parts
 pub mod Pair
 pub mod Numbers

@@ -1,21 +1,27 @@
 // The leaf record and the leaf printer.
 use block::Flags;
+use entries::entry::entry_at;
+use entries::find_leaf;
 use frame::Written;
 use settings::Settings;
 use sizes::Size;
+use sizes::axis::separator;
+use sizes::lists::allotted_at;
+use sizes::lists::natural_at;
 use splits::SplitList;
 use splits::cut::CutPair;
 use splits::lent::list_at;
-use visit::Found;
-use visit::Job;
-use visit::Purpose;
+use tree::front::length_at;
 ghost use mathlib.Core.Path.{_≡_};
 ghost use Prim.Native.Nat.{_≤_, _<_};
-ghost use mathlib.Core.List.{[]};
 ghost use lib.ListN.{length};
 ghost use Rattle.sizes.specs.Input.{inputOf};
-ghost use Rattle.visit.specs.Visiting.{keptOf, Few};
-ghost use Rattle.leaf.specs.Answers.{noRecord, foundRecord, leafRecordOf, foundWritten, leafPrintOf};
+ghost use Rattle.block.specs.Content.{feeds};
+ghost use Rattle.block.specs.Block as blocks;
+ghost use Rattle.layout.specs.Walk.{leafOf};
+ghost use Rattle.frame.specs.Printer.{printTo};
+ghost use Rattle.leaf.specs.Answers.{noRecord, recordOf, leafRecordOf, leafPrintOf};
+ghost use Rattle.leaf.specs.Contracts.{blockBytes, noSought, Shows, Seeks};
 
 // A leaf's record: node, allotted size, both split lists as handed to the leaf, eight flags, the pair of the cut that its parent made for it; or a refusal with 0 or no elsewhere.
 pub struct LeafRecord {
@@ -49,73 +55,138 @@ fn no_record(number: u8) -> LeafRecord
     }
 }
 
-// The record that the walk kept, its pieces at the front of `kept`; 9 where the number names no leaf.
-fn record_of(found: Found, kept: &[u16]) -> LeafRecord
-    requires { ⌜ Few found × (1024 ≤ length (now kept)) ⌝ }
-    ensures { λ r. ⌜ r ≡ foundRecord (keptOf found (now (kept .entry))) ⌝ }
+// The record of the leaf whose entry is at the front of `leaf`.
+fn record_at(tree: &[u8], list: &[u16], leaf: &[u16], s: Settings) -> LeafRecord
+    requires { ⌜ Shows (now tree) (now list) (now leaf) s ⌝ }
+    ensures { λ r. ⌜ ((q : Shows (now (tree .entry)) (now (list .entry)) (now (leaf .entry)) s) → r ≡ recordOf (q .leaf)) ⌝ }
 {
-    if found.hit {
-        let size = found.size;
-        let h = list_at(kept, 0, found.horizontal);
-        let v = list_at(kept, found.horizontal, found.vertical);
-        let flags = found.flags;
-        let pair = found.pair;
-        return LeafRecord {
-            number: 0,
-            node: found.node,
-            size: size,
-            horizontal: h,
-            vertical: v,
-            flags: flags,
-            pair: pair,
-        };
+    let e = entry_at(leaf);
+    let p = e.spot;
+    let h = list_at(leaf, 8, e.horizontal);
+    let v = list_at(leaf, 8 + e.horizontal, e.vertical);
+    let size = allotted_at(list, p.node);
+    let flags = layout::flags_of(p.flags);
+    let pair = e.pair;
+    LeafRecord {
+        number: 0,
+        node: p.node,
+        size: size,
+        horizontal: h,
+        vertical: v,
+        flags: flags,
+        pair: pair,
     }
-    no_record(9)
 }
 
-// The bytes of the block that the walk printed; 9 where the number names no leaf, 8 where the output is too short.
-fn written_of(s: Settings, found: Found, len: usize) -> Written
-    requires { ⌜ (found .size .width < 65536) × (found .size .height < 65536) ⌝ }
-    ensures { λ r. ⌜ r ≡ foundWritten s (keptOf found []) len ⌝ }
+// A leaf that was sought: number 0, the settings, and where its entry begins; or a refusal.
+pub struct Sought {
+    pub number: u8,
+    pub settings: Settings,
+    pub entry: usize,
+}
+
+fn none_sought(number: u8) -> Sought
+    ensures { λ r. ⌜ r ≡ noSought number ⌝ }
 {
+    let s = Settings::blank();
+    Sought {
+        number: number,
+        settings: s,
+        entry: 0,
+    }
+}
+
+// The leaf with that number: 1, 2 to 5, 6, 9. The sizes go to `list`, the entries of all leaves to `leaves`.
+fn seek_leaf(
+    settings: &[u8],
+    tree: &[u8],
+    node: usize,
+    list: &mut [u16; 2048],
+    leaves: &mut [u16],
+) -> Sought
+    requires { ⌜ 5120 ≤ length (now leaves) ⌝ }
+    ensures { λ r. ⌜ Seeks (inputOf (now (settings .entry)) (now (tree .entry))) node (now (tree .entry)) r (now (list .exit)) (now (leaves .exit)) ⌝ }
+    ensures long { λ _. ⌜ length (now (list .exit)) ≡ length (now (list .entry)) ⌝ }
+{
+    let m = sizes::measure_tree(settings, tree, list);
+    if m.number != 0 {
+        return none_sought(m.number);
+    }
+    let s = m.settings;
+    let f = frame::frame_of(s, natural_at(list, 0));
+    if frame::is_large(f) {
+        return none_sought(6);
+    }
+    let n = walk::walk_tree(tree, list, separator(s), f.stride, leaves);
+    let found = find_leaf(&leaves[..n], node);
     if found.hit {
-        let size = found.size;
-        let flags = found.flags;
-        let n = visit::block_bytes(s, size, flags);
-        if len < n {
-            return frame::refused(8);
-        }
-        return Written {
+        return Sought {
             number: 0,
-            count: n,
+            settings: s,
+            entry: found.entry,
         };
     }
-    frame::refused(9)
+    none_sought(9)
 }
 
 // The record of the leaf with that number.
 pub fn leaf_record(settings: &[u8], tree: &[u8], node: usize) -> LeafRecord
     ensures { λ r. ⌜ r ≡ leafRecordOf (inputOf (now (settings .entry)) (now (tree .entry))) node ⌝ }
 {
-    let m = sizes::measure_tree(settings, tree);
-    if m.number != 0 {
-        return no_record(m.number);
+    let mut list = [0u16; 2048];
+    let mut leaves = [0u16; 5120];
+    let q = seek_leaf(settings, tree, node, &mut list, &mut leaves);
+    if q.number != 0 {
+        return no_record(q.number);
     }
-    let core = m.core;
-    if frame::is_large(frame::frame_of(m.settings, core)) {
-        return no_record(6);
+    let i = q.entry;
+    let s = q.settings;
+    record_at(tree, &list, &leaves[i..], s)
+}
+
+// The bytes of a leaf's block: its lines and the 0A between them.
+pub fn block_bytes(s: Settings, size: Size, f: Flags) -> usize
+    requires { ⌜ (size .width < 65536) × (size .height < 65536) ⌝ }
+    ensures { λ r. ⌜ r ≡ blockBytes s size f ⌝ }
+{
+    let wide = block::block_wide(s, size, f);
+    let tall = block::block_tall(s, size, f);
+    common::less_one(tall * (wide + 1))
+}
+
+// The block of the leaf whose entry is at the front of `leaf`, its lines joined by 0A, at the start of the output; or 8.
+fn print_block(tree: &[u8], list: &[u16], leaf: &[u16], s: Settings, out: &mut [u8]) -> Written
+    requires { ⌜ Shows (now tree) (now list) (now leaf) s ⌝ }
+    ensures { λ r. ⌜ ((q : Shows (now (tree .entry)) (now (list .entry)) (now (leaf .entry)) s) → (r ≡ printTo (feeds (blocks.block s (leafOf (q .leaf)))) (now (out .entry)) .answer) × (now (out .exit) ≡ printTo (feeds (blocks.block s (leafOf (q .leaf)))) (now (out .entry)) .out)) ⌝ }
+{
+    let e = entry_at(leaf);
+    let p = e.spot;
+    let middle = 8 + e.horizontal;
+    let end = middle + e.vertical;
+    let at = p.at;
+    let text = at + 3;
+    let stop = text + length_at(&tree[at..]);
+    let natural = natural_at(list, p.node);
+    let size = allotted_at(list, p.node);
+    let flags = layout::flags_of(p.flags);
+    let n = block_bytes(s, size, flags);
+    if out.len() < n {
+        return frame::refused(8);
     }
-    let s = m.settings;
-    let job = Job {
-        purpose: Purpose::Record,
-        settings: s,
-        wanted: node,
-        stride: 0,
-    };
-    let mut nothing = [0u8; 1];
-    let mut kept = [0u16; 1024];
-    let found = walk::walk_core(tree, core, job, &mut kept, &mut nothing);
-    record_of(found, &kept)
+    block::paint_joined(
+        out,
+        s,
+        &tree[text..stop],
+        natural,
+        size,
+        flags,
+        &leaf[8..middle],
+        &leaf[middle..end],
+    );
+    Written {
+        number: 0,
+        count: n,
+    }
 }
 
 // The block of the leaf with that number, its lines joined by 0A, at the start of the output.
@@ -123,22 +194,13 @@ pub fn print_leaf(settings: &[u8], tree: &[u8], node: usize, out: &mut [u8]) -> 
     ensures { λ r. ⌜ r ≡ leafPrintOf (inputOf (now (settings .entry)) (now (tree .entry))) node (now (out .entry)) .answer ⌝ }
     ensures shown { λ _. ⌜ now (out .exit) ≡ leafPrintOf (inputOf (now (settings .entry)) (now (tree .entry))) node (now (out .entry)) .out ⌝ }
 {
-    let m = sizes::measure_tree(settings, tree);
-    if m.number != 0 {
-        return frame::refused(m.number);
+    let mut list = [0u16; 2048];
+    let mut leaves = [0u16; 5120];
+    let q = seek_leaf(settings, tree, node, &mut list, &mut leaves);
+    if q.number != 0 {
+        return frame::refused(q.number);
     }
-    let core = m.core;
-    if frame::is_large(frame::frame_of(m.settings, core)) {
-        return frame::refused(6);
-    }
-    let s = m.settings;
-    let job = Job {
-        purpose: Purpose::Block,
-        settings: s,
-        wanted: node,
-        stride: 0,
-    };
-    let mut kept = [0u16; 1024];
-    let found = walk::walk_core(tree, core, job, &mut kept, out);
-    written_of(s, found, out.len())
+    let i = q.entry;
+    let s = q.settings;
+    print_block(tree, &list, &leaves[i..], s, out)
 }

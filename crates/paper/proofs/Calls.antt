@@ -93,7 +93,7 @@ module _ (s : Settings) (t : Tree) where
 
   masked-located : located s (masked t) ≡ located s t
   unfolding located masked
-  masked-located = rw (tree-sizes-recast (covered 1) mask-keeps s t) (locate-recast (covered 1) mask-keeps _ _ _ t _ _)
+  masked-located = rw (tree-sizes-recast (covered 1) mask-keeps s t) (locate-recast (covered 1) mask-keeps _ _ t _ _)
 
   masked-words : (ps : List ℕ) → map (wordOf s (masked t)) ps ≡ map (wordOf s t) ps
   unfolding wordOf

@@ -49,15 +49,15 @@ module _ (f : ℕ → ℕ) (keep : (b : ℕ) → eqb (f b) 10 ≡ eqb b 10) wher
 
   -- ---- the walk that answers places
 
-  module _ (gap : ℕ) (ws hs : List ℕ) where
+  module _ (gap : ℕ) (sizes : List ℕ) where
     mutual
       unfolding locate recast
 
-      pub locate-recast : (t : Tree) (node : ℕ) (p : Anchor) → locate gap ws hs (recast f t) node p ≡ locate gap ws hs t node p
+      pub locate-recast : (t : Tree) (node : ℕ) (p : Anchor) → locate gap sizes (recast f t) node p ≡ locate gap sizes t node p
       locate-recast (cell x) = λ node p. refl
       locate-recast (group a ts) = λ node p. rw (empty-recast f keep ts, locate*-recast ts a (suc node) p 0)
 
-      locate*-recast : (ts : Trees) (a : Axis) (node : ℕ) (b : Anchor) (offset : ℕ) → locateIn gap ws hs (recast* f ts) a node b offset ≡ locateIn gap ws hs ts a node b offset
+      locate*-recast : (ts : Trees) (a : Axis) (node : ℕ) (b : Anchor) (offset : ℕ) → locateIn gap sizes (recast* f ts) a node b offset ≡ locateIn gap sizes ts a node b offset
       locate*-recast none = λ a node b offset. refl
       locate*-recast (more t ts) = λ a node b offset. rw (empty-recast f keep ts, nodes-recast f keep t, locate-recast t, locate*-recast ts)
 

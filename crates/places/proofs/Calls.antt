@@ -8,7 +8,10 @@ use borrow.Author.Tests.{ne-eqb}
 use Rattle.settings.specs.declared.Settings.{Settings}
 use Rattle.tree.specs.Tree.{Tree}
 use Rattle.sizes.specs.declared.Measured.{Measured}
+use Rattle.sizes.specs.declared.Size.{Size}
 use Rattle.sizes.specs.Sizes.{sep}
+use Rattle.sizes.specs.Listed.{naturalAt}
+use Rattle.sizes.proofs.Whole.{here-of}
 use Rattle.sizes.specs.Input.{Input, refused, given, inputOf}
 use Rattle.sizes.proofs.Given.{Takes, takes}
 use Rattle.sizes.proofs.Separator.{sep-small}
@@ -27,7 +30,7 @@ use Rattle.places.proofs.Roots.{areas-are}
 
 -- ---- as the call has it: m is what was measured
 
-module _ {bs ts : List ℕ} {m : Measured} (q : Checked bs ts m) where
+module _ {bs ts : List ℕ} {m : Measured} {sizes : List ℕ} (q : Checked bs ts m sizes) where
   abbrev s : Settings
   s = m .settings
 
@@ -37,8 +40,8 @@ module _ {bs ts : List ℕ} {m : Measured} (q : Checked bs ts m) where
   accepted : Takes ts s t
   accepted = takes bs ts s t (q .input)
 
-  pub frames : (f : Frame) → f ≡ frameOf s (m .core) → Frames (s .margin) f s t
-  frames f e = record { margin = refl; frame = e ∙ frame-is s t (m .core) (q .core) }
+  pub frames : (z : Size) → z ≡ naturalAt sizes 0 → (f : Frame) → f ≡ frameOf s z → Frames (s .margin) f s t
+  frames z ze f e = record { margin = refl; frame = e ∙ frame-is s t z (ze ∙ here-of s t _ 0 sizes (q .listed) .natural-is) }
 
   pub tree-asks : (lp lf : ℕ) → lf ≡ lp → TreeAsks ts s lp lf
   tree-asks lp lf e = record {
@@ -53,15 +56,15 @@ module _ {bs ts : List ℕ} {m : Measured} (q : Checked bs ts m) where
   }
 
   pub tree-walked : {lp lf : ℕ} (e : lf ≡ lp) {ps : List ℕ} {n : ℕ} {f₀ f : List ℕ}
-      → Locates (locate (sep s) (m .core .widths) (m .core .heights) (tree-asks lp lf e .tree) 0 (rootAnchor s)) ps n f₀ f
-      → Locates (locate (sep s) (m .core .widths) (m .core .heights) t 0 (rootAnchor s)) ps n f₀ f
+      → Locates (locate (sep s) sizes (tree-asks lp lf e .tree) 0 (rootAnchor s)) ps n f₀ f
+      → Locates (locate (sep s) sizes t 0 (rootAnchor s)) ps n f₀ f
   unfolding tree-asks
   tree-walked e k = k
 
   -- where each place has an owner, the walk has written the owners' answers
   pub owners-answer : (ps : List ℕ) (n : ℕ) (f₀ f : List ℕ) → length f₀ ≡ length ps → Owners (areas s t) ps
-      → Locates (locate (sep s) (m .core .widths) (m .core .heights) t 0 (rootAnchor s)) ps n f₀ f → f ≡ map (ownWord (areas s t)) ps
-  owners-answer ps n f₀ f e o k = k .answers-are ∙ rw (areas-are s t (m .core) (q .core)) (answers-are (areas s t) ps f₀ e o)
+      → Locates (locate (sep s) sizes t 0 (rootAnchor s)) ps n f₀ f → f ≡ map (ownWord (areas s t)) ps
+  owners-answer ps n f₀ f e o k = k .answers-are ∙ rw (areas-are s t sizes (q .listed)) (answers-are (areas s t) ps f₀ e o)
 
 -- ---- one place
 
@@ -86,14 +89,14 @@ unpack-same r e a b = unpack-fields (r .node) (r .line) (r .column) a b ∙ ap (
 word-place : (l k : ℕ) → k < 4294967296 → (lineOf (l * 4294967296 + k) ≡ l) × (columnOf (l * 4294967296 + k) ≡ k)
 word-place l k h = (omega arith, omega arith)
 
-module _ {bs ts : List ℕ} {m : Measured} (q : Checked bs ts m) (f : Frame) (fe : f ≡ frameOf (m .settings) (m .core)) (l k n : ℕ)
+module _ {bs ts : List ℕ} {m : Measured} {sizes : List ℕ} (q : Checked bs ts m sizes) (z : Size) (ze : z ≡ naturalAt sizes 0) (f : Frame) (fe : f ≡ frameOf (m .settings) z) (l k n : ℕ)
     (e : (s : Settings) (t : Tree) → Frames (m .settings .margin) f s t → n ≡ faultOf s t l k) where
   in-sheet : leafPlaceOf (inputOf bs ts) l k ≡ leafPlaceIn (s q) (t q) l k
   unfolding leafPlaceOf
   in-sheet = rw (q .input, q .large)
 
   fault : faultOf (s q) (t q) l k ≡ n
-  fault = sym (e (s q) (t q) (frames q f fe))
+  fault = sym (e (s q) (t q) (frames q z ze f fe))
 
   pub place-fault : (n ≡ 0 → ⊥) → leafPlaceOf (inputOf bs ts) l k ≡ noLeafPlace n
   unfolding leafPlaceIn

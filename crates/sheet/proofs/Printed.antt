@@ -14,27 +14,25 @@ use Rattle.settings.specs.declared.Settings.{Settings}
 use Rattle.tree.specs.Tree.{Tree}
 use Rattle.sizes.specs.declared.Measured.{Measured}
 use Rattle.sizes.specs.Input.{Input, refused, given, inputOf}
-use Rattle.sizes.specs.Core.{coreOf, measuredOf}
+use Rattle.sizes.specs.declared.Size.{Size}
+use Rattle.sizes.specs.Answer.{measuredOf}
+use Rattle.sizes.specs.Listed.{naturalAt}
 use Rattle.block.specs.Paint.{Room, pasted}
 use Rattle.common.specs.Every.{Every}
 use Rattle.block.proofs.Every.{every-map, every-and}
 use Rattle.frame.specs.declared.Frame.{Frame}
-use Rattle.visit.specs.declared.Purpose.{Purpose}
-use Rattle.visit.specs.declared.Job.{Job}
-use Rattle.visit.specs.declared.Found.{Found}
 use Rattle.layout.specs.Walk.{Placed, leaves, insideW, insideH}
 use Rattle.frame.specs.Frame.{W, H, frameOf, largeOf, tooLarge}
 use Rattle.frame.specs.Printer.{Prints, noPrint, printTo}
 use Rattle.frame.proofs.Printers.{Answers}
-use Rattle.frame.proofs.Sheets.{sheetFrame, frame-is, large-is, large-no}
-use Rattle.visit.specs.Visiting.{showAll, Asks}
-use Rattle.walk.specs.Walking.{coreLists, ReadyTree, WalksTree}
+use Rattle.frame.proofs.Sheets.{sheetFrame, large-no}
+use Rattle.entries.specs.Listing.{Listing, Asks, PaintsAll, paintAll}
 use Rattle.layout.proofs.Laid.{root-laid}
 use Rattle.layout.proofs.Fit.{LeafFits, leaves-fit}
 use Rattle.layout.proofs.Inside.{Inside, laid-inside, room-inside}
 use Rattle.sizes.proofs.Heights.{natural-height}
 use Rattle.sizes.proofs.Given.{refuses}
-use Rattle.leaf.proofs.Calls.{tree-ready, call, call-takes}
+use Rattle.leaf.proofs.Calls.{Taken, call-takes, call-large, call-frame, call-stride, Fitting}
 use Rattle.sheet.specs.Sheet.{sheet}
 use Rattle.sheet.specs.Answers.{sheetOf}
 use Rattle.sheet.specs.Planning.{refusalOf, leftSide, topSide, insideAt, Framed, beforeOf, afterOf}
@@ -42,15 +40,12 @@ use Rattle.sheet.proofs.Bytes.{sheet-length}
 use Rattle.sheet.proofs.Painted.{painted, sheet-painted}
 use Rattle.sheet.proofs.Planned.{planned-no, planned-yes}
 
--- ---- the walk's fold for the sheet pastes every block
+-- ---- the leaves are painted one after the other
 
-abbrev jobFor : Purpose → Settings → ℕ → Job
-jobFor u s stride = record { purpose = u; settings = s; wanted = 512; stride = stride }
-
-show-painted : (s : Settings) (stride : ℕ) (o : List ℕ) (ls : List Placed) → showAll (jobFor Purpose.Sheet s stride) o ls ≡ painted s stride ls o
-unfolding showAll painted
-show-painted s stride o [] = refl
-show-painted s stride o (l ∷ ls) = show-painted s stride _ ls
+paint-painted : (s : Settings) (stride : ℕ) (o : List ℕ) (ls : List Placed) → paintAll s stride o ls ≡ painted s stride ls o
+unfolding painted
+paint-painted s stride o [] = refl
+paint-painted s stride o (l ∷ ls) = paint-painted s stride _ ls
 
 -- ---- each block lies in the sheet's bytes
 
@@ -86,10 +81,10 @@ module _ (s : Settings) (t : Tree) (len : ℕ) (large : tooLarge s t ≡ false) 
   part-room =
       rw some-inside (inside-room (s .margin .left) (s .margin .top) (insideH s t - 1) (s .margin .bottom) (s .margin .right) (insideW s t) (W s t + 1) len (wide-within s t) (rw (← some-inside) whole-room))
 
-  leaves-ask : (u : Purpose) → Every (Asks (jobFor u s (W s t + 1)) (len - insideAt (s .margin) (W s t + 1))) (leaves s t)
-  leaves-ask u =
-      every-map (λ l. LeafFits s l × Inside s 0 0 (insideH s t) (insideW s t) l) (Asks (jobFor u s (W s t + 1)) (len - insideAt (s .margin) (W s t + 1)))
-      (λ l x. record { fits = x .0; in-sheet = λ e. record { apart = omega (arith, x .1 .right, wide-within s t); room = room-inside (W s t + 1) (len - insideAt (s .margin) (W s t + 1)) (x .1) part-room } })
+  leaves-ask : Every (Asks s (W s t + 1) (len - insideAt (s .margin) (W s t + 1))) (leaves s t)
+  leaves-ask =
+      every-map (λ l. LeafFits s l × Inside s 0 0 (insideH s t) (insideW s t) l) (Asks s (W s t + 1) (len - insideAt (s .margin) (W s t + 1)))
+      (λ l x. record { fits = x .0; apart = omega (arith, x .1 .right, wide-within s t); room = room-inside (W s t + 1) (len - insideAt (s .margin) (W s t + 1)) (x .1) part-room })
       (leaves s t)
       (every-and (LeafFits s) (Inside s 0 0 (insideH s t) (insideW s t)) (leaves s t) (leaves-fit s t) (laid-inside (root-laid s t)))
 
@@ -102,33 +97,24 @@ filled o n h =
 
 -- ---- as the printer has it: m is what was measured, f the frame
 
--- the input was taken
-pub record Taken (bs ts : List ℕ) (m : Measured) : Type 0 where
-  pub measured : m ≡ measuredOf (inputOf bs ts)
-  pub zero : m .number ≡ 0
-
 pub sheet-refused : (bs ts o : List ℕ) (m : Measured) → m ≡ measuredOf (inputOf bs ts) → (m .number ≡ 0 → ⊥) → sheetOf (inputOf bs ts) o ≡ noPrint (m .number) o
 unfolding sheetOf
 sheet-refused bs ts o m e h = rw (refuses bs ts m e h)
 
-module _ {bs ts : List ℕ} {m : Measured} (k : Taken bs ts m) where
+module _ {bs ts : List ℕ} {m : Measured} {sizes : List ℕ} (k : Taken bs ts m sizes) where
   abbrev s : Settings
   s = m .settings
 
   abbrev t : Tree
-  t = call bs ts m (k .measured) (k .zero) .tree
+  t = k .tree
 
-  core-is : m .core ≡ coreOf s t
-  core-is = call bs ts m (k .measured) (k .zero) .core
-
-  module _ {f : Frame} (fe : f ≡ frameOf s (m .core)) where
+  module _ {z : Size} (ze : z ≡ naturalAt sizes 0) {f : Frame} (fe : f ≡ frameOf s z) where
     -- the frame is the sheet's
     frame-of : f ≡ sheetFrame s t
-    frame-of = fe ∙ frame-is s t (m .core) core-is
+    frame-of = call-frame k ze fe
 
-    stride-is : f .stride ≡ W s t + 1
-    unfolding W
-    stride-is = rw frame-of
+    pub stride-is : f .stride ≡ W s t + 1
+    stride-is = call-stride k ze fe
 
     lines-is : f .lines ≡ H s t
     unfolding H
@@ -145,7 +131,7 @@ module _ {bs ts : List ℕ} {m : Measured} (k : Taken bs ts m) where
     bytes-is = rw frame-of
 
     large-of : largeOf f ≡ tooLarge s t
-    large-of = rw fe (large-is s t (m .core) core-is)
+    large-of = call-large k ze fe
 
     module _ (o : List ℕ) where
       -- the answer for a sheet that fits
@@ -158,7 +144,7 @@ module _ {bs ts : List ℕ} {m : Measured} (k : Taken bs ts m) where
       -- the definition's tests are the printer's
       sheet-is : sheetOf (inputOf bs ts) o ≡ pick (largeOf f) (noPrint 6 o) (pick (ltb (length o) (f .bytes)) (noPrint 8 o) whole)
       unfolding sheetOf
-      sheet-is = rw (call bs ts m (k .measured) (k .zero) .input, large-of, known)
+      sheet-is = rw (k .input, large-of, known)
 
       pub sheet-no : (n : ℕ) → n ≡ refusalOf f (length o) → (n ≡ 0 → ⊥) → sheetOf (inputOf bs ts) o ≡ noPrint n o
       unfolding refusalOf
@@ -175,8 +161,11 @@ module _ {bs ts : List ℕ} {m : Measured} (k : Taken bs ts m) where
         pub fits : 0 + f .bytes ≤ length o
         fits = omega (arith, within)
 
-        large : tooLarge s t ≡ false
+        pub large : tooLarge s t ≡ false
         large = sym large-of ∙ passed .0
+
+        abbrev pub fitting : Fitting bs ts m sizes (f .stride)
+        fitting = record { took = k; large = large; stride-is = stride-is }
 
         enough : (W s t + 1) * H s t - 1 ≤ length o
         enough = omega (arith, within, bytes-is)
@@ -199,37 +188,35 @@ module _ {bs ts : List ℕ} {m : Measured} (k : Taken bs ts m) where
           base-in = rw base-is (start-in s t (length o) large enough)
 
           module _ {len : ℕ} (le : len ≡ length o - base) where
-            asks : (u : Purpose) → Every (Asks (jobFor u s (f .stride)) len) (leaves s t)
-            asks u = rw (stride-is, le, base-is) (leaves-ask s t (length o) large enough u)
+            pub asks : Every (Asks s (f .stride) len) (leaves s t)
+            asks = rw (stride-is, le, base-is) (leaves-ask s t (length o) large enough)
 
-            -- the walk can start, whatever its purpose
-            pub sheet-ready : (u : Purpose) → ReadyTree (jobFor u s (f .stride)) ts (coreLists (m .core)) len
-            sheet-ready u = tree-ready (jobFor u s (f .stride)) ts t (m .core) len (call-takes bs ts m (k .measured) (k .zero)) core-is (asks u)
+            -- the leaves can be painted
+            unfoldable pub sheet-paints : (list es : List ℕ) → Listing s (f .stride) ts list (leaves s t) es → PaintsAll ts list es s (f .stride) len
+            sheet-paints list es g = record { leaves = leaves s t; listing = g; short = omega (arith, call-takes k .got .short); asks = asks }
 
             -- filled with 0A, the margin before the leaves, the leaves in the bytes from `base` on, the margin after them
-            sheet-shown : (found : Found) (kept o₁ o₂ part q o₃ o₄ : List ℕ) → o₁ ≡ sets o 0 (replicate (f .bytes) 10)
-                → o₂ ≡ beforeOf (s .margin) f o₁ → length o₂ ≡ length o → part ≡ drop base o₂
-                → WalksTree (jobFor Purpose.Sheet s (f .stride)) (leaves s (sheet-ready Purpose.Sheet .tree)) found kept part q
+            sheet-shown : (o₁ o₂ part q o₃ o₄ : List ℕ) → o₁ ≡ sets o 0 (replicate (f .bytes) 10)
+                → o₂ ≡ beforeOf (s .margin) f o₁ → length o₂ ≡ length o → part ≡ drop base o₂ → q ≡ paintAll s (f .stride) part (leaves s t)
                 → o₃ ≡ take base o₂ ++ q → o₄ ≡ afterOf (s .margin) f o₃ → o₄ ≡ sheet s t ++ drop (f .bytes) o
-            unfolding sheet-ready tree-ready
-            sheet-shown found kept o₁ o₂ part q o₃ o₄ e₁ e₂ l₂ ep w e₃ e₄ =
+            sheet-shown o₁ o₂ part q o₃ o₄ e₁ e₂ l₂ ep eq e₃ e₄ =
                 let r = drop ((W s t + 1) * H s t - 1) o in
                 let z₁ : o₁ ≡ replicate ((W s t + 1) * H s t - 1) 10 ++ r = e₁ ∙ rw (filled o (f .bytes) within, bytes-is) in
                 let z₂ : o₂ ≡ pasted (pasted (replicate ((W s t + 1) * H s t - 1) 10 ++ r) 0 (W s t + 1) (leftSide (s .margin) (H s t))) (s .margin .left) (W s t + 1) (topSide (s .margin) (insideW s t)) =
                 e₂ ∙ rw (lines-is, wide-is, stride-is, z₁) in
-                let zq : q ≡ painted s (W s t + 1) (leaves s t) (drop (insideAt (s .margin) (W s t + 1)) o₂) = w .out-is ∙ show-painted s (f .stride) part (leaves s t) ∙ rw (ep, base-is, stride-is) in
+                let zq : q ≡ painted s (W s t + 1) (leaves s t) (drop (insideAt (s .margin) (W s t + 1)) o₂) = eq ∙ paint-painted s (f .stride) part (leaves s t) ∙ rw (ep, base-is, stride-is) in
                 let z₃ : o₃ ≡ take (insideAt (s .margin) (W s t + 1)) o₂ ++ painted s (W s t + 1) (leaves s t) (drop (insideAt (s .margin) (W s t + 1)) o₂) = e₃ ∙ rw (zq, base-is) in
                 let i : insideAt (s .margin) (W s t + 1) ≤ length o₂ = rw l₂ (start-in s t (length o) large enough) in
                 e₄ ∙ rw (lines-is, wide-is, tall-is, stride-is, bytes-is) (sheet-painted s t r o₂ o₃ z₂ i z₃)
 
-            pub sheet-answers : (found : Found) (kept o₁ o₂ part q o₃ o₄ : List ℕ) → o₁ ≡ sets o 0 (replicate (f .bytes) 10)
-                → o₂ ≡ beforeOf (s .margin) f o₁ → length o₂ ≡ length o → part ≡ drop base o₂
-                → WalksTree (jobFor Purpose.Sheet s (f .stride)) (leaves s (sheet-ready Purpose.Sheet .tree)) found kept part q
+            pub sheet-answers : (o₁ o₂ part q o₃ o₄ list es : List ℕ) (g : Listing s (f .stride) ts list (leaves s t) es) → o₁ ≡ sets o 0 (replicate (f .bytes) 10)
+                → o₂ ≡ beforeOf (s .margin) f o₁ → length o₂ ≡ length o → part ≡ drop base o₂ → q ≡ paintAll s (f .stride) part (sheet-paints list es g .leaves)
                 → o₃ ≡ take base o₂ ++ q → o₄ ≡ afterOf (s .margin) f o₃
                 → Answers (record { number = 0; count = f .bytes }) o₄ (sheetOf (inputOf bs ts) o)
-            sheet-answers found kept o₁ o₂ part q o₃ o₄ e₁ e₂ l₂ ep w e₃ e₄ =
+            unfolding sheet-paints
+            sheet-answers o₁ o₂ part q o₃ o₄ list es g e₁ e₂ l₂ ep eq e₃ e₄ =
                 let e : sheetOf (inputOf bs ts) o ≡ whole = sheet-is ∙ rw (passed .0, passed .1) in
-                (rw e, sheet-shown found kept o₁ o₂ part q o₃ o₄ e₁ e₂ l₂ ep w e₃ e₄ ∙ rw e)
+                (rw e, sheet-shown o₁ o₂ part q o₃ o₄ e₁ e₂ l₂ ep eq e₃ e₄ ∙ rw e)
 
 -- ---- no more bytes are written than were lent
 

@@ -3,8 +3,8 @@ use block::bytes::rows;
 use frame::Frame;
 use frame::Written;
 use settings::Margin;
-use visit::Job;
-use visit::Purpose;
+use sizes::axis::separator;
+use sizes::lists::natural_at;
 ghost use mathlib.Core.Path.{_≡_};
 ghost use lib.ListN.{length};
 ghost use Rattle.block.specs.Paint.{Wrote};
@@ -63,29 +63,23 @@ pub fn print_sheet(settings: &[u8], tree: &[u8], out: &mut [u8]) -> Written
     ensures { λ r. ⌜ r ≡ sheetOf (inputOf (now (settings .entry)) (now (tree .entry))) (now (out .entry)) .answer ⌝ }
     ensures shown { λ _. ⌜ now (out .exit) ≡ sheetOf (inputOf (now (settings .entry)) (now (tree .entry))) (now (out .entry)) .out ⌝ }
 {
-    let m = sizes::measure_tree(settings, tree);
+    let mut list = [0u16; 2048];
+    let m = sizes::measure_tree(settings, tree, &mut list);
     if m.number != 0 {
         return frame::refused(m.number);
     }
-    let core = m.core;
     let s = m.settings;
-    let f = frame::frame_of(s, core);
+    let f = frame::frame_of(s, natural_at(&list, 0));
     let number = refusal_of(f, out.len());
     if number != 0 {
         return frame::refused(number);
     }
-    // No node is wanted: their numbers end at 511.
-    let job = Job {
-        purpose: Purpose::Sheet,
-        settings: s,
-        wanted: 512,
-        stride: f.stride,
-    };
     block::bytes::fill(out, 0, f.bytes, 10);
     let margin = s.margin;
     let base = margin_before(out, margin, f);
-    let mut kept = [0u16; 1024];
-    walk::walk_core(tree, core, job, &mut kept, &mut out[base..]);
+    let mut leaves = [0u16; 5120];
+    let n = walk::walk_tree(tree, &list, separator(s), f.stride, &mut leaves);
+    entries::paint_leaves(tree, &list, &leaves[..n], s, f.stride, &mut out[base..]);
     margin_after(out, margin, f, base);
     Written {
         number: 0,

@@ -46,11 +46,10 @@ use Rattle.layout.proofs.Named.{LeafAt, same-leaf, leaf-size, leaf-node, node-l
 use Rattle.layout.proofs.Starts.{allottedIn, root-start, row-start, column-start, leaf-start}
 use Rattle.frame.specs.Frame.{W, H, bytesOf, tooLarge}
 use Rattle.frame.specs.Printer.{Prints, noPrint, printTo}
-use Rattle.visit.specs.Visiting.{blockBytes}
-use Rattle.visit.proofs.Bytes.{block-bytes}
 use Rattle.leaf.specs.declared.LeafRecord.{LeafRecord}
 use Rattle.leaf.specs.Answers.{numbered, recordFound, leafRecordOf, leafPrintOf}
-use Rattle.leaf.proofs.Calls.{record-within}
+use Rattle.leaf.specs.Contracts.{blockBytes}
+use Rattle.leaf.proofs.Bytes.{block-bytes}
 use Rattle.leaf.proofs.Numbers.{childless}
 use Rattle.leaf.proofs.Seek.{leaf-found, found-leaf}
 use Rattle.sheet.specs.Answers.{sheetOf}
@@ -116,6 +115,10 @@ rectangle x y d = rw (← x, ← y) (record { lines = d .lines; columns = d .col
 
 -- the bytes are those of settings and tree, within the limits
 module _ (bs ts : List ℕ) (s : Settings) (t : Tree) (i : inputOf bs ts ≡ given s t) (g : tooLarge s t ≡ false) where
+  record-is : (n : ℕ) → leafRecordOf (inputOf bs ts) n ≡ recordFound (numbered n (leaves s t))
+  unfolding leafRecordOf
+  record-is n = rw (i, g)
+
   -- node n is a leaf: its place in the walk, and its record as answered
   record Answered (n : ℕ) : Type 0 where
     leaf : Placed
@@ -124,13 +127,13 @@ module _ (bs ts : List ℕ) (s : Settings) (t : Tree) (i : inputOf bs ts ≡ giv
 
   answered-case : (n : ℕ) (x : Option Placed) → numbered n (leaves s t) ≡ x → recordFound x .number ≡ 0 → Answered n
   answered-case n none e h = absurd (omega arith)
-  answered-case n (some f) e h = record { leaf = f; named = found-leaf s t n f e; answer = record-within bs ts n s t i g ∙ ap recordFound e }
+  answered-case n (some f) e h = record { leaf = f; named = found-leaf s t n f e; answer = record-is n ∙ ap recordFound e }
 
   answered : (n : ℕ) → leafRecordOf (inputOf bs ts) n .number ≡ 0 → Answered n
-  answered n h = answered-case n (numbered n (leaves s t)) refl (rw (record-within bs ts n s t i g) at h)
+  answered n h = answered-case n (numbered n (leaves s t)) refl (rw (record-is n) at h)
 
   leaf-answers : {n : ℕ} {f : Placed} → LeafAt s t n f → leafRecordOf (inputOf bs ts) n .number ≡ 0
-  leaf-answers {n} p = ap (λ (r : LeafRecord). r .number) (record-within bs ts n s t i g ∙ ap recordFound (leaf-found s t p))
+  leaf-answers {n} p = ap (λ (r : LeafRecord). r .number) (record-is n ∙ ap recordFound (leaf-found s t p))
 
   -- what the leaf printer answers
   prints : {n : ℕ} {f : Placed} → LeafAt s t n f → (o : List ℕ) → leafPrintOf (inputOf bs ts) n o ≡ printTo (feeds (block s (leafOf f))) o

@@ -11,7 +11,7 @@ use lib.Dec.{eqb, ltb, leb}
 use borrow.Author.Tests.{eq-eqb, ne-eqb, ltb-false, leb-false}
 use Rattle.common.specs.Choice.{pick, both}
 use Rattle.tree.specs.Tree.{across, down}
-use Rattle.sizes.specs.Measuring.{firstLine}
+use Rattle.feeds.specs.Feeds.{firstFeed}
 use Rattle.sizes.proofs.Lines.{rest, rest-none, rest-next, line-from, line-in}
 use Rattle.sizes.proofs.Either.{either}
 use Rattle.typed.specs.Line.{Item, cell, group, itemTag, ownText, OneLine, skip, fault, node, oneLineOf, TextAt, LineTold}
@@ -24,7 +24,7 @@ use Rattle.typed.proofs.Texts.{text-short}
 use Rattle.typed.proofs.OneLine.{text-in}
 
 -- the line that starts at `from` and ends at e
-pub line-long : (t : List ℕ) (from : ℕ) (h : from ≤ length t) (e : ℕ) → e ≡ from + firstLine (drop from t) → length (take (e - from) (drop from t)) ≡ e - from
+pub line-long : (t : List ℕ) (from : ℕ) (h : from ≤ length t) (e : ℕ) → e ≡ from + firstFeed (drop from t) → length (take (e - from) (drop from t)) ≡ e - from
 line-long t from h e is = length-take-le (e - from) (drop from t) (omega (arith, line-in t from h e is, length-drop from t))
 
 -- ---- one line more
@@ -148,7 +148,7 @@ place-fits z d n h =
     }
 
 module _ (t : List ℕ) (small : length t ≤ 131072) (spots : List NodeSpot) (z : Sofar) (l from : ℕ) (R : Reading t spots z l from) (h : from ≤ length t)
-    (e : ℕ) (is : e ≡ from + firstLine (drop from t)) (r : Line) (told : LineTold (take (e - from) (drop from t)) (oneLineOf (take (e - from) (drop from t))) r) where
+    (e : ℕ) (is : e ≡ from + firstFeed (drop from t)) (r : Line) (told : LineTold (take (e - from) (drop from t)) (oneLineOf (take (e - from) (drop from t))) r) where
   abbrev x : List ℕ
   x = take (e - from) (drop from t)
 

@@ -13,7 +13,7 @@ abbrev μ-loop : tie.MeasureT-loop
 μ-loop s at end i₀ i = end - i
 
 loop-holds : tie.Need-loop-holds Inv-loop μ-loop
-loop-holds c = (c .before .pre, passed-none _ _)
+loop-holds c = let w = c .before .pre in (w, passed-none _ _ (omega arith))
 
 is-plain-requires : tie.Need-is-plain-requires Inv-loop μ-loop
 is-plain-requires c κs = let w = c .before .loop .inv .0 in omega arith
@@ -31,7 +31,7 @@ loop-again : tie.Need-loop-again Inv-loop μ-loop
 loop-again c =
     let l = c .before .before .before .loop in
     let w = l .inv .0 in
-    (record { on = omega arith; within = w .within; first = omega arith; last = w .last }, passed-on _ _ (l .i) 32 (l .inv .1) (omega arith) (c .before .is-plain .ensures (not-false _ (c .if1 .left))))
+    (record { on = omega arith; within = w .within; parts = omega arith }, passed-on _ _ (l .i) (l .inv .1) 32 (omega arith) (c .before .is-plain .ensures (not-false _ (c .if1 .left))))
 
 returns-2 : tie.Need-returns-2 Inv-loop μ-loop
 returns-2 c = c .before .loop .inv

@@ -1,13 +1,18 @@
-use borrow.Author.Needs.{needs}
-use borrow.Rule.Slice.PartAt.{part-to-end}
 use mathlib.Core.Path.{_≡_, sym, _∙_}
-use mathlib.Core.List.{List, _++_, append-nil}
 use Prim.Native.Nat.{ℕ, _-_, _≤_}
 use native.Mathlib.Omega.{arith}
-use lib.ListN.{length, take, drop, length-drop, drop-of-length-le}
+use native.Mathlib.Nat.{le-refl}
+use mathlib.Core.List.{List, _++_, append-nil}
+use lib.ListN.{length, take, drop, length-drop, length-replicate, drop-of-length-le}
+use lib.Seq.{length-take-le}
+use borrow.Rule.Slice.PartAt.{part-to-end}
+use Rattle.sizes.specs.Input.{inputOf}
+use Rattle.sizes.proofs.Given.{listed-length}
 use Rattle.frame.proofs.Printers.{refusal}
-use Rattle.sheet.specs.Planning.{refusalOf, Framed}
-use Rattle.sheet.proofs.Printed.{Taken, sheet-refused, sheet-no, fits, framed, base-in, sheet-ready, sheet-answers}
+use Rattle.leaf.proofs.Calls.{Taken, taken, ready, front-in, listing}
+use Rattle.sheet.specs.Planning.{refusalOf}
+use Rattle.sheet.proofs.Printed.{sheet-refused, sheet-no, fits, framed, fitting, base-in, sheet-paints, sheet-answers}
+use borrow.Author.Needs.{needs}
 use Rattle.sheet.proofs.print_sheet.Statement.{statement}
 use Rattle.sheet.proofs.print_sheet.Tie as tie
 
@@ -20,104 +25,170 @@ part-back xs ys a =
     let m : length (drop a xs) ≡ length xs - a = length-drop a xs in
     rw (drop-of-length-le (drop a xs) {i = length xs - a} (omega arith), append-nil ys)
 
--- ---- what is known once the frame is worked out, and once nothing is refused
+-- the list that was lent
+long : (c : tie.After-measure-tree) → length (c .measure-tree .last .1 .1 .0) ≡ 2048
+long c = let a = c .before .before .before .before .before .args in listed-length (inputOf (a .settings .now) (a .tree .now)) _ _ (c .measure-tree .ensures .1) ∙ length-replicate {A = ℕ} 2048 0
 
-taken : (c : tie.After-frame-of) → Taken (c .before .before .before .before .before .before .before .before .before .args .settings .now) (c .before .before .before .before .before .before .before .before .before .args .tree .now) (c .before .before .before .before .before .measure-tree .result)
-taken c = record { measured = c .before .before .before .before .before .measure-tree .ensures; zero = c .before .before .before .if1 .left }
+-- what is known once the sizes were measured
+took : (c : tie.After-natural-at) → let a = c .before .before .before .before .before .before .before .before .before .before .args in let d = c .before .before .before .before .before .measure-tree in Taken (a .settings .now) (a .tree .now) (d .result) (d .last .1 .1 .0)
+took c = let d = c .before .before .before .before .before .measure-tree in taken _ _ _ _ _ (d .ensures .0) (d .ensures .1) (c .before .before .before .if1 .left) (long (c .before .before .before .before .before))
 
-abbrev out : tie.Else2 → List ℕ
-out c = c .before .before .before .before .before .before .before .before .before .before .before .args .out .now
-
-none : (c : tie.Else2) → refusalOf (c .before .before .frame-of .result) (length (out c)) ≡ 0
+-- the sheet is printed
+none : (c : tie.Else2) → refusalOf (c .before .before .frame-of .result) (length (c .before .before .before .before .before .before .before .before .before .before .before .before .before .args .out .now)) ≡ 0
 none c = sym (c .before .refusal-of .ensures) ∙ c .if2 .left
 
-room-for : (c : tie.Else2) {len : ℕ} → len ≡ length (out c) → Framed (c .before .before .before .before .before .before .before .measure-tree .result .settings .margin) (c .before .before .frame-of .result) len
-room-for c e = framed (taken (c .before .before)) (c .before .before .frame-of .ensures) (out c) (none c) e
+-- the output keeps its length
+same : (c : tie.After-margin-before) → length (c .margin-before .last .0) ≡ length (c .before .before .before .before .before .before .before .before .before .before .before .before .before .before .before .before .before .before .before .before .args .out .now)
+same c = search needs
 
--- where the rectangle inside starts is within the output
-start-in : (c : tie.After-margin-before) → c .margin-before .result ≤ length (out (c .before .before .before .before .before .before .before))
-start-in c = base-in (taken (c .before .before .before .before .before .before .before .before .before)) (c .before .before .before .before .before .before .before .before .before .frame-of .ensures) (out (c .before .before .before .before .before .before .before)) (none (c .before .before .before .before .before .before .before)) (c .margin-before .ensures .end-is)
-
-measure-tree-requires : tie.Need-measure-tree-requires
-measure-tree-requires c κs = search needs
-
-refused-requires : tie.Need-refused-requires
-refused-requires c κs = search needs
+-- the entries end in the list that was lent
+front : (c : tie.After-walk-tree) → c .walk-tree .result ≤ length (c .walk-tree .last .1 .1 .1 .1 .0)
+front c =
+    let e = c .before .before .before .before .before .before .before .before .before .before .before .before .before in
+    let k = fitting (took (e .before .before .before)) (e .before .before .before .natural-at .ensures .0) (e .before .before .frame-of .ensures) (e .before .before .before .before .before .before .before .before .before .before .before .before .before .args .out .now) (none e) in
+    let g = c .before .before .separator .ensures .0 in
+    front-in k _ _ g (le-refl 5120) _ _ _ (c .walk-tree .ensures (ready k _ _ g (le-refl 5120)))
 
 returns : tie.Need-returns
-returns c = refusal (c .refused .ensures) (sheet-refused _ _ _ _ (c .before .before .before .measure-tree .ensures) (c .before .if1 .taken))
+returns c = refusal (c .refused .ensures) (sheet-refused _ _ _ _ (c .before .before .before .measure-tree .ensures .0) (c .before .if1 .taken))
 
-frame-of-requires : tie.Need-frame-of-requires
-frame-of-requires c κs = search needs
+slice-aggregate-natural-at : tie.Need-slice-aggregate-natural-at
+slice-aggregate-natural-at c = sym (long (c .before .before .before .before))
 
-refusal-of-requires : tie.Need-refusal-of-requires
-refusal-of-requires c κs = search needs
-
-refused-requires-2 : tie.Need-refused-requires-2
-refused-requires-2 c κs = search needs
+natural-at-requires : tie.Need-natural-at-requires
+natural-at-requires c κs = omega (arith, long (c .before .before .before .before))
 
 returns-2 : tie.Need-returns-2
-returns-2 c = refusal (c .refused2 .ensures) (sheet-no (taken (c .before .before .before)) (c .before .before .before .frame-of .ensures) _ _ (c .before .before .refusal-of .ensures) (c .before .if2 .taken))
+returns-2 c = refusal (c .refused2 .ensures) (sheet-no (took (c .before .before .before .before)) (c .before .before .before .before .natural-at .ensures .0) (c .before .before .before .frame-of .ensures) _ _ (c .before .before .refusal-of .ensures) (c .before .if2 .taken))
 
 fill-requires : tie.Need-fill-requires
-fill-requires c κs = fits (taken (c .before .before .before)) (c .before .before .before .frame-of .ensures) (out (c .before)) (none (c .before))
+fill-requires c κs =
+    let e = c .before in
+    let k = took (e .before .before .before) in
+    let ze = e .before .before .before .natural-at .ensures .0 in
+    let fe = e .before .before .frame-of .ensures in
+    let o = e .before .before .before .before .before .before .before .before .before .before .before .before .before .args .out .now in
+    let n = none e in
+    fits k ze fe o n
 
 margin-before-requires : tie.Need-margin-before-requires
-margin-before-requires c κs = room-for (c .before .before .before .before .before .before) (search needs)
+margin-before-requires c κs =
+    let e = c .before .before .before .before .before .before in
+    let k = took (e .before .before .before) in
+    let ze = e .before .before .before .natural-at .ensures .0 in
+    let fe = e .before .before .frame-of .ensures in
+    let o = e .before .before .before .before .before .before .before .before .before .before .before .before .before .args .out .now in
+    let n = none e in
+    framed k ze fe o n (search needs)
 
-slice-aggregate-walk-core : tie.Need-slice-aggregate-walk-core
-slice-aggregate-walk-core c = search needs
+slice-aggregate-walk-tree : tie.Need-slice-aggregate-walk-tree
+slice-aggregate-walk-tree c = sym (long (c .before .before .before .before .before .before .before .before .before .before .before .before .before .before .before .before .before .before))
 
-sub-walk-core : tie.Need-sub-walk-core
-sub-walk-core c = let l : length (c .before .before .before .margin-before .last .0) ≡ length (out (c .before .before .before .before .before .before .before .before .before .before)) = search needs in omega (arith, start-in (c .before .before .before))
+walk-tree-requires : tie.Need-walk-tree-requires
+walk-tree-requires c κs =
+    let e = c .before .before .before .before .before .before .before .before .before .before .before .before in
+    let k = took (e .before .before .before) in
+    let ze = e .before .before .before .natural-at .ensures .0 in
+    let fe = e .before .before .frame-of .ensures in
+    let o = e .before .before .before .before .before .before .before .before .before .before .before .before .before .args .out .now in
+    let n = none e in
+    ready (fitting k ze fe o n) _ _ (c .before .separator .ensures .0) (le-refl 5120)
 
-part-walk-core-start : tie.Need-part-walk-core-start
-part-walk-core-start c = let l : length (c .before .before .before .margin-before .last .0) ≡ length (out (c .before .before .before .before .before .before .before .before .before .before)) = search needs in omega (arith, start-in (c .before .before .before))
+slice-aggregate-paint-leaves : tie.Need-slice-aggregate-paint-leaves
+slice-aggregate-paint-leaves c = sym (long (c .before .before .before .before .before .before .before .before .before .before .before .before .before .before .before .before .before .before .before .before .before .before .before))
 
-part-walk-core-end : tie.Need-part-walk-core-end
-part-walk-core-end c = search needs
+array-share-prefix-leaves : tie.Need-array-share-prefix-leaves
+array-share-prefix-leaves c = front (c .before .before)
 
-walk-core-requires : tie.Need-walk-core-requires
-walk-core-requires c κs =
-    let l : length (c .before .before .before .before .margin-before .last .0) ≡ length (out (c .before .before .before .before .before .before .before .before .before .before .before)) = search needs in
-    (sheet-ready (taken (c .before .before .before .before .before .before .before .before .before .before .before .before .before)) (c .before .before .before .before .before .before .before .before .before .before .before .before .before .frame-of .ensures) (out (c .before .before .before .before .before .before .before .before .before .before .before)) (none (c .before .before .before .before .before .before .before .before .before .before .before)) (c .before .before .before .before .margin-before .ensures .end-is) (part-long (c .before .before .before .before .margin-before .last .0) (c .before .before .before .before .margin-before .result) l) _, search needs)
+slice-aggregate-paint-leaves-2 : tie.Need-slice-aggregate-paint-leaves-2
+slice-aggregate-paint-leaves-2 c = sym (length-take-le _ _ (front (c .before .before .before)))
+
+sub-paint-leaves : tie.Need-sub-paint-leaves
+sub-paint-leaves c =
+    let e = c .before .before .before .before .before .before .before .before .before .before .before .before .before .before .before .before in
+    let k = took (e .before .before .before) in
+    let ze = e .before .before .before .natural-at .ensures .0 in
+    let fe = e .before .before .frame-of .ensures in
+    let o = e .before .before .before .before .before .before .before .before .before .before .before .before .before .args .out .now in
+    let n = none e in
+    let l = same (c .before .before .before .before .before .before .before .before .before) in
+    omega (arith, base-in k ze fe o n (c .before .before .before .before .before .before .before .before .before .margin-before .ensures .end-is))
+
+part-paint-leaves-start : tie.Need-part-paint-leaves-start
+part-paint-leaves-start c =
+    let e = c .before .before .before .before .before .before .before .before .before .before .before .before .before .before .before .before in
+    let k = took (e .before .before .before) in
+    let ze = e .before .before .before .natural-at .ensures .0 in
+    let fe = e .before .before .frame-of .ensures in
+    let o = e .before .before .before .before .before .before .before .before .before .before .before .before .before .args .out .now in
+    let n = none e in
+    let l = same (c .before .before .before .before .before .before .before .before .before) in
+    omega (arith, base-in k ze fe o n (c .before .before .before .before .before .before .before .before .before .margin-before .ensures .end-is))
+
+paint-leaves-requires : tie.Need-paint-leaves-requires
+paint-leaves-requires c κs =
+    let e = c .before .before .before .before .before .before .before .before .before .before .before .before .before .before .before .before .before in
+    let k = took (e .before .before .before) in
+    let ze = e .before .before .before .natural-at .ensures .0 in
+    let fe = e .before .before .frame-of .ensures in
+    let o = e .before .before .before .before .before .before .before .before .before .before .before .before .before .args .out .now in
+    let n = none e in
+    let l = same (c .before .before .before .before .before .before .before .before .before .before) in
+    let be = c .before .before .before .before .before .before .before .before .before .before .margin-before .ensures .end-is in
+    let le = part-long (c .before .before .before .before .before .before .before .before .before .before .margin-before .last .0) (c .before .before .before .before .before .before .before .before .before .before .margin-before .result) l in
+    let kf = fitting k ze fe o n in
+    let g = c .before .before .before .before .before .before .separator .ensures .0 in
+    let es = listing kf _ _ g (le-refl 5120) _ _ _ (c .before .before .before .before .walk-tree .ensures (ready kf _ _ g (le-refl 5120))) in
+    sheet-paints k ze fe o n be le _ _ es
 
 margin-after-requires : tie.Need-margin-after-requires
-margin-after-requires c κs = (room-for (c .before .before .before .before .before .before .before .before .before .before .before .before .before .before .before .before) (search needs), c .before .before .before .before .before .before .before .before .before .margin-before .ensures .end-is)
-
-same-length : tie.Need-same-length
-same-length c = search needs
+margin-after-requires c κs =
+    (framed (took (c .before .before .before .before .before .before .before .before .before .before .before .before .before .before .before .before .before .before .before .before .before .before .before .before)) (c .before .before .before .before .before .before .before .before .before .before .before .before .before .before .before .before .before .before .before .before .before .before .before .before .natural-at .ensures .0) (c .before .before .before .before .before .before .before .before .before .before .before .before .before .before .before .before .before .before .before .before .before .before .before .frame-of .ensures) (c .before .before .before .before .before .before .before .before .before .before .before .before .before .before .before .before .before .before .before .before .before .before .before .before .before .before .before .before .before .before .before .before .before .before .args .out .now) (none (c .before .before .before .before .before .before .before .before .before .before .before .before .before .before .before .before .before .before .before .before .before)) (search needs), c .before .before .before .before .before .before .before .before .before .before .before .before .before .before .margin-before .ensures .end-is)
 
 returns-3 : tie.Need-returns-3
 returns-3 c =
-    let l : length (c .before .before .before .before .before .before .before .before .before .before .before .before .margin-before .last .0) ≡ length (out (c .before .before .before .before .before .before .before .before .before .before .before .before .before .before .before .before .before .before .before)) = search needs in
-    let d = c .before .before .before .before .before .before .before .before .before .before .before .before .before .before .before .before .before .before .before in
-    let b = c .before .before .before .before .before .before .before .before .before .before .before .before .margin-before in
-    let w = c .before .before .before .before .before .before .before .walk-core in
-    let long = part-long (b .last .0) (b .result) l in
-    sheet-answers (taken (d .before .before)) (d .before .before .frame-of .ensures) (out d) (none d) (b .ensures .end-is) long _ _ _ (b .last .0) _ _ _ _
-    (c .before .before .before .before .before .before .before .before .before .before .before .before .before .before .before .before .before .fill .ensures .out-is) (b .ensures .out-is) l (part-to-end (b .last .0) (b .result))
-    (w .ensures (sheet-ready (taken (d .before .before)) (d .before .before .frame-of .ensures) (out d) (none d) (b .ensures .end-is) long _))
-    (part-back (b .last .0) (w .last .1 .1 .1 .1 .0) (b .result)) (c .before .before .margin-after .ensures)
+    let e = c .before .before .before .before .before .before .before .before .before .before .before .before .before .before .before .before .before .before .before .before .before .before .before .before in
+    let k = took (e .before .before .before) in
+    let ze = e .before .before .before .natural-at .ensures .0 in
+    let fe = e .before .before .frame-of .ensures in
+    let o = e .before .before .before .before .before .before .before .before .before .before .before .before .before .args .out .now in
+    let n = none e in
+    let l = same (c .before .before .before .before .before .before .before .before .before .before .before .before .before .before .before .before .before) in
+    let be = c .before .before .before .before .before .before .before .before .before .before .before .before .before .before .before .before .before .margin-before .ensures .end-is in
+    let le = part-long (c .before .before .before .before .before .before .before .before .before .before .before .before .before .before .before .before .before .margin-before .last .0) (c .before .before .before .before .before .before .before .before .before .before .before .before .before .before .before .before .before .margin-before .result) l in
+    let kf = fitting k ze fe o n in
+    let g = c .before .before .before .before .before .before .before .before .before .before .before .before .before .separator .ensures .0 in
+    let es = listing kf _ _ g (le-refl 5120) _ _ _ (c .before .before .before .before .before .before .before .before .before .before .before .walk-tree .ensures (ready kf _ _ g (le-refl 5120))) in
+    sheet-answers k ze fe o n be le _ (c .before .before .before .before .before .before .before .before .before .before .before .before .before .before .before .before .before .margin-before .last .0) _ _ _ _ _ _ es (c .before .before .before .before .before .before .before .before .before .before .before .before .before .before .before .before .before .before .before .before .before .before .fill .ensures .out-is) (c .before .before .before .before .before .before .before .before .before .before .before .before .before .before .before .before .before .margin-before .ensures .out-is) l (part-to-end (c .before .before .before .before .before .before .before .before .before .before .before .before .before .before .before .before .before .margin-before .last .0) (c .before .before .before .before .before .before .before .before .before .before .before .before .before .before .before .before .before .margin-before .result))
+    (c .before .before .before .before .before .before .paint-leaves .ensures (sheet-paints k ze fe o n be le _ _ es))
+    (part-back (c .before .before .before .before .before .before .before .before .before .before .before .before .before .before .before .before .before .margin-before .last .0) (c .before .before .before .before .before .before .paint-leaves .last .1 .1 .1 .1 .1 .0) (c .before .before .before .before .before .before .before .before .before .before .before .before .before .before .before .before .before .margin-before .result)) (c .before .before .margin-after .ensures)
 
 pub print-sheet-spec : {M : Type 1} → statement M
 print-sheet-spec =
     tie.close
     (tie.spec
-    measure-tree-requires
-    refused-requires
+    (λ c κs. search needs)
+    (λ c κs. search needs)
     returns
-    frame-of-requires
-    refusal-of-requires
-    refused-requires-2
+    slice-aggregate-natural-at
+    natural-at-requires
+    (λ c κs. search needs)
+    (λ c κs. search needs)
+    (λ c κs. search needs)
     returns-2
     fill-requires
     margin-before-requires
-    slice-aggregate-walk-core
-    sub-walk-core
-    part-walk-core-start
-    part-walk-core-end
-    walk-core-requires
+    slice-aggregate-walk-tree
+    (λ c κs. search needs)
+    (λ c. search needs)
+    walk-tree-requires
+    slice-aggregate-paint-leaves
+    array-share-prefix-leaves
+    slice-aggregate-paint-leaves-2
+    sub-paint-leaves
+    part-paint-leaves-start
+    (λ c. search needs)
+    paint-leaves-requires
     margin-after-requires
-    same-length
+    (λ c. search needs)
     returns-3)

@@ -28,7 +28,7 @@ loop-again : tie.Need-loop-again Inv-loop μ-loop
 loop-again c =
     let l = c .before .before .loop in
     let w = l .inv .0 in
-    (record { on = omega arith; within = w .within; first = omega arith; last = w .last }, reached-part _ (l .i) 8 (omega arith) _ _ (l .inv .1) (c .in-word .ensures))
+    (record { on = omega arith; within = w .within; parts = omega arith }, reached-part _ (l .i) 8 (omega arith) _ _ (l .inv .1) (c .in-word .ensures))
 
 returns : tie.Need-returns Inv-loop μ-loop
 returns c = let l = c .before .loop in let w = l .inv .0 in let e : l .i ≡ c .before .before .before .args .to = omega arith in rw e at (l .inv .1)

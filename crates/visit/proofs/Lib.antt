@@ -1,3 +1,0 @@
--- What the proofs of several functions, and the layers above, use.
-pub mod Bytes
-mod Visits
