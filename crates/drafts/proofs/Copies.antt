@@ -39,9 +39,6 @@ module _ (d : List ℕ) (at : ℕ) (src s : List ℕ) (j : ℕ) (k : Copied d at
 
 -- ---- down over a gap
 
-pub gap-length : (d : List ℕ) (at size : ℕ) → at + size ≤ length d → length (drop (at + size) d) ≡ length d - (at + size)
-gap-length d at size h = length-drop (at + size) d
-
 module _ (d : List ℕ) (at size : ℕ) (h : at + size ≤ length d) where
   pub down-none : Copied d at (drop (at + size) d) d 0
   down-none = copied-none d at (drop (at + size) d) (omega (arith, length-drop (at + size) d))

@@ -199,14 +199,6 @@ module _ (n : ℕ) (cs : List DraftCall) where
   unfolding returnOf
   return-gives k name out = let e = end k name in rw (state-reads (e .state), name, e .holds)
 
-  -- a call under another name leaves what the name gives back
-  pub others-kept : (k : ℕ) → isName k ≡ true → (c : DraftCall) → (nameIn c ≡ k → ⊥) → (out : List ℕ) → returnOf (answerTo store c .store) k out ≡ returnOf store k out
-  unfolding returnOf
-  others-kept k name c d out =
-      let e = end k name in
-      let f = call-next n k name store (draft k) e c in
-      rw (state-reads (e .state), state-reads (f .state), name) (ap (λ (m : Option (List ℕ)). returnFound m out) (f .holds ∙ other-noted k (answerTo store c .number) c (draft k) d ∙ sym (e .holds)))
-
   pub ours : State n store
   ours = end 65 is-name .state
 

@@ -3,7 +3,7 @@ use mathlib.Core.Path.{_≡_, refl, sym, _∙_}
 use Prim.Native.Nat.{ℕ, suc, _+_, _-_, _*_, _≤_}
 use native.Mathlib.Omega.{arith}
 use native.Mathlib.Nat.{mul-le-mul}
-use mathlib.Core.Bool.{Bool, true, false}
+use mathlib.Core.Bool.{false}
 use mathlib.Core.List.{List, [], _∷_, _++_}
 use lib.ListN.{length, take, drop, replicate, length-replicate}
 use lib.Seq.{sets, sets-eq}
@@ -13,7 +13,7 @@ use Rattle.common.specs.Choice.{pick}
 use Rattle.settings.specs.declared.Settings.{Settings}
 use Rattle.tree.specs.Tree.{Tree}
 use Rattle.sizes.specs.declared.Measured.{Measured}
-use Rattle.sizes.specs.Input.{Input, refused, given, inputOf}
+use Rattle.sizes.specs.Input.{inputOf}
 use Rattle.sizes.specs.declared.Size.{Size}
 use Rattle.sizes.specs.Answer.{measuredOf}
 use Rattle.sizes.specs.Listed.{naturalAt}
@@ -23,7 +23,7 @@ use Rattle.block.proofs.Every.{every-map, every-and}
 use Rattle.frame.specs.declared.Frame.{Frame}
 use Rattle.layout.specs.Walk.{Placed, leaves, insideW, insideH}
 use Rattle.frame.specs.Frame.{W, H, frameOf, largeOf, tooLarge}
-use Rattle.frame.specs.Printer.{Prints, noPrint, printTo}
+use Rattle.frame.specs.Printer.{Prints, noPrint}
 use Rattle.frame.proofs.Printers.{Answers}
 use Rattle.frame.proofs.Sheets.{sheetFrame, large-no}
 use Rattle.entries.specs.Listing.{Listing, Asks, PaintsAll, paintAll}
@@ -219,17 +219,3 @@ module _ {bs ts : List ℕ} {m : Measured} {sizes : List ℕ} (k : Taken bs ts m
                 (rw e, sheet-shown o₁ o₂ part q o₃ o₄ e₁ e₂ l₂ ep eq e₃ e₄ ∙ rw e)
 
 -- ---- no more bytes are written than were lent
-
-pick-within : (b : Bool) (p q : Prints) (m : ℕ) → p .answer .count ≤ m → (b ≡ false → q .answer .count ≤ m) → pick b p q .answer .count ≤ m
-pick-within true p q m h k = h
-pick-within false p q m h k = k refl
-
-to-within : (bytes o : List ℕ) → printTo bytes o .answer .count ≤ length o
-to-within bytes o = pick-within (ltb (length o) (length bytes)) (noPrint 8 o) _ (length o) (omega arith) (λ e. ltb-false (length o) (length bytes) e)
-
-pub sheet-within : (i : Input) (o : List ℕ) → sheetOf i o .answer .count ≤ length o
-unfolding sheetOf
-sheet-within (refused k) o = omega arith
-sheet-within (given s t) o =
-    pick-within (tooLarge s t) (noPrint 6 o) _ (length o) (omega arith)
-    (λ e. to-within (sheet s t) o)

@@ -6,12 +6,12 @@ use mathlib.Core.Bool.{Bool, true, false}
 use mathlib.Core.List.{List, [], _∷_, _++_, append-assoc}
 use lib.ListN.{length, set, length-append}
 use lib.Seq.{sets}
-use lib.Dec.{eqb, ltb}
+use lib.Dec.{ltb}
 use borrow.Author.Tests.{ne-eqb, lt-ltb, le-ltb}
 use Rattle.common.specs.Choice.{pick}
 use Rattle.sizes.proofs.Stores.{sets-append}
 use Rattle.block.specs.Paint.{Wrote}
-use Rattle.typed_program.specs.Words.{digits, decimal, faultWords, lineText, columnText, colonText, words30, words31, words32, words33, words34, words35, words36, words37, words38, words39, wordsLarge, placeText, faultText}
+use Rattle.typed_program.specs.Words.{digits, decimal, faultWords, lineText, columnText, colonText, wordsLarge, placeText, faultText}
 
 -- ---- digits
 
@@ -47,25 +47,6 @@ module _ (o : List ℕ) (at : ℕ) where
       rw (le-ltb n 10 h) (record { end-is = omega (arith, length-append d ((48 + n % 10) ∷ [])); out-is = e })
 
 -- ---- words
-
-few-picked : (c : Bool) (x y : List ℕ) → length x ≤ 100 → length y ≤ 100 → length (pick c x y) ≤ 100
-few-picked true x y h j = h
-few-picked false x y h j = j
-
-pub words-few : (k : ℕ) → length (faultWords k) ≤ 100
-unfolding faultWords
-words-few k =
-    few-picked (eqb k 30) words30 _ (omega arith)
-    (few-picked (eqb k 31) words31 _ (omega arith)
-    (few-picked (eqb k 32) words32 _ (omega arith)
-    (few-picked (eqb k 33) words33 _ (omega arith)
-    (few-picked (eqb k 34) words34 _ (omega arith)
-    (few-picked (eqb k 35) words35 _ (omega arith)
-    (few-picked (eqb k 36) words36 _ (omega arith)
-    (few-picked (eqb k 37) words37 _ (omega arith)
-    (few-picked (eqb k 38) words38 _ (omega arith)
-    (few-picked (eqb k 39) words39 _ (omega arith)
-    (omega arith))))))))))
 
 -- the number is none of 30 to 39
 pub words-left : (k : ℕ) → ((((((((((Unit {0} × (k ≡ 30 → ⊥)) × (k ≡ 31 → ⊥)) × (k ≡ 32 → ⊥)) × (k ≡ 33 → ⊥)) × (k ≡ 34 → ⊥)) × (k ≡ 35 → ⊥)) × (k ≡ 36 → ⊥)) × (k ≡ 37 → ⊥)) × (k ≡ 38 → ⊥)) × (k ≡ 39 → ⊥)) → faultWords k ≡ wordsLarge
