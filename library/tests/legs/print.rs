@@ -1,0 +1,58 @@
+//! `legs print`, and input and output that fail.
+
+use std::process::Command;
+
+use crate::{answers, fails, said, FIGURE_2};
+
+#[test]
+fn prints() {
+    answers(&["print", "figure2.legs"], FIGURE_2);
+    answers(
+        &["print", "binder.legs"],
+        include_str!("../../../examples/binder.txt"),
+    );
+    answers(
+        &["print", "blank.legs"],
+        include_str!("../../../examples/blank.txt"),
+    );
+    answers(
+        &["print", "list.legs"],
+        include_str!("../../../examples/list.txt"),
+    );
+    answers(
+        &["print", "tablet.legs"],
+        include_str!("../../../examples/tablet.txt"),
+    );
+    answers(
+        &["print", "key.legs"],
+        include_str!("../../../examples/key.txt"),
+    );
+}
+
+#[test]
+fn reads_standard_input() {
+    let path = concat!(env!("CARGO_MANIFEST_DIR"), "/../examples/figure2.legs");
+    let bytes = std::fs::read(path).expect("an example");
+    let printed = said(&["print", "-"], &bytes);
+    assert_eq!(printed, (FIGURE_2.into(), String::new(), Some(0)));
+}
+
+#[test]
+fn input_that_fails() {
+    let missing = "none.legs: No such file or directory (os error 2)";
+    fails(&["print", "none.legs"], missing, 3);
+    fails(&["check", "."], ".: Is a directory (os error 21)", 3);
+}
+
+#[test]
+fn output_that_fails() {
+    let full = std::fs::File::create("/dev/full").expect("a device that is full");
+    let output = Command::new(env!("CARGO_BIN_EXE_legs"))
+        .args(["--help"])
+        .stdout(full)
+        .output()
+        .expect("legs runs");
+    assert_eq!(output.status.code(), Some(3));
+    let message = String::from_utf8(output.stderr).expect("text");
+    assert!(message.starts_with("legs: standard output: "), "{message}");
+}
