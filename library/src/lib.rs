@@ -55,7 +55,7 @@ pub use records::{
     Need, Place, Planned, Positions, ShortParts, SizeRecord, SplitList,
 };
 pub use refusal::Refusal;
-pub use settings::{Alignment, Marks, Priority, Settings, Sides};
+pub use settings::{Alignment, Marks, Priority, Settings, Sides, Word, WordFault};
 pub use tree::Tree;
 pub use typed::TypedFault;
 pub use values::{

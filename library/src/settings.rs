@@ -1,5 +1,12 @@
 //! The settings of a sheet.
 
+mod text;
+mod value;
+mod words;
+
+pub use text::WordFault;
+pub use words::Word;
+
 use crate::calls;
 use crate::refusal::Refusal;
 
@@ -104,6 +111,9 @@ pub struct Settings {
     margin_fills: Sides,
 }
 
+/// The default marks.
+const ASCII: [u8; 15] = *b"--||-|+++++++++";
+
 /// The marks where there are none, as they stand in the record.
 const NO_MARKS: [u8; 15] = [0; 15];
 
@@ -178,7 +188,7 @@ impl Default for Settings {
     /// Document 01's defaults with document 02's width priority, Last, and no margin.
     fn default() -> Settings {
         Settings {
-            marks: Marks::All(*b"--||-|+++++++++"),
+            marks: Marks::All(ASCII),
             padding: Sides::of([1, 1, 0, 0]),
             fills: Sides::all(b' '),
             horizontal: Alignment::Start,

@@ -19,6 +19,7 @@ fn help() {
         "check FILE",
         "type FILE",
         "bytes FILE",
+        "settings [FILE]",
         "draft new STORE BYTES",
         "draft save STORE NAME FILE",
         "draft forget STORE NAME",
@@ -27,7 +28,60 @@ fn help() {
     ] {
         assert!(answer.contains(&format!("  legs {command} ")), "{command}");
     }
-    assert_eq!(said(&["leaf", "--help"], b""), (answer, message, status));
+    for words in [&["-h"][..], &["help"], &["help", "-h"]] {
+        let same = (answer.clone(), message.clone(), status);
+        assert_eq!(said(words, b""), same, "{words:?}");
+    }
+}
+
+/// Of one command, by `help` in front or an option behind it, with operands or without.
+#[test]
+fn help_of_a_command() {
+    let check = said(&["help", "type"], b"");
+    let about = "legs type FILE\n  the tree of FILE as a typed list, without its settings\n";
+    assert_eq!(check, (about.into(), String::new(), Some(0)));
+    for words in [
+        &["type", "-h"][..],
+        &["type", "--help"],
+        &["-h", "type"],
+        &["type", "none.list", "--help"],
+    ] {
+        assert_eq!(said(words, b""), check, "{words:?}");
+    }
+    let (settings, _, _) = said(&["settings", "-h"], b"");
+    for line in [
+        "    --bytes             the settings as bytes, 31, or 42 with a margin\n",
+        "    --settings FILE     settings of a file, which has bytes or words\n",
+        "    --margin ..         left right top bottom, 0 to 16, or one number for all\n",
+        "    --no-lines          the same as --lines no\n",
+    ] {
+        assert!(settings.contains(line), "{settings}");
+    }
+    let (drafts, _, _) = said(&["help", "draft"], b"");
+    assert_eq!(drafts.matches("legs draft ").count(), 5);
+    let (one, _, _) = said(&["help", "draft", "save"], b"");
+    assert!(one.starts_with("legs draft save STORE NAME FILE\n"));
+    assert!(drafts.contains(&one));
+    misused(&["help", "paint"], "no command \"paint\"");
+}
+
+#[test]
+fn version() {
+    let version = format!("legs {}\n", env!("CARGO_PKG_VERSION"));
+    for words in [&["--version"][..], &["print", "--version"]] {
+        let told = (version.clone(), String::new(), Some(0));
+        assert_eq!(said(words, b""), told);
+    }
+}
+
+/// What stands behind two dashes is no option; a dash alone is standard input.
+#[test]
+fn operands_that_look_like_options() {
+    let (_, message, status) = said(&["print", "--", "--help"], b"");
+    let missing = "legs: --help: No such file or directory (os error 2)\n";
+    assert_eq!((message.as_str(), status), (missing, Some(3)));
+    misused(&["print", "--paint"], "no option --paint");
+    misused(&["print", "-x"], "no option -x");
 }
 
 #[test]

@@ -7,10 +7,11 @@ use std::io::{self, Read};
 use leg_sheet::{calls, Input, Refusal, Settings};
 
 use crate::fault::Fault;
+use crate::over::Over;
 use crate::shown::shown;
 
 /// The first byte of settings. A file that begins with another has a typed list.
-const SETTINGS_TAG: u8 = 0x10;
+pub const SETTINGS_TAG: u8 = 0x10;
 
 /// A file's settings and tree, with its name for messages.
 pub struct File {
@@ -20,8 +21,8 @@ pub struct File {
 }
 
 impl File {
-    /// Reads a file, or standard input where it is called `-`. A typed list has the default settings; those of a second file stand in the place of any.
-    pub fn read(path: &OsStr, settings: Option<&OsStr>) -> Result<File, Fault> {
+    /// Reads a file, or standard input where it is called `-`. A typed list has the default settings; others stand over those of either.
+    pub fn read(path: &OsStr, over: &Over) -> Result<File, Fault> {
         let (name, bytes) = read(path)?;
         let (own, tree) = if bytes.first() == Some(&SETTINGS_TAG) {
             let input = Input::split(&bytes);
@@ -29,7 +30,7 @@ impl File {
         } else {
             (Settings::default().to_bytes(), typed(&name, &bytes)?)
         };
-        let settings = settings.map_or(Ok(own), read_settings)?;
+        let settings = over.over(&name, own)?;
         Ok(File {
             name,
             settings,
@@ -51,18 +52,8 @@ impl File {
     }
 }
 
-/// The settings at the front of a file.
-pub fn read_settings(path: &OsStr) -> Result<Vec<u8>, Fault> {
-    let (name, bytes) = read(path)?;
-    let settings = Input::split(&bytes).settings;
-    match Settings::from_bytes(settings) {
-        Ok(_) => Ok(settings.to_vec()),
-        Err(refusal) => Err(Fault::Refused(name, refusal)),
-    }
-}
-
 /// A file's name and its bytes; no more of them than can make a difference: no input that is accepted is as long as this.
-fn read(path: &OsStr) -> Result<(String, Vec<u8>), Fault> {
+pub fn read(path: &OsStr) -> Result<(String, Vec<u8>), Fault> {
     let most = calls::TYPED as u64 + 1;
     let mut bytes = Vec::new();
     let (name, done) = if path == "-" {
@@ -83,7 +74,7 @@ fn typed(name: &str, list: &[u8]) -> Result<Vec<u8>, Fault> {
     let mut tree = vec![0; calls::TREE];
     match calls::read_typed(list, &mut tree) {
         Ok(count) => tree.truncate(count),
-        Err(fault) => return Err(Fault::Typed(shown(name, list, fault))),
+        Err(fault) => return Err(Fault::Mistake(shown(name, list, &fault.into()))),
     }
     Ok(tree)
 }

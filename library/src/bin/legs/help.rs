@@ -1,12 +1,67 @@
-//! What `--help` prints.
+//! What `legs help` prints: of all commands, or of some.
 
-use crate::commands::{Command, COMMANDS};
+use std::ffi::OsString;
 
-pub fn help() -> String {
+use leg_sheet::Word;
+
+use crate::commands::{find, named, Command, COMMANDS};
+use crate::fault::Fault;
+use crate::options::{Opt, NO_LINES, SETTINGS};
+
+/// What is said of the command that these words begin with, or of those that begin with these words; where there are none, of all.
+pub fn help(words: &[OsString]) -> Result<String, Fault> {
+    if words.is_empty() {
+        return Ok(all());
+    }
+    let commands = match find(words) {
+        Ok((command, _)) => vec![command],
+        Err(_) => named(words)?,
+    };
+    let of_each: Vec<String> = commands.into_iter().map(of_command).collect();
+    Ok(of_each.join("\n"))
+}
+
+pub fn version() -> String {
+    format!("legs {}\n", env!("CARGO_PKG_VERSION"))
+}
+
+fn all() -> String {
     let line = |command: &Command| format!("  {:<38}{}\n", command.usage(), command.about);
     let commands: String = COMMANDS.iter().map(line).collect();
     let about = "Prints leg sheets: bordered tables of nested rows and columns.";
-    format!("{about}\n\n{commands}\n{LISTS}\n{REST}")
+    let more = "legs help COMMAND, legs COMMAND -h: its options. legs --version: the version.";
+    format!("{about}\n\n{commands}\n{more}\n\n{LISTS}\n{REST}")
+}
+
+fn of_command(command: &Command) -> String {
+    let mut text = format!("{}\n  {}\n", command.usage(), command.about);
+    text.extend(command.options.iter().map(option));
+    if command.takes_settings {
+        text += "  settings:\n";
+        text += &option(&SETTINGS);
+        let own = |word: &&Word| {
+            let name = format!("--{}", word.name());
+            !command.options.iter().any(|option| option.name == name)
+        };
+        text.extend(Word::all().iter().filter(own).map(setting));
+        text += &option(&NO_LINES);
+    }
+    text
+}
+
+fn option(option: &Opt) -> String {
+    let value = option
+        .value
+        .map_or(String::new(), |value| format!(" {value}"));
+    line(&format!("{}{value}", option.name), option.about)
+}
+
+fn setting(word: &Word) -> String {
+    line(&format!("--{} ..", word.name()), &word.values())
+}
+
+fn line(option: &str, about: &str) -> String {
+    format!("    {option:<20}{about}\n")
 }
 
 const LISTS: &str = r"FILE is a typed list, or bytes, which begin with hex 10: settings and a tree, as the commands bytes and blank write them. - is standard input.
@@ -23,17 +78,17 @@ A typed list is plain text: a row, a column or a text to a line, two spaces deep
 In a text \n is a line feed and \\ a backslash. A quote mark in front makes a text of any line: 'row, '# 1, '  indented, and ' alone the empty text.
 # begins a comment. What is wrong is shown with its line and column, counted from 1.
 
---settings FILE may stand behind every command but type and draft: the settings that this FILE begins with, 31 bytes, or 42 with a margin.
-They stand in the place of those that the first FILE has, and of the default ones that a typed list has.
+Settings are the default ones, over these FILE's own, over these those of --settings FILE, over these those that options name: --margin 8,0,1,0 --align center --no-lines.
+A file of settings has bytes, or words: legs settings shows them all, and legs settings --margin 8,0,1,0 > binder.settings writes a file.
 ";
 
-const REST: &str = "For plan the tree may have ranges, where texts are to come; no other command takes them, and no typed list has them.
+const REST: &str = "For plan the tree may have ranges, placeholders for texts that are not known yet; no other command takes them, and no typed list has them.
 Nodes are numbered from 0, a parent before its children, these from left to right.
 Lines and columns are counted from 0, in the sheet as it is printed.
 WIDTH is of the sheet inside its edges and margin. BUDGET limits the heights that are tried.
 bytes and blank write a FILE: legs bytes key.list > key.legs, legs blank key.legs 7 11 > paper.legs. type writes a typed list: legs type paper.legs > paper.list.
 STORE is a file of drafts, up to eight, each under a NAME, A to H. A draft is a tree: no settings are saved, and a FILE that is written keeps its own.
-Whatever happens, a STORE or FILE that is written is there whole, as it was before or as it shall be.
+Files are replaced whole or not at all.
 
 Exit status: 0, or 1 refused, 2 usage, 3 input or output failed.
 ";

@@ -6,8 +6,11 @@
 mod commands;
 mod fault;
 mod file;
+mod given;
 mod help;
-mod operands;
+mod options;
+mod over;
+mod places;
 mod replace;
 mod shown;
 mod store;
@@ -18,21 +21,23 @@ use std::process::ExitCode;
 
 use commands::{find, Answer};
 use fault::Fault;
-use help::help;
-use operands::{split_settings, Words};
+use given::Given;
+use help::{help, version};
+use options::VERSION;
 
 /// Finds the command among the words and runs it on the others.
 fn run(words: &[OsString]) -> Result<Answer, Fault> {
-    if words.iter().any(|word| word == "--help") {
-        return Ok(Answer::accepted(help()));
+    let mut given = Given::split(words)?;
+    if given.has(VERSION.name) {
+        return Ok(Answer::accepted(version()));
     }
-    let (words, settings) = split_settings(words)?;
-    let (command, operands) = find(&words)?;
-    let settings = settings.as_deref();
-    if !command.takes(operands.len(), settings.is_some()) {
-        return Err(Fault::Usage(command.usage()));
+    if let Some(words) = given.asks_for_help() {
+        return help(words).map(Answer::accepted);
     }
-    (command.run)(&Words { operands, settings })
+    let (command, operands) = find(&given.operands)?;
+    given.operands = operands;
+    command.check(&given)?;
+    (command.run)(&given)
 }
 
 fn write(bytes: &[u8]) -> Result<(), Fault> {

@@ -1,21 +1,51 @@
-//! A fault of a typed list, as it is shown: its place, what is wrong in words, the line, and a caret under the column.
+//! A mistake in a text, as it is shown: its place, what is wrong in words, the line, and a caret under the column.
 
-use leg_sheet::TypedFault;
+use leg_sheet::{TypedFault, WordFault};
 
 /// The bytes that are shown of a longer line, and how many of them may stand before the column. So the line is not broken, and the caret stands under its column.
 const SHOWN: usize = 72;
 const BEFORE: usize = 48;
 
-pub fn shown(name: &str, list: &[u8], fault: TypedFault) -> String {
-    let words = fault.refusal.sentence();
-    let (line, column) = (fault.line, fault.column);
+/// What is wrong with a text, and at which line and column, both counted from 1; 0 where it has no place.
+pub struct Mistake {
+    pub line: usize,
+    pub column: usize,
+    pub words: String,
+}
+
+impl From<TypedFault> for Mistake {
+    fn from(fault: TypedFault) -> Mistake {
+        Mistake {
+            line: fault.line as usize,
+            column: fault.column as usize,
+            words: fault.refusal.sentence().into(),
+        }
+    }
+}
+
+impl From<WordFault> for Mistake {
+    fn from(fault: WordFault) -> Mistake {
+        Mistake {
+            line: fault.line,
+            column: fault.column,
+            words: fault.words,
+        }
+    }
+}
+
+pub fn shown(name: &str, text: &[u8], mistake: &Mistake) -> String {
+    let &Mistake {
+        line,
+        column,
+        ref words,
+    } = mistake;
     if line == 0 {
         return format!("{name}: {words}");
     }
-    let mut lines = list.split(|&byte| byte == b'\n');
-    let text = lines.nth(line as usize - 1).unwrap_or_default();
+    let mut lines = text.split(|&byte| byte == b'\n');
+    let text = lines.nth(line - 1).unwrap_or_default();
     let text = text.strip_suffix(b"\r").unwrap_or(text);
-    let (before, after) = around(text, (column as usize).saturating_sub(1));
+    let (before, after) = around(text, column.saturating_sub(1));
     let caret = " ".repeat(before.chars().count());
     format!("{name}:{line}:{column}: {words}\n{before}{after}\n{caret}^")
 }
@@ -59,18 +89,16 @@ fn character(it: char) -> String {
 
 #[cfg(test)]
 mod tests {
-    use leg_sheet::Refusal;
-
     use super::*;
 
     /// What is shown of a list with a fault at a column of its only line.
-    fn lines(list: &[u8], column: u32) -> Vec<String> {
-        let fault = TypedFault {
-            refusal: Refusal::BadCharacter,
+    fn lines(list: &[u8], column: usize) -> Vec<String> {
+        let mistake = Mistake {
             line: 1,
             column,
+            words: String::new(),
         };
-        let shown = shown("a", list, fault);
+        let shown = shown("a", list, &mistake);
         shown.lines().skip(1).map(String::from).collect()
     }
 

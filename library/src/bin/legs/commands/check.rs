@@ -2,18 +2,19 @@ use leg_sheet::{calls, Refusal, Settings};
 
 use super::{Answer, Command};
 use crate::fault::Fault;
-use crate::operands::Words;
+use crate::given::Given;
 
 pub const COMMAND: Command = Command {
     name: "check",
     operands: &["FILE"],
+    options: &[],
     takes_settings: true,
     about: "what of the settings, the tree and the sheet is refused, and why",
     run,
 };
 
-fn run(words: &Words) -> Result<Answer, Fault> {
-    let file = words.file()?;
+fn run(given: &Given) -> Result<Answer, Fault> {
+    let file = given.file()?;
     let input = file.input();
     let settings = Settings::from_bytes(input.settings).map(|_| String::new());
     let tree = calls::read_tree(input.tree).map(|nodes| format!(", nodes: {nodes}"));

@@ -7,14 +7,16 @@ use leg_sheet::{Draft, DraftStore, Refusal, Settings};
 
 use super::{Answer, Command};
 use crate::fault::Fault;
-use crate::file::{read_settings, File};
-use crate::operands::{draft_name, Words};
+use crate::file::{read, File};
+use crate::given::{draft_name, Given};
+use crate::over::{front, Over};
 use crate::replace::replace;
 use crate::store::StoreFile;
 
 pub const NEW: Command = Command {
     name: "draft new",
     operands: &["STORE", "BYTES"],
+    options: &[],
     takes_settings: false,
     about: "a new store of so many bytes, all of them free",
     run: new,
@@ -23,6 +25,7 @@ pub const NEW: Command = Command {
 pub const SAVE: Command = Command {
     name: "draft save",
     operands: &["STORE", "NAME", "FILE"],
+    options: &[],
     takes_settings: false,
     about: "saves the tree of FILE as a draft; an older one of that name is dropped",
     run: save,
@@ -31,6 +34,7 @@ pub const SAVE: Command = Command {
 pub const FORGET: Command = Command {
     name: "draft forget",
     operands: &["STORE", "NAME"],
+    options: &[],
     takes_settings: false,
     about: "forgets a draft",
     run: forget,
@@ -39,6 +43,7 @@ pub const FORGET: Command = Command {
 pub const RETURN: Command = Command {
     name: "draft return",
     operands: &["STORE", "NAME", "[FILE]"],
+    options: &[],
     takes_settings: false,
     about: "puts a draft in the place of FILE's tree; without FILE it is printed, behind the default settings",
     run: return_to,
@@ -47,22 +52,23 @@ pub const RETURN: Command = Command {
 pub const LIST: Command = Command {
     name: "draft list",
     operands: &["STORE"],
+    options: &[],
     takes_settings: false,
     about: "the drafts' names and bytes, and how many are free",
     run: list,
 };
 
-fn new(words: &Words) -> Result<Answer, Fault> {
-    StoreFile::create(&words.operands[0], words.number(1)?)?;
+fn new(given: &Given) -> Result<Answer, Fault> {
+    StoreFile::create(&given.operands[0], given.number(1)?)?;
     Ok(Answer::done())
 }
 
 /// The settings are read, too: where the tree begins behind others is not known.
-fn save(words: &Words) -> Result<Answer, Fault> {
-    let name = draft_name(&words.operands[1])?;
-    let file = File::read(&words.operands[2], None)?;
+fn save(given: &Given) -> Result<Answer, Fault> {
+    let name = draft_name(&given.operands[1])?;
+    let file = File::read(&given.operands[2], &Over::default())?;
     file.call(|input| Settings::from_bytes(input.settings))?;
-    let mut store = StoreFile::read(&words.operands[0])?;
+    let mut store = StoreFile::read(&given.operands[0])?;
     let saved = store.call(|store| store.save_bytes(name, file.input().tree));
     saved.map_err(|fault| match fault {
         Fault::Refused(_, refusal) if (2..=5).contains(&refusal.number()) => {
@@ -74,19 +80,19 @@ fn save(words: &Words) -> Result<Answer, Fault> {
     Ok(Answer::done())
 }
 
-fn forget(words: &Words) -> Result<Answer, Fault> {
-    let name = draft_name(&words.operands[1])?;
-    let mut store = StoreFile::read(&words.operands[0])?;
+fn forget(given: &Given) -> Result<Answer, Fault> {
+    let name = draft_name(&given.operands[1])?;
+    let mut store = StoreFile::read(&given.operands[0])?;
     store.call(|store| store.forget(name))?;
     store.keep()?;
     Ok(Answer::done())
 }
 
-fn return_to(words: &Words) -> Result<Answer, Fault> {
-    let name = draft_name(&words.operands[1])?;
-    let mut store = StoreFile::read(&words.operands[0])?;
+fn return_to(given: &Given) -> Result<Answer, Fault> {
+    let name = draft_name(&given.operands[1])?;
+    let mut store = StoreFile::read(&given.operands[0])?;
     let tree = store.call(|store| store.return_bytes(name))?;
-    let Some(path) = words.operands.get(2).filter(|&word| word != "-") else {
+    let Some(path) = given.operands.get(2).filter(|&word| word != "-") else {
         let settings = Settings::default().to_bytes();
         return Ok(Answer::file([settings, tree].concat()));
     };
@@ -96,18 +102,19 @@ fn return_to(words: &Words) -> Result<Answer, Fault> {
     Ok(Answer::done())
 }
 
-/// The settings that a file has, as they stand there; of one that is not there the default ones. A typed list has none, and is not written over.
+/// The settings that a file of bytes has, as they stand there; of one that is not there the default ones. A typed list is not written over.
 fn settings_of(path: &OsStr) -> Result<Vec<u8>, Fault> {
-    match read_settings(path) {
+    match read(path) {
         Err(Fault::Failed(_, error)) if error.kind() == ErrorKind::NotFound => {
             Ok(Settings::default().to_bytes())
         }
-        read => read,
+        Err(fault) => Err(fault),
+        Ok((name, bytes)) => front(&name, &bytes),
     }
 }
 
-fn list(words: &Words) -> Result<Answer, Fault> {
-    let mut store = StoreFile::read(&words.operands[0])?;
+fn list(given: &Given) -> Result<Answer, Fault> {
+    let mut store = StoreFile::read(&given.operands[0])?;
     Ok(Answer::accepted(store.call(|store| lines(store))?))
 }
 

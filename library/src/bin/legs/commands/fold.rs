@@ -2,21 +2,22 @@ use leg_sheet::{Folded, Input, Refusal, Tree};
 
 use super::{listed, Answer, Command};
 use crate::fault::Fault;
-use crate::operands::{number, Words};
+use crate::given::{number, Given};
 
 pub const COMMAND: Command = Command {
     name: "fold",
     operands: &["FILE", "WIDTH", "[BUDGET]"],
+    options: &[],
     takes_settings: true,
     about: "the sheet of a list folded into Columns of one Row, and what was found",
     run,
 };
 
-fn run(words: &Words) -> Result<Answer, Fault> {
-    let width = words.number(1)?;
-    let budget = words.operands.get(2);
+fn run(given: &Given) -> Result<Answer, Fault> {
+    let width = given.number(1)?;
+    let budget = given.operands.get(2);
     let budget = budget.map_or(Ok(usize::MAX), |word| number(word))?;
-    let file = words.file()?;
+    let file = given.file()?;
     let folded = file.call(|input| input.fold(width, budget))?;
     let sheet = file.call(|input| sheet(input, &folded))?;
     Ok(Answer::accepted(format!("{sheet}\n{}", line(&folded))))

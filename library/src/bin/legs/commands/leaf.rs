@@ -2,19 +2,20 @@ use leg_sheet::{CutPair, Flags, LeafRecord};
 
 use super::{listed, Answer, Command};
 use crate::fault::Fault;
-use crate::operands::Words;
+use crate::given::Given;
 
 pub const COMMAND: Command = Command {
     name: "leaf",
     operands: &["FILE", "NODE"],
+    options: &[],
     takes_settings: true,
     about: "a leaf's size, flags, cut, split lists and block",
     run,
 };
 
-fn run(words: &Words) -> Result<Answer, Fault> {
-    let node = words.number(1)?;
-    let file = words.file()?;
+fn run(given: &Given) -> Result<Answer, Fault> {
+    let node = given.number(1)?;
+    let file = given.file()?;
     let record = file.call(|input| input.leaf_record(node))?;
     let block = file.call(|input| input.print_leaf(node))?;
     Ok(Answer::accepted(format!("{}\n{block}\n", lines(&record))))

@@ -10,6 +10,7 @@ mod mark;
 mod place;
 mod plan;
 mod print;
+mod settings;
 mod sizes;
 mod typing;
 mod widen;
@@ -20,7 +21,8 @@ use std::fmt::Display;
 use leg_sheet::LeafPlace;
 
 use crate::fault::{Fault, REFUSED};
-use crate::operands::Words;
+use crate::given::Given;
+use crate::options::{setting, Opt, NO_LINES, SETTINGS};
 
 /// In the order of `--help`.
 pub const COMMANDS: &[Command] = &[
@@ -36,6 +38,7 @@ pub const COMMANDS: &[Command] = &[
     check::COMMAND,
     typing::COMMAND,
     bytes::COMMAND,
+    settings::COMMAND,
     draft::NEW,
     draft::SAVE,
     draft::FORGET,
@@ -48,12 +51,14 @@ pub struct Command {
     name: &'static str,
     /// The last may stand in brackets: it can be left out. With two dots it can stand there many times.
     operands: &'static [&'static str],
-    /// Whether `--settings FILE` may stand behind it.
-    takes_settings: bool,
+    /// The options that are its own.
+    pub options: &'static [Opt],
+    /// Whether those for settings may stand behind it.
+    pub takes_settings: bool,
     /// What it does, for `--help`.
     pub about: &'static str,
     /// Is handed as many words as it takes.
-    pub run: fn(&Words) -> Result<Answer, Fault>,
+    pub run: fn(&Given) -> Result<Answer, Fault>,
 }
 
 impl Command {
@@ -70,13 +75,39 @@ impl Command {
         Some(rest)
     }
 
-    /// Whether so many words are its operands, and the option may stand there if it does.
-    pub fn takes(&self, count: usize, has_settings: bool) -> bool {
+    /// Whether so many words are its operands.
+    fn takes(&self, count: usize) -> bool {
         let optional = self.operands.iter().filter(|name| name.starts_with('['));
         let most = self.operands.len();
         let is_many = self.operands.iter().any(|name| name.ends_with("..]"));
-        let is_count = most - optional.count() <= count && (is_many || count <= most);
-        is_count && (self.takes_settings || !has_settings)
+        most - optional.count() <= count && (is_many || count <= most)
+    }
+
+    /// Whether an option may stand behind it.
+    fn has(&self, name: &str) -> bool {
+        let is_setting = [SETTINGS, NO_LINES]
+            .iter()
+            .any(|option| option.name == name);
+        let is_own = self.options.iter().any(|option| option.name == name);
+        is_own || self.takes_settings && (is_setting || setting(name).is_some())
+    }
+
+    /// What is wrong with the operands and options that it is given. The settings' own options are looked at where they are used.
+    pub fn check(&self, given: &Given) -> Result<(), Fault> {
+        if !self.takes(given.operands.len()) {
+            return Err(Fault::Usage(self.usage()));
+        }
+        let mut names: Vec<&str> = Vec::new();
+        for (name, _) in given.options() {
+            if !self.has(name) {
+                return Err(Fault::Usage(format!("legs {} takes no {name}", self.name)));
+            }
+            if names.contains(&name) {
+                return Err(Fault::Usage(format!("{name}, once")));
+            }
+            names.push(name);
+        }
+        Ok(())
     }
 
     pub fn usage(&self) -> String {
@@ -85,10 +116,23 @@ impl Command {
 }
 
 /// The command that the words begin with, and the words behind it.
-pub fn find(words: &[OsString]) -> Result<(&'static Command, &[OsString]), Fault> {
-    let mut found = (COMMANDS.iter())
-        .filter_map(|command| command.operands(words).map(|operands| (command, operands)));
+pub fn find(words: &[OsString]) -> Result<(&'static Command, Vec<OsString>), Fault> {
+    let behind = |command: &'static Command| Some((command, command.operands(words)?.to_vec()));
+    let mut found = COMMANDS.iter().filter_map(behind);
     found.next().ok_or_else(|| unknown(words))
+}
+
+/// The commands whose names begin with these words.
+pub fn named(words: &[OsString]) -> Result<Vec<&'static Command>, Fault> {
+    let begins = |command: &&Command| {
+        let parts: Vec<&str> = command.name.split(' ').collect();
+        words.len() <= parts.len() && words.iter().zip(parts).all(|(word, part)| word == part)
+    };
+    let commands: Vec<_> = COMMANDS.iter().filter(begins).collect();
+    if commands.is_empty() {
+        return Err(unknown(words));
+    }
+    Ok(commands)
 }
 
 /// What is wrong with words that begin with no command: the first is none, or has another behind it that is missing or unknown.

@@ -4,18 +4,19 @@ use leg_sheet::{calls, Planned};
 
 use super::{Answer, Command};
 use crate::fault::Fault;
-use crate::operands::Words;
+use crate::given::Given;
 
 pub const COMMAND: Command = Command {
     name: "plan",
     operands: &["FILE"],
+    options: &[],
     takes_settings: true,
     about: "the least and the greatest columns and lines of a planning tree's sheets",
     run,
 };
 
-fn run(words: &Words) -> Result<Answer, Fault> {
-    let planned = words.file()?.call(|input| input.plan())?;
+fn run(given: &Given) -> Result<Answer, Fault> {
+    let planned = given.file()?.call(|input| input.plan())?;
     Ok(Answer::accepted(lines(&planned)))
 }
 

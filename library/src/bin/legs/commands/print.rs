@@ -1,16 +1,17 @@
 use super::{Answer, Command};
 use crate::fault::Fault;
-use crate::operands::Words;
+use crate::given::Given;
 
 pub const COMMAND: Command = Command {
     name: "print",
     operands: &["FILE"],
+    options: &[],
     takes_settings: true,
     about: "the sheet",
     run,
 };
 
-fn run(words: &Words) -> Result<Answer, Fault> {
-    let sheet = words.file()?.call(|input| input.print_sheet())?;
+fn run(given: &Given) -> Result<Answer, Fault> {
+    let sheet = given.file()?.call(|input| input.print_sheet())?;
     Ok(Answer::accepted(sheet + "\n"))
 }

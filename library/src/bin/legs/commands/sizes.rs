@@ -4,18 +4,19 @@ use leg_sheet::SizeRecord;
 
 use super::{Answer, Command};
 use crate::fault::Fault;
-use crate::operands::Words;
+use crate::given::Given;
 
 pub const COMMAND: Command = Command {
     name: "sizes",
     operands: &["FILE"],
+    options: &[],
     takes_settings: true,
     about: "what each node needs and is allotted, and the nodes below it, by its number",
     run,
 };
 
-fn run(words: &Words) -> Result<Answer, Fault> {
-    let sizes = words.file()?.call(|input| input.sizes())?;
+fn run(given: &Given) -> Result<Answer, Fault> {
+    let sizes = given.file()?.call(|input| input.sizes())?;
     let mut text = line([
         "node",
         "natural width",

@@ -4,19 +4,20 @@ use leg_sheet::{calls, Settings, Tree};
 
 use super::{Answer, Command};
 use crate::fault::Fault;
-use crate::operands::Words;
+use crate::given::Given;
 
 pub const COMMAND: Command = Command {
     name: "type",
     operands: &["FILE"],
+    options: &[],
     takes_settings: false,
     about: "the tree of FILE as a typed list, without its settings",
     run,
 };
 
 /// The settings are read, too: where the tree begins behind others is not known.
-fn run(words: &Words) -> Result<Answer, Fault> {
-    let file = words.file()?;
+fn run(given: &Given) -> Result<Answer, Fault> {
+    let file = given.file()?;
     file.call(|input| Settings::from_bytes(input.settings))?;
     let text = file.call(|input| Tree::from_bytes(input.tree))?.typed();
     if !gives(&text, file.input().tree) {

@@ -4,11 +4,12 @@ use leg_sheet::{Need, Tree};
 
 use super::{Answer, Command};
 use crate::fault::Fault;
-use crate::operands::Words;
+use crate::given::Given;
 
 pub const COMMAND: Command = Command {
     name: "widen",
     operands: &["FILE"],
+    options: &[],
     takes_settings: true,
     about: "the fewest letters more that each Cell needs to widen the sheet, the fewest first",
     run,
@@ -17,8 +18,8 @@ pub const COMMAND: Command = Command {
 /// The letters of a text that are shown.
 const SHOWN: usize = 32;
 
-fn run(words: &Words) -> Result<Answer, Fault> {
-    let file = words.file()?;
+fn run(given: &Given) -> Result<Answer, Fault> {
+    let file = given.file()?;
     let needs = file.call(|input| input.widen())?;
     let tree = file.call(|input| Tree::from_bytes(input.tree))?;
     let nodes = nodes(&tree);
