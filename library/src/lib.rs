@@ -38,6 +38,7 @@
 pub mod calls;
 mod drafts;
 mod input;
+mod lines;
 mod plan;
 mod raw;
 mod records;
@@ -49,6 +50,7 @@ mod values;
 
 pub use drafts::{Draft, DraftStore};
 pub use input::Input;
+pub use lines::{typed_lines, LineKind, TypedLine};
 pub use plan::Plan;
 pub use records::{
     next_sibling, CutAnswer, CutPair, CutParts, Flags, Folded, LeafPlace, LeafRecord, List, Marked,

@@ -1,7 +1,8 @@
-//! Typed lists: the form's examples, every fault with its line and column, the limits, what is left of a lent output, and trees that are typed and read back.
+//! Typed lists: the form's examples, every fault with its line and column, the limits, what is left of a lent output, trees that are typed and read back, and the lines of their
+//! nodes.
 
 use leg_sheet::calls::{self, NODES, TREE, TYPED};
-use leg_sheet::{Refusal, Tree, TypedFault};
+use leg_sheet::{typed_lines, LineKind, Refusal, Tree, TypedFault};
 
 /// The bytes written, with so many lent, or the number, line and column; bytes past the count stay, and a refusal leaves all.
 fn read(text: &[u8], length: usize) -> Result<Vec<u8>, (u8, u32, u32)> {
@@ -266,5 +267,64 @@ fn the_greatest_trees_come_back() {
         let bytes = tree.to_bytes().expect("a tree");
         assert_eq!(read(tree.typed().as_bytes(), bytes.len()), Ok(bytes));
         assert!(tree.typed().len() <= 81_408);
+    }
+}
+
+#[test]
+fn kinds_of_lines() {
+    let list = b"# a\r\n\n   \r\nrow\n  column\r\n  'row\n  rows\n    #b\n\tx\n \xFF";
+    let lines: Vec<_> = typed_lines(list)
+        .map(|line| (line.number, line.spaces, line.typed, line.kind()))
+        .collect();
+    assert_eq!(
+        lines,
+        [
+            (1, 0, &b"# a"[..], LineKind::Comment),
+            (2, 0, b"", LineKind::Blank),
+            (3, 3, b"", LineKind::Blank),
+            (4, 0, b"row", LineKind::Row),
+            (5, 2, b"column", LineKind::Column),
+            (6, 2, b"'row", LineKind::Text),
+            (7, 2, b"rows", LineKind::Text),
+            (8, 4, b"#b", LineKind::Comment),
+            (9, 0, b"\tx", LineKind::Text),
+            (10, 1, b"\xFF", LineKind::Text),
+        ]
+    );
+    assert_eq!(typed_lines(b"").count(), 1);
+}
+
+/// The nodes of a tree with their kinds and levels, in node order.
+fn nodes(tree: &Tree, level: usize, list: &mut Vec<(LineKind, usize)>) {
+    let (kind, children) = match tree {
+        Tree::Cell(_) => (LineKind::Text, &[][..]),
+        Tree::Row(children) => (LineKind::Row, &children[..]),
+        Tree::Column(children) => (LineKind::Column, &children[..]),
+    };
+    list.push((kind, level));
+    children
+        .iter()
+        .for_each(|child| nodes(child, level + 1, list));
+}
+
+/// In a list that is accepted each node has its line, whatever is skipped between them.
+#[test]
+fn nodes_have_their_lines() {
+    let mut seed = 40;
+    for round in 0..500 {
+        let tree = some_tree(&mut seed, 1 + round % 6);
+        let mut expected = Vec::new();
+        nodes(&tree, 0, &mut expected);
+        let text = tree.typed().replace('\n', "\r\n  # a comment\n\n");
+        assert_eq!(Tree::from_typed(&text), Ok(tree));
+        let lines = typed_lines(text.as_bytes()).filter(|line| line.is_node());
+        let found: Vec<_> = lines
+            .map(|line| (line.number, line.kind(), line.spaces / 2))
+            .collect();
+        let expected: Vec<_> = (0..)
+            .zip(expected)
+            .map(|(node, (kind, level))| (1 + 3 * node, kind, level))
+            .collect();
+        assert_eq!(found, expected, "{text}");
     }
 }

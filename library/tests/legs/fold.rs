@@ -41,6 +41,7 @@ fn folds_are_refused() {
     // A Row of 200 Columns fits the width, but no sheet.
     let list = [&DEFAULTS[..], b"\x03\x02\x58", &b"\x01\x00\x00".repeat(200)].concat();
     let (_, message, status) = said(&["fold", "-", "600"], &list);
-    assert!(message.contains("standard input: refused 6"), "{message}");
+    let large = "standard input: refused 6: the sheet would have 601 columns, 400 is the limit\n";
+    assert_eq!(message, format!("legs: {large}"));
     assert_eq!(status, Some(1));
 }

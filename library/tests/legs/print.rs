@@ -1,6 +1,7 @@
 //! `legs print`, and input and output that fail.
 
-use std::process::Command;
+use std::io::Write;
+use std::process::{Command, Stdio};
 
 use crate::{answers, fails, said, FIGURE_2};
 
@@ -55,4 +56,23 @@ fn output_that_fails() {
     assert_eq!(output.status.code(), Some(3));
     let message = String::from_utf8(output.stderr).expect("text");
     assert!(message.starts_with("legs: standard output: "), "{message}");
+}
+
+/// Where no one reads the answer any more it ends silently, as a command does that SIGPIPE ends.
+#[test]
+fn output_that_is_not_read() {
+    let mut child = Command::new(env!("CARGO_BIN_EXE_legs"))
+        .args(["print", "-"])
+        .stdin(Stdio::piped())
+        .stdout(Stdio::piped())
+        .stderr(Stdio::piped())
+        .spawn()
+        .expect("legs starts");
+    drop(child.stdout.take());
+    let mut input = child.stdin.take().expect("a pipe");
+    input.write_all(b"a\n").expect("a list");
+    drop(input);
+    let output = child.wait_with_output().expect("legs ends");
+    let told = (output.stderr.as_slice(), output.status.code());
+    assert_eq!(told, (&b""[..], Some(141)));
 }

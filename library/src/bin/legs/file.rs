@@ -1,17 +1,16 @@
 //! The input of a command, settings and a tree: as bytes, or as a typed list.
 
 use std::ffi::OsStr;
-use std::fs;
-use std::io::{self, Read};
 
 use leg_sheet::{calls, Input, Refusal, Settings};
 
 use crate::fault::Fault;
+use crate::limits::too_large;
+use crate::mistakes;
 use crate::over::Over;
-use crate::shown::shown;
-
-/// The first byte of settings. A file that begins with another has a typed list.
-pub const SETTINGS_TAG: u8 = 0x10;
+use crate::shown::{shown, tell};
+use crate::source::Source;
+use crate::warnings::warnings;
 
 /// A file's settings and tree, with its name for messages.
 pub struct File {
@@ -21,21 +20,30 @@ pub struct File {
 }
 
 impl File {
-    /// Reads a file, or standard input where it is called `-`. A typed list has the default settings; others stand over those of either.
+    /// Reads a file. A typed list has the default settings; others stand over those of either.
     pub fn read(path: &OsStr, over: &Over) -> Result<File, Fault> {
-        let (name, bytes) = read(path)?;
-        let (own, tree) = if bytes.first() == Some(&SETTINGS_TAG) {
-            let input = Input::split(&bytes);
-            (input.settings.to_vec(), input.tree.to_vec())
+        File::of(Source::read(path)?, over)
+    }
+
+    /// The file of what was read. Of a typed list warnings are told.
+    pub fn of(source: Source, over: &Over) -> Result<File, Fault> {
+        let (own, tree) = if source.is_text() {
+            (Settings::default().to_bytes(), typed(&source)?)
         } else {
-            (Settings::default().to_bytes(), typed(&name, &bytes)?)
+            let input = Input::split(&source.bytes);
+            (input.settings.to_vec(), input.tree.to_vec())
         };
-        let settings = over.over(&name, own)?;
+        let settings = over.over(&source.name, own)?;
         Ok(File {
-            name,
+            name: source.name,
             settings,
             tree,
         })
+    }
+
+    /// The same settings with another tree.
+    pub fn with_tree(self, tree: Vec<u8>) -> File {
+        File { tree, ..self }
     }
 
     /// Its settings and tree.
@@ -48,33 +56,31 @@ impl File {
 
     /// What a call answers on its settings and tree.
     pub fn call<T>(&self, call: impl Fn(Input) -> Result<T, Refusal>) -> Result<T, Fault> {
-        call(self.input()).map_err(|refusal| Fault::Refused(self.name.clone(), refusal))
+        call(self.input()).map_err(|refusal| {
+            Fault::Refused(self.name.clone(), refusal, words(self.input(), refusal))
+        })
     }
 }
 
-/// A file's name and its bytes; no more of them than can make a difference: no input that is accepted is as long as this.
-pub fn read(path: &OsStr) -> Result<(String, Vec<u8>), Fault> {
-    let most = calls::TYPED as u64 + 1;
-    let mut bytes = Vec::new();
-    let (name, done) = if path == "-" {
-        let done = io::stdin().lock().take(most).read_to_end(&mut bytes);
-        ("standard input".into(), done)
-    } else {
-        let done = fs::File::open(path).and_then(|file| file.take(most).read_to_end(&mut bytes));
-        (path.to_string_lossy().into_owned(), done)
-    };
-    match done {
-        Ok(_) => Ok((name, bytes)),
-        Err(error) => Err(Fault::Failed(name, error)),
+/// Why something is refused of settings and a tree.
+pub fn words(input: Input, refusal: Refusal) -> String {
+    match refusal {
+        Refusal::TooLarge => too_large(input),
+        _ => refusal.sentence().into(),
     }
 }
 
 /// The tree of a typed list.
-fn typed(name: &str, list: &[u8]) -> Result<Vec<u8>, Fault> {
+fn typed(source: &Source) -> Result<Vec<u8>, Fault> {
     let mut tree = vec![0; calls::TREE];
+    let (name, list) = (&source.name, &source.bytes);
     match calls::read_typed(list, &mut tree) {
         Ok(count) => tree.truncate(count),
-        Err(fault) => return Err(Fault::Mistake(shown(name, list, &fault.into()))),
+        Err(fault) => {
+            let mistake = mistakes::first(list, fault);
+            return Err(Fault::Mistake(shown(name, list, &mistake)));
+        }
     }
+    warnings(name, list).iter().for_each(|line| tell(line));
     Ok(tree)
 }

@@ -6,6 +6,7 @@ use crate::fault::Fault;
 use crate::file::File;
 use crate::options::{takes_value, HELP};
 use crate::over::Over;
+use crate::source::Source;
 
 /// What was given. The operands are those behind the command's name once the command is known.
 pub struct Given {
@@ -60,12 +61,16 @@ impl Given {
 
     /// The file that is the first operand, under the settings of the options.
     pub fn file(&self) -> Result<File, Fault> {
+        File::of(self.source()?, &Over::of(self)?)
+    }
+
+    /// What the file has that is the first operand.
+    pub fn source(&self) -> Result<Source, Fault> {
         let path = &self.operands[0];
-        let over = Over::of(self)?;
-        if path == "-" && over.is_from("-") {
+        if path == "-" && Over::of(self)?.is_from("-") {
             return Err(Fault::Usage("standard input is read once".into()));
         }
-        File::read(path, &over)
+        Source::read(path)
     }
 
     /// An operand that is a number.

@@ -90,5 +90,5 @@ bytes and blank write a FILE: legs bytes key.list > key.legs, legs blank key.leg
 STORE is a file of drafts, up to eight, each under a NAME, A to H. A draft is a tree: no settings are saved, and a FILE that is written keeps its own.
 Files are replaced whole or not at all.
 
-Exit status: 0, or 1 refused, 2 usage, 3 input or output failed.
+Exit status: 0, or 1 refused, 2 usage, 3 input or output failed, 141 where no one reads the answer any more.
 ";

@@ -8,12 +8,17 @@ mod fault;
 mod file;
 mod given;
 mod help;
+mod limits;
+mod mistakes;
 mod options;
 mod over;
 mod places;
 mod replace;
 mod shown;
+mod source;
 mod store;
+mod texts;
+mod warnings;
 
 use std::ffi::OsString;
 use std::io::{self, Write};
@@ -24,6 +29,7 @@ use fault::Fault;
 use given::Given;
 use help::{help, version};
 use options::VERSION;
+use shown::tell;
 
 /// Finds the command among the words and runs it on the others.
 fn run(words: &[OsString]) -> Result<Answer, Fault> {
@@ -52,8 +58,9 @@ fn main() -> ExitCode {
     let words: Vec<OsString> = std::env::args_os().skip(1).collect();
     let status = run(&words).and_then(|answer| write(&answer.bytes).map(|()| answer.status));
     ExitCode::from(status.unwrap_or_else(|fault| {
-        // Where standard error fails too, the status is all that is left to say it.
-        let _ = writeln!(io::stderr(), "{fault}");
+        if !fault.is_silent() {
+            tell(&fault.to_string());
+        }
         fault.status()
     }))
 }

@@ -5,10 +5,10 @@ use std::ffi::OsStr;
 use leg_sheet::{Input, Settings, WordFault};
 
 use crate::fault::Fault;
-use crate::file::{read, SETTINGS_TAG};
 use crate::given::Given;
 use crate::options::{setting, NO_LINES, SETTINGS};
 use crate::shown::shown;
+use crate::source::Source;
 
 /// What the options say of the settings.
 #[derive(Default)]
@@ -55,23 +55,24 @@ impl<'a> Over<'a> {
 
 /// The settings of a file over others: all of them where it has bytes, those that it names where it has words.
 pub fn read_over(path: &OsStr, name: &str, own: Vec<u8>) -> Result<Vec<u8>, Fault> {
-    let (path, bytes) = read(path)?;
-    if bytes.first() == Some(&SETTINGS_TAG) {
-        return front(&path, &bytes);
+    let source = Source::read(path)?;
+    if !source.is_text() {
+        return front(&source);
     }
-    let fault = |fault: WordFault| Fault::Mistake(shown(&path, &bytes, &fault.into()));
+    let bytes = &source.bytes;
+    let fault = |fault: WordFault| Fault::Mistake(shown(&source.name, bytes, &fault.into()));
     let settings = checked(name, &own)?;
-    Ok(settings.with_words(&bytes).map_err(fault)?.to_bytes())
+    Ok(settings.with_words(bytes).map_err(fault)?.to_bytes())
 }
 
 /// The settings at the front of a file's bytes, as they stand there.
-pub fn front(name: &str, bytes: &[u8]) -> Result<Vec<u8>, Fault> {
-    let settings = Input::split(bytes).settings;
-    checked(name, settings)?;
+pub fn front(source: &Source) -> Result<Vec<u8>, Fault> {
+    let settings = Input::split(&source.bytes).settings;
+    checked(&source.name, settings)?;
     Ok(settings.to_vec())
 }
 
 /// The settings of bytes.
 fn checked(name: &str, bytes: &[u8]) -> Result<Settings, Fault> {
-    Settings::from_bytes(bytes).map_err(|refusal| Fault::Refused(name.into(), refusal))
+    Settings::from_bytes(bytes).map_err(|refusal| Fault::refused(name, refusal))
 }

@@ -1,5 +1,7 @@
 //! A mistake in a text, as it is shown: its place, what is wrong in words, the line, and a caret under the column.
 
+use std::io::{self, Write};
+
 use leg_sheet::{TypedFault, WordFault};
 
 /// The bytes that are shown of a longer line, and how many of them may stand before the column. So the line is not broken, and the caret stands under its column.
@@ -48,6 +50,11 @@ pub fn shown(name: &str, text: &[u8], mistake: &Mistake) -> String {
     let (before, after) = around(text, column.saturating_sub(1));
     let caret = " ".repeat(before.chars().count());
     format!("{name}:{line}:{column}: {words}\n{before}{after}\n{caret}^")
+}
+
+/// Says something on standard error. Where that fails there is no one to tell it to.
+pub fn tell(line: &str) {
+    let _ = writeln!(io::stderr(), "{line}");
 }
 
 /// What is shown of a line before a column, which counts from 0, and from it on; with two dots where the line goes on.

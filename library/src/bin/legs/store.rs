@@ -45,7 +45,7 @@ impl StoreFile {
         call: impl FnOnce(&mut DraftStore) -> Result<T, Refusal>,
     ) -> Result<T, Fault> {
         call(&mut DraftStore::new(&mut self.bytes))
-            .map_err(|refusal| Fault::Refused(self.name.clone(), refusal))
+            .map_err(|refusal| Fault::refused(&self.name, refusal))
     }
 
     /// Puts the store as it is now in the file's place.

@@ -7,10 +7,11 @@ use leg_sheet::{Draft, DraftStore, Refusal, Settings};
 
 use super::{Answer, Command};
 use crate::fault::Fault;
-use crate::file::{read, File};
+use crate::file::File;
 use crate::given::{draft_name, Given};
 use crate::over::{front, Over};
 use crate::replace::replace;
+use crate::source::Source;
 use crate::store::StoreFile;
 
 pub const NEW: Command = Command {
@@ -71,8 +72,8 @@ fn save(given: &Given) -> Result<Answer, Fault> {
     let mut store = StoreFile::read(&given.operands[0])?;
     let saved = store.call(|store| store.save_bytes(name, file.input().tree));
     saved.map_err(|fault| match fault {
-        Fault::Refused(_, refusal) if (2..=5).contains(&refusal.number()) => {
-            Fault::Refused(file.name.clone(), refusal)
+        Fault::Refused(_, refusal, _) if (2..=5).contains(&refusal.number()) => {
+            Fault::refused(&file.name, refusal)
         }
         fault => fault,
     })?;
@@ -104,12 +105,12 @@ fn return_to(given: &Given) -> Result<Answer, Fault> {
 
 /// The settings that a file of bytes has, as they stand there; of one that is not there the default ones. A typed list is not written over.
 fn settings_of(path: &OsStr) -> Result<Vec<u8>, Fault> {
-    match read(path) {
+    match Source::read(path) {
         Err(Fault::Failed(_, error)) if error.kind() == ErrorKind::NotFound => {
             Ok(Settings::default().to_bytes())
         }
         Err(fault) => Err(fault),
-        Ok((name, bytes)) => front(&name, &bytes),
+        Ok(source) => front(&source),
     }
 }
 

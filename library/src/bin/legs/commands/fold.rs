@@ -19,20 +19,16 @@ fn run(given: &Given) -> Result<Answer, Fault> {
     let budget = budget.map_or(Ok(usize::MAX), |word| number(word))?;
     let file = given.file()?;
     let folded = file.call(|input| input.fold(width, budget))?;
-    let sheet = file.call(|input| sheet(input, &folded))?;
+    let tree = file.call(|input| row(input, &folded))?;
+    let sheet = file.with_tree(tree).call(|input| input.print_sheet())?;
     Ok(Answer::accepted(format!("{sheet}\n{}", line(&folded))))
 }
 
-/// The sheet of the Row, under the list's own settings.
-fn sheet(input: Input, folded: &Folded) -> Result<String, Refusal> {
+/// The bytes of the Row.
+fn row(input: Input, folded: &Folded) -> Result<Vec<u8>, Refusal> {
     let list = Tree::from_bytes(input.tree)?;
     let row = list.folded(&folded.columns);
-    let tree = row.expect("the list's own counts").to_bytes()?;
-    let input = Input {
-        tree: &tree,
-        ..input
-    };
-    input.print_sheet()
+    row.expect("the list's own counts").to_bytes()
 }
 
 fn line(folded: &Folded) -> String {

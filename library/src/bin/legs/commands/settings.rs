@@ -26,6 +26,6 @@ fn run(given: &Given) -> Result<Answer, Fault> {
         return Ok(Answer::file(bytes));
     }
     let settings = Settings::from_bytes(&bytes);
-    let settings = settings.map_err(|refusal| Fault::Refused("the settings".into(), refusal))?;
+    let settings = settings.map_err(|refusal| Fault::refused("the settings", refusal))?;
     Ok(Answer::accepted(settings.words()))
 }

@@ -5,6 +5,7 @@ use leg_sheet::{Need, Tree};
 use super::{Answer, Command};
 use crate::fault::Fault;
 use crate::given::Given;
+use crate::texts::beginning;
 
 pub const COMMAND: Command = Command {
     name: "widen",
@@ -15,9 +16,6 @@ pub const COMMAND: Command = Command {
     run,
 };
 
-/// The letters of a text that are shown.
-const SHOWN: usize = 32;
-
 fn run(given: &Given) -> Result<Answer, Fault> {
     let file = given.file()?;
     let needs = file.call(|input| input.widen())?;
@@ -25,7 +23,7 @@ fn run(given: &Given) -> Result<Answer, Fault> {
     let nodes = nodes(&tree);
     let mut text = line("node", "letters", "text");
     for Need { node, letters } in needs {
-        text += &line(node, letters, &beginning(nodes[node]));
+        text += &line(node, letters, &beginning(text_of(nodes[node])));
     }
     Ok(Answer::accepted(text))
 }
@@ -39,15 +37,11 @@ fn nodes(tree: &Tree) -> Vec<&Tree> {
     [&[tree][..], &below].concat()
 }
 
-/// The beginning of a Cell's text: its first line, as far as it is shown, and two dots where the text goes on.
-fn beginning(cell: &Tree) -> String {
-    let Tree::Cell(text) = cell else {
-        return String::new();
-    };
-    let line = text.split('\n').next().unwrap_or_default();
-    let shown = &line[..line.len().min(SHOWN)];
-    let more = if shown == text { "" } else { " .." };
-    format!("{shown}{more}")
+fn text_of(cell: &Tree) -> &str {
+    match cell {
+        Tree::Cell(text) => text,
+        _ => "",
+    }
 }
 
 fn line<T: Display>(node: T, letters: T, text: &str) -> String {
