@@ -39,11 +39,13 @@ pub mod calls;
 mod drafts;
 mod input;
 mod lines;
+mod nodes;
 mod plan;
 mod raw;
 mod records;
 mod refusal;
 mod settings;
+mod starts;
 mod tree;
 mod typed;
 mod values;
@@ -51,6 +53,7 @@ mod values;
 pub use drafts::{Draft, DraftStore};
 pub use input::Input;
 pub use lines::{typed_lines, LineKind, TypedLine};
+pub use nodes::{Node, Nodes};
 pub use plan::Plan;
 pub use records::{
     next_sibling, CutAnswer, CutPair, CutParts, Flags, Folded, LeafPlace, LeafRecord, List, Marked,

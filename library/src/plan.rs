@@ -1,5 +1,7 @@
 //! The tree of a sheet whose texts are not all known yet.
 
+mod typed;
+
 use std::ops::RangeInclusive;
 
 use crate::calls;

@@ -1,4 +1,4 @@
-//! The examples: each file of bytes is what `legs` makes of its typed list and settings, and the settings and the plan, which are bytes alone, are these values.
+//! The examples: each file of bytes is what `legs` makes of its typed list and settings, and the settings and the plan are these values.
 
 use std::fs;
 use std::path::Path;
@@ -20,7 +20,10 @@ const MADE: [(&str, &str); 12] = [
     ("list", "bytes list.list"),
     ("blank", "bytes blank.list --settings blank.settings"),
     ("key", "bytes key.list --settings key.settings"),
-    ("paper", "blank key.list 7 11 18 21 --settings key.settings"),
+    (
+        "paper",
+        "blank key.list --lines 9,13,20,23 --settings key.settings",
+    ),
     ("refused", "bytes refused.list"),
 ];
 
@@ -113,7 +116,7 @@ fn settings_are_values() {
     }
 }
 
-/// Two legs have no name and no remark yet. A typed list has no ranges.
+/// Two legs have no name and no remark yet. Typed it is the same.
 #[test]
 fn the_plan_is_a_value() {
     let row = |number: &str, name: Plan, remark: Plan| Plan::row([number.into(), name, remark]);
@@ -129,6 +132,7 @@ fn the_plan_is_a_value() {
     let bytes = plan.to_bytes().expect("a plan");
     let file = [Settings::default().to_bytes(), bytes].concat();
     assert_eq!(example("flight.plan"), file);
+    assert_eq!(Plan::from_typed(example("plan.list")), Ok(plan));
 }
 
 /// What the program prints of the list with a mistake is its fault.

@@ -18,5 +18,5 @@ fn an_endless_input_ends() {
         .stdin(endless)
         .output()
         .expect("legs runs");
-    assert_eq!(output.status.code(), Some(2));
+    assert_eq!(output.status.code(), Some(3));
 }

@@ -8,6 +8,7 @@ fn help() {
     assert_eq!((message.as_str(), status), ("", Some(0)));
     for command in [
         "print FILE",
+        "nodes FILE",
         "sizes FILE",
         "leaf FILE NODE",
         "place FILE LINE COLUMN",
@@ -122,6 +123,7 @@ fn usage() {
     fails(&["plan"], "legs plan FILE");
     fails(&["plan", "a", "b"], "legs plan FILE");
     fails(&["widen"], "legs widen FILE");
+    fails(&["nodes"], "legs nodes FILE");
     fails(&["blank"], "legs blank FILE [NODE..]");
     fails(&["blank", "a", "7", "x"], "\"x\" is no number from 0 on");
     fails(&["type"], "legs type FILE");

@@ -9,12 +9,14 @@ mod help;
 mod leaf;
 mod mark;
 mod mistakes;
+mod nodes;
 mod place;
 mod plan;
 mod print;
 mod refusals;
 mod settings;
 mod sizes;
+mod terminal;
 mod typed;
 mod widen;
 

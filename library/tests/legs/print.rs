@@ -76,3 +76,18 @@ fn output_that_is_not_read() {
     let told = (output.stderr.as_slice(), output.status.code());
     assert_eq!(told, (&b""[..], Some(141)));
 }
+
+/// The numbers of lines and columns, from 0 on, which `legs place` takes.
+#[test]
+fn rulers() {
+    answers(
+        &["print", "figure2.legs", "--rulers"],
+        "  0\n  0123456789\n0 1--------2\n1 ( abcdef )\n2 7----3---8\n3 ( a  ( b )\n4 4____6___5\n",
+    );
+    let (text, _, _) = said(&["print", "flight.list", "--rulers"], b"");
+    let lines: Vec<&str> = text.lines().collect();
+    assert_eq!(&lines[0][..16], "   0         10 ");
+    assert_eq!(&lines[1][..16], "   0123456789012");
+    assert!(lines[12].starts_with("10 |   +--"), "{}", lines[12]);
+    assert!(lines[4].starts_with(" 2 |     "), "{}", lines[4]);
+}

@@ -196,6 +196,7 @@ fn options_on_every_command() {
         &["sizes", "-"],
         &["leaf", "-", "0"],
         &["place", "-", "1", "1"],
+        &["nodes", "-"],
         &["plan", "-"],
         &["widen", "-"],
         &["check", "-"],
@@ -209,8 +210,8 @@ fn options_on_every_command() {
     let (marked, _, status) = said(&["mark", "figure2.list", "--margin", "1"], b"1 1\n");
     assert!(marked.contains("node 1"), "{marked}");
     assert_eq!(status, Some(0));
-    let folded = written(&["fold", "list.list", "60", "--no-lines"], b"");
-    assert!(!folded.contains(&b'|'));
+    let (folded, _, _) = said(&["fold", "list.list", "60", "--no-lines"], b"");
+    assert!(!folded.contains('|') && folded.contains("Home pad"));
     misused(
         &["type", "a", "--margin", "1"],
         "legs type takes no --margin",

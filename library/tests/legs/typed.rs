@@ -21,7 +21,7 @@ fn typed_lists() {
     );
     typed(
         &["place", "-", "2", "4"],
-        "node 4: line 0, column 0 of its block\n",
+        "2 4: node 4, line 0, column 0 of its block: b\n",
     );
     typed(&["plan", "-"], "columns: 10\nlines: 5\n");
     typed(
@@ -62,7 +62,7 @@ fn typed_lists_as_bytes() {
     assert_eq!(bytes(&["bytes", "-"], blank), blank);
     let dots = b"\x02\x00\x0B\x01\x00\x05.....\x01\x00\x00";
     let paper = [&DEFAULTS[..], dots].concat();
-    assert_eq!(bytes(&["blank", "-"], list), paper);
+    assert_eq!(bytes(&["blank", "-", "--all"], list), paper);
 
     let folder = Folder::new("typed");
     let store = folder.path("store");
@@ -73,7 +73,34 @@ fn typed_lists_as_bytes() {
     // A list that was typed is not written over by bytes.
     let typed = folder.path("typed.list");
     std::fs::write(&typed, list).expect("a file");
-    let refused = format!("{typed}: refused 1: the settings are not of their form or ranges");
-    fails(&["draft", "return", &store, "A", &typed], &refused, 1);
+    let kept = format!("{typed}: not overwritten: it has text, and --typed writes a list");
+    fails(&["draft", "return", &store, "A", &typed], &kept, 1);
     assert_eq!(std::fs::read(&typed).expect("a file"), list);
+}
+
+/// A draft comes back typed: to standard output, to a new file, over a list; but not over bytes.
+#[test]
+fn drafts_come_back_typed() {
+    let folder = Folder::new("back");
+    let [store, list, new, legs] =
+        ["store", "typed.list", "new.list", "sheet.legs"].map(|name| folder.path(name));
+    answers(&["draft", "new", &store, "100"], "");
+    answers(&["draft", "save", &store, "A", "blank.list"], "");
+    let back = "row\n  leg 1\n  '\n";
+    answers(&["draft", "return", &store, "A", "--typed"], back);
+    answers(&["draft", "return", &store, "A", "-", "--typed"], back);
+    std::fs::write(&list, "# an older one\na\n").expect("a file");
+    std::fs::write(&legs, include_bytes!("../../../examples/figure2.legs")).expect("a file");
+    for file in [&list, &new] {
+        answers(&["draft", "return", &store, "A", file, "--typed"], "");
+        assert_eq!(std::fs::read_to_string(file).expect("a file"), back);
+    }
+    let kept = format!("{legs}: not overwritten: it has bytes, which come without --typed");
+    fails(
+        &["draft", "return", &store, "A", &legs, "--typed"],
+        &kept,
+        1,
+    );
+    let bytes = include_bytes!("../../../examples/figure2.legs");
+    assert_eq!(std::fs::read(&legs).expect("a file"), bytes);
 }

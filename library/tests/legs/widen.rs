@@ -25,3 +25,12 @@ fn widen() {
     assert!(message.contains("standard input: refused 2"), "{message}");
     assert_eq!(status, Some(1));
 }
+
+#[test]
+fn letters_as_records() {
+    let (tsv, _, _) = said(&["widen", "-", "--tsv"], b"row\n  a\\nb\n");
+    assert_eq!(tsv, "node\tletters\ttext\n1\t1\ta\\nb\n");
+    let (json, _, _) = said(&["widen", "-", "--json"], b"\"a\\n\\\\\"");
+    let record = r#"[{"node": 0, "letters": 1, "text": "\"a\n\\\""}]"#;
+    assert_eq!(json, format!("{record}\n"));
+}

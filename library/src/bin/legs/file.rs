@@ -2,7 +2,7 @@
 
 use std::ffi::OsStr;
 
-use leg_sheet::{calls, Input, Refusal, Settings};
+use leg_sheet::{calls, Input, Refusal, Settings, Tree};
 
 use crate::fault::Fault;
 use crate::limits::too_large;
@@ -12,11 +12,12 @@ use crate::shown::{shown, tell};
 use crate::source::Source;
 use crate::warnings::warnings;
 
-/// A file's settings and tree, with its name for messages.
+/// A file's settings and tree, with its name for messages, and the list that was typed.
 pub struct File {
     pub name: String,
     settings: Vec<u8>,
     tree: Vec<u8>,
+    list: Option<Vec<u8>>,
 }
 
 impl File {
@@ -34,16 +35,28 @@ impl File {
             (input.settings.to_vec(), input.tree.to_vec())
         };
         let settings = over.over(&source.name, own)?;
+        let list = source.is_text().then_some(source.bytes);
         Ok(File {
             name: source.name,
             settings,
             tree,
+            list,
         })
     }
 
     /// The same settings with another tree.
     pub fn with_tree(self, tree: Vec<u8>) -> File {
         File { tree, ..self }
+    }
+
+    /// The list, where it was typed.
+    pub fn list(&self) -> Option<&[u8]> {
+        self.list.as_deref()
+    }
+
+    /// Its tree, as a value.
+    pub fn tree(&self) -> Result<Tree, Fault> {
+        self.call(|input| Tree::from_bytes(input.tree))
     }
 
     /// Its settings and tree.
@@ -56,7 +69,12 @@ impl File {
 
     /// What a call answers on its settings and tree.
     pub fn call<T>(&self, call: impl Fn(Input) -> Result<T, Refusal>) -> Result<T, Fault> {
-        call(self.input()).map_err(|refusal| {
+        self.refuse(call(self.input()))
+    }
+
+    /// An answer about it.
+    pub fn refuse<T>(&self, answer: Result<T, Refusal>) -> Result<T, Fault> {
+        answer.map_err(|refusal| {
             Fault::Refused(self.name.clone(), refusal, words(self.input(), refusal))
         })
     }

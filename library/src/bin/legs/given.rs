@@ -4,14 +4,16 @@ use std::ffi::{OsStr, OsString};
 
 use crate::fault::Fault;
 use crate::file::File;
-use crate::options::{takes_value, HELP};
+use crate::options::{takes_value, Opt, HELP};
 use crate::over::Over;
 use crate::source::Source;
 
-/// What was given. The operands are those behind the command's name once the command is known.
+/// What was given. Once the command is known the operands are those behind its name.
 pub struct Given {
     pub operands: Vec<OsString>,
     options: Vec<(String, Option<OsString>)>,
+    /// The command's own options, of which one may have the name of a setting.
+    own: &'static [Opt],
 }
 
 impl Given {
@@ -30,7 +32,21 @@ impl Given {
             }
             options.push(with_value(option, &mut words)?);
         }
-        Ok(Given { operands, options })
+        let own = &[];
+        Ok(Given {
+            operands,
+            options,
+            own,
+        })
+    }
+
+    /// The same behind the name of a command that has options of its own.
+    pub fn behind(self, operands: Vec<OsString>, own: &'static [Opt]) -> Given {
+        Given {
+            operands,
+            own,
+            ..self
+        }
     }
 
     pub fn has(&self, name: &str) -> bool {
@@ -57,6 +73,12 @@ impl Given {
     pub fn options(&self) -> impl Iterator<Item = (&str, Option<&OsStr>)> {
         let options = self.options.iter();
         options.map(|(name, value)| (name.as_str(), value.as_deref()))
+    }
+
+    /// Those that are not the command's own.
+    pub fn common(&self) -> impl Iterator<Item = (&str, Option<&OsStr>)> {
+        let is_own = |name: &str| self.own.iter().any(|option| option.name == name);
+        self.options().filter(move |(name, _)| !is_own(name))
     }
 
     /// The file that is the first operand, under the settings of the options.

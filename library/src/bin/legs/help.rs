@@ -82,11 +82,12 @@ Settings are the default ones, over these FILE's own, over these those of --sett
 A file of settings has bytes, or words: legs settings shows them all, and legs settings --margin 8,0,1,0 > binder.settings writes a file.
 ";
 
-const REST: &str = "For plan the tree may have ranges, placeholders for texts that are not known yet; no other command takes them, and no typed list has them.
-Nodes are numbered from 0, a parent before its children, these from left to right.
-Lines and columns are counted from 0, in the sheet as it is printed.
+const REST: &str = "To plan a line like ? 2-6 x 1-3 is a placeholder for a text that is not known yet: 2 to 6 wide, 1 to 3 lines. To every other command it is a text.
+Nodes are numbered from 0, a parent before its children, these from left to right: legs nodes lists them with their lines in the typed list and their texts.
+Lines and columns of the sheet are counted from 0: legs print --rulers shows them. Those of a typed list are counted from 1, as editors do.
 WIDTH is of the sheet inside its edges and margin. BUDGET limits the heights that are tried.
-bytes and blank write a FILE: legs bytes key.list > key.legs, legs blank key.legs 7 11 > paper.legs. type writes a typed list: legs type paper.legs > paper.list.
+bytes and blank write a FILE: legs bytes key.list > key.legs, legs blank key.list --lines 9,13 > paper.legs. type writes a typed list: legs type paper.legs > paper.list.
+--tsv and --json are for other programs; a text has \\n for a line feed in both.
 STORE is a file of drafts, up to eight, each under a NAME, A to H. A draft is a tree: no settings are saved, and a FILE that is written keeps its own.
 Files are replaced whole or not at all.
 

@@ -9,14 +9,17 @@ mod file;
 mod given;
 mod help;
 mod limits;
+mod marked;
 mod mistakes;
 mod options;
 mod over;
 mod places;
 mod replace;
+mod rulers;
 mod shown;
 mod source;
 mod store;
+mod table;
 mod texts;
 mod warnings;
 
@@ -33,7 +36,7 @@ use shown::tell;
 
 /// Finds the command among the words and runs it on the others.
 fn run(words: &[OsString]) -> Result<Answer, Fault> {
-    let mut given = Given::split(words)?;
+    let given = Given::split(words)?;
     if given.has(VERSION.name) {
         return Ok(Answer::accepted(version()));
     }
@@ -41,7 +44,7 @@ fn run(words: &[OsString]) -> Result<Answer, Fault> {
         return help(words).map(Answer::accepted);
     }
     let (command, operands) = find(&given.operands)?;
-    given.operands = operands;
+    let given = given.behind(operands, command.options);
     command.check(&given)?;
     (command.run)(&given)
 }

@@ -41,7 +41,24 @@ pub const SETTINGS: Opt = Opt::with(
 /// The settings without lines, which need no value.
 pub const NO_LINES: Opt = Opt::flag("--no-lines", "the same as --lines no");
 
+/// Answers as records.
+pub const TSV: Opt = Opt::flag("--tsv", "a line for each record, its fields parted by tabs");
+pub const JSON: Opt = Opt::flag("--json", "the same as JSON");
+
+pub const RULERS: Opt = Opt::flag(
+    "--rulers",
+    "with the numbers of lines and columns, from 0 on",
+);
+pub const LIST: Opt = Opt::flag("--list", "the folded list, typed, for other commands");
+pub const LINES: Opt = Opt::with(
+    "--lines",
+    "LINE,LINE..",
+    "the texts in these lines of the typed list, from 1 on",
+);
+pub const ALL: Opt = Opt::flag("--all", "the texts of all Cells");
+pub const TYPED: Opt = Opt::flag("--typed", "as a typed list");
 pub const BYTES: Opt = Opt::flag("--bytes", "the settings as bytes, 31, or 42 with a margin");
+pub const FORCE: Opt = Opt::flag("--force", "writes bytes to a terminal, too");
 
 /// These ask for help, behind any command.
 pub const HELP: [Opt; 2] = [

@@ -20,7 +20,7 @@ pub struct Over<'a> {
 impl<'a> Over<'a> {
     pub fn of(given: &'a Given) -> Result<Over<'a>, Fault> {
         let mut named = Vec::new();
-        for (name, value) in given.options() {
+        for (name, value) in given.common() {
             if name == NO_LINES.name {
                 named.push(("lines", "no"));
             } else if let Some(word) = setting(name) {

@@ -1,45 +1,65 @@
-//! Places on standard input.
+//! Places on standard input, and their leaves.
 
-use std::io::{self, BufRead, Read};
+use std::io::{self, Read};
 
-use leg_sheet::{calls, Place};
+use leg_sheet::{calls, Input, LeafPlace, Place, Refusal};
 
 use crate::fault::Fault;
+use crate::texts::beginning;
 
-/// A place's line has fewer bytes.
-const LINE: usize = 64;
+/// The bytes that are read at the most: for every place of the largest sheet a line.
+const BYTES: usize = 1 << 20;
 
-/// The places on standard input, a line each; no more of them than can make a difference.
-pub fn places() -> Result<Vec<Place>, Fault> {
-    let mut input = io::stdin().lock();
-    let mut list = Vec::new();
-    while list.len() <= calls::PLACES {
-        let mut line = Vec::new();
-        input
-            .by_ref()
-            .take(LINE as u64)
-            .read_until(b'\n', &mut line)
-            .map_err(|error| Fault::Failed("standard input".into(), error))?;
-        if line.is_empty() {
-            break;
-        }
-        let fault = || {
-            let number = list.len() + 1;
-            Fault::Usage(format!(
-                "line {number} of standard input is no line and column"
-            ))
-        };
-        list.push(place(&line).ok_or_else(fault)?);
+/// The places, a line each: a line and a column, parted by spaces, a tab or a comma. Nothing and comments may stand between them. With them what is wrong with other lines.
+pub fn places() -> Result<(Vec<Place>, Vec<String>), Fault> {
+    let failed = |error| Fault::Failed("standard input".into(), error);
+    let mut bytes = Vec::new();
+    let most = BYTES as u64 + 1;
+    let read = io::stdin().lock().take(most).read_to_end(&mut bytes);
+    if read.map_err(failed)? > BYTES {
+        return Err(failed(io::Error::other(format!("over {BYTES} bytes"))));
     }
-    Ok(list)
+    let (mut list, mut wrong) = (Vec::new(), Vec::new());
+    for (number, line) in (1..).zip(bytes.split(|&byte| byte == b'\n')) {
+        let line = String::from_utf8_lossy(line);
+        let line = line.split('#').next().unwrap_or_default().trim();
+        match place(line) {
+            _ if line.is_empty() => {}
+            Some(place) => list.push(place),
+            None => {
+                let line = beginning(line);
+                wrong.push(format!(
+                    "standard input:{number}: '{line}' is no line and column"
+                ));
+            }
+        }
+    }
+    Ok((list, wrong))
 }
 
 /// A line and a column, numbers from 0 on.
-fn place(line: &[u8]) -> Option<Place> {
-    let text = std::str::from_utf8(line).ok()?;
-    let numbers: Result<Vec<usize>, _> = text.split_ascii_whitespace().map(str::parse).collect();
+fn place(line: &str) -> Option<Place> {
+    let words = line.split([',', ' ', '\t']).filter(|word| !word.is_empty());
+    let numbers: Result<Vec<usize>, _> = words.map(str::parse).collect();
     match numbers.as_deref() {
-        Ok(&[line, column]) if text.len() < LINE => Some(Place { line, column }),
+        Ok(&[line, column]) => Some(Place { line, column }),
         _ => None,
     }
+}
+
+/// A place's leaf, or why it has none.
+pub type Found = Result<LeafPlace, Refusal>;
+
+/// The leaves of places, each as if it was asked for alone: 12 and 13 are told of a place, and any other refusal of all.
+pub fn find(input: Input, places: &[Place]) -> Result<Vec<Found>, Refusal> {
+    // Without places the sheet is asked for, too.
+    input.places(&[])?;
+    let mut found = Vec::new();
+    for list in places.chunks(calls::PLACES) {
+        match input.places(list) {
+            Ok(marked) => found.extend(marked.answers.into_iter().map(Ok)),
+            Err(_) => found.extend(list.iter().map(|it| input.place(it.line, it.column))),
+        }
+    }
+    Ok(found)
 }

@@ -39,6 +39,10 @@ impl StoreFile {
         }
     }
 
+    pub fn name(&self) -> &str {
+        &self.name
+    }
+
     /// What a call answers on the store.
     pub fn call<T>(
         &mut self,

@@ -10,3 +10,8 @@ pub fn beginning(text: &str) -> String {
     let more = if shown == text { "" } else { " .." };
     format!("{shown}{more}")
 }
+
+/// A whole text in one line, as it is typed.
+pub fn on_one_line(text: &str) -> String {
+    text.replace('\\', "\\\\").replace('\n', "\\n")
+}

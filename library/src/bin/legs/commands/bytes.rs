@@ -3,11 +3,12 @@ use leg_sheet::{calls, Settings};
 use super::{Answer, Command};
 use crate::fault::Fault;
 use crate::given::Given;
+use crate::options::FORCE;
 
 pub const COMMAND: Command = Command {
     name: "bytes",
     operands: &["FILE"],
-    options: &[],
+    options: &[FORCE],
     takes_settings: true,
     about: "the settings and the tree of a typed list as bytes",
     run,
@@ -18,5 +19,5 @@ fn run(given: &Given) -> Result<Answer, Fault> {
     file.call(|input| Settings::from_bytes(input.settings))?;
     file.call(|input| calls::read_tree(input.tree))?;
     let input = file.input();
-    Ok(Answer::file([input.settings, input.tree].concat()))
+    Answer::bytes(given, [input.settings, input.tree].concat())
 }

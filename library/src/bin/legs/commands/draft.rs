@@ -3,12 +3,13 @@ use std::fmt::Display;
 use std::io::ErrorKind;
 use std::path::Path;
 
-use leg_sheet::{Draft, DraftStore, Refusal, Settings};
+use leg_sheet::{Draft, DraftStore, Refusal, Settings, Tree};
 
-use super::{Answer, Command};
+use super::{typing, Answer, Command};
 use crate::fault::Fault;
 use crate::file::File;
 use crate::given::{draft_name, Given};
+use crate::options::{FORCE, TYPED};
 use crate::over::{front, Over};
 use crate::replace::replace;
 use crate::source::Source;
@@ -44,9 +45,9 @@ pub const FORGET: Command = Command {
 pub const RETURN: Command = Command {
     name: "draft return",
     operands: &["STORE", "NAME", "[FILE]"],
-    options: &[],
+    options: &[TYPED, FORCE],
     takes_settings: false,
-    about: "puts a draft in the place of FILE's tree; without FILE it is printed, behind the default settings",
+    about: "puts a draft in the place of FILE's tree; without FILE it is written as bytes, behind the default settings",
     run: return_to,
 };
 
@@ -93,25 +94,58 @@ fn return_to(given: &Given) -> Result<Answer, Fault> {
     let name = draft_name(&given.operands[1])?;
     let mut store = StoreFile::read(&given.operands[0])?;
     let tree = store.call(|store| store.return_bytes(name))?;
-    let Some(path) = given.operands.get(2).filter(|&word| word != "-") else {
-        let settings = Settings::default().to_bytes();
-        return Ok(Answer::file([settings, tree].concat()));
+    let is_typed = given.has(TYPED.name);
+    let path = given.operands.get(2).filter(|&word| word != "-");
+    let old = path.map_or(Ok(None), |path| old(path))?;
+    let bytes = if is_typed {
+        let tree = store.call(|_| Tree::from_bytes(&tree))?;
+        over_list(old, typing::typed(store.name(), &tree)?)?
+    } else {
+        [settings_of(old)?, tree].concat()
     };
-    let bytes = [settings_of(path)?, tree].concat();
+    let Some(path) = path else {
+        return if is_typed {
+            Ok(Answer::text(bytes))
+        } else {
+            Answer::bytes(given, bytes)
+        };
+    };
     let failed = |error| Fault::Failed(path.to_string_lossy().into(), error);
     replace(Path::new(path), &bytes).map_err(failed)?;
     Ok(Answer::done())
 }
 
-/// The settings that a file of bytes has, as they stand there; of one that is not there the default ones. A typed list is not written over.
-fn settings_of(path: &OsStr) -> Result<Vec<u8>, Fault> {
+/// The file that is to be replaced, where there is one.
+fn old(path: &OsStr) -> Result<Option<Source>, Fault> {
     match Source::read(path) {
-        Err(Fault::Failed(_, error)) if error.kind() == ErrorKind::NotFound => {
-            Ok(Settings::default().to_bytes())
-        }
-        Err(fault) => Err(fault),
-        Ok(source) => front(&source),
+        Err(Fault::Failed(_, error)) if error.kind() == ErrorKind::NotFound => Ok(None),
+        source => source.map(Some),
     }
+}
+
+/// The settings that a file of bytes has, as they stand there; of one that is not there the default ones. A text is not written over by bytes.
+fn settings_of(old: Option<Source>) -> Result<Vec<u8>, Fault> {
+    match old {
+        None => Ok(Settings::default().to_bytes()),
+        Some(source) if source.is_text() => Err(kept(&source, "text, and --typed writes a list")),
+        Some(source) => front(&source),
+    }
+}
+
+/// The bytes of a typed list, which writes over a text and over nothing else.
+fn over_list(old: Option<Source>, text: String) -> Result<Vec<u8>, Fault> {
+    match old {
+        Some(source) if !source.is_text() => {
+            Err(kept(&source, "bytes, which come without --typed"))
+        }
+        _ => Ok(text.into()),
+    }
+}
+
+/// Why a file is not written over.
+fn kept(source: &Source, has: &str) -> Fault {
+    let name = &source.name;
+    Fault::Mistake(format!("legs: {name}: not overwritten: it has {has}"))
 }
 
 fn list(given: &Given) -> Result<Answer, Fault> {

@@ -1,25 +1,35 @@
-use super::{found, Answer, Command};
-use crate::fault::Fault;
+use super::{Answer, Command};
+use crate::fault::{Fault, REFUSED};
 use crate::given::Given;
+use crate::marked::{lines, table, Marked};
+use crate::options::{JSON, TSV};
 use crate::over::Over;
-use crate::places::places;
+use crate::places::{find, places};
+use crate::shown::tell;
 
 pub const COMMAND: Command = Command {
     name: "mark",
     operands: &["FILE"],
-    options: &[],
+    options: &[TSV, JSON],
     takes_settings: true,
-    about: "the same for each line of standard input, LINE COLUMN, up to 256 of them",
+    about: "the same for each line of standard input: LINE COLUMN, or with a comma; comments and blank lines are skipped",
     run,
 };
 
+/// Every place is answered: a place without a leaf has its number, and a line that is no place is told of on standard error.
 fn run(given: &Given) -> Result<Answer, Fault> {
     if given.operands[0] == "-" || Over::of(given)?.is_from("-") {
         return Err(Fault::Usage("standard input has the places".into()));
     }
     let file = given.file()?;
-    let places = places()?;
-    let marked = file.call(|input| input.places(&places))?;
-    let lines = marked.answers.into_iter().map(found);
-    Ok(Answer::accepted(lines.collect()))
+    let (places, wrong) = places()?;
+    let found = file.call(|input| find(input, &places))?;
+    let marked: Vec<Marked> = places.into_iter().zip(found).collect();
+    let tree = file.tree()?;
+    let mut answer = Answer::many(given, &table(&tree, &marked), || lines(&tree, &marked));
+    wrong.iter().for_each(|line| tell(line));
+    if !wrong.is_empty() || marked.iter().any(|(_, found)| found.is_err()) {
+        answer.status = REFUSED;
+    }
+    Ok(answer)
 }

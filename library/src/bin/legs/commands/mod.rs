@@ -7,6 +7,7 @@ mod draft;
 mod fold;
 mod leaf;
 mod mark;
+mod nodes;
 mod place;
 mod plan;
 mod print;
@@ -17,16 +18,17 @@ mod widen;
 
 use std::ffi::OsString;
 use std::fmt::Display;
-
-use leg_sheet::LeafPlace;
+use std::io::{self, IsTerminal};
 
 use crate::fault::{Fault, REFUSED};
 use crate::given::Given;
-use crate::options::{setting, Opt, NO_LINES, SETTINGS};
+use crate::options::{setting, Opt, FORCE, JSON, NO_LINES, SETTINGS, TSV};
+use crate::table::{Format, Table};
 
 /// In the order of `--help`.
 pub const COMMANDS: &[Command] = &[
     print::COMMAND,
+    nodes::COMMAND,
     sizes::COMMAND,
     leaf::COMMAND,
     place::COMMAND,
@@ -107,6 +109,9 @@ impl Command {
             }
             names.push(name);
         }
+        if given.has(TSV.name) && given.has(JSON.name) {
+            return Err(Fault::Usage("--tsv or --json".into()));
+        }
         Ok(())
     }
 
@@ -163,12 +168,46 @@ pub struct Answer {
 
 impl Answer {
     pub fn accepted(text: String) -> Answer {
-        Answer::file(text.into())
+        Answer::text(text.into())
     }
 
-    /// Bytes that a command takes.
-    fn file(bytes: Vec<u8>) -> Answer {
+    /// The bytes of a text.
+    fn text(bytes: Vec<u8>) -> Answer {
         Answer { bytes, status: 0 }
+    }
+
+    /// Bytes that a command takes. They are not written to a terminal, unless that is asked for.
+    fn bytes(given: &Given, bytes: Vec<u8>) -> Result<Answer, Fault> {
+        if io::stdout().is_terminal() && !given.has(FORCE.name) {
+            let words = "these are bytes, and standard output is a terminal: > FILE, or --force";
+            return Err(Fault::Usage(words.into()));
+        }
+        Ok(Answer::text(bytes))
+    }
+
+    /// Records in the form that is asked for, which for people is this text.
+    fn many<const N: usize>(
+        given: &Given,
+        table: &Table<N>,
+        text: impl FnOnce() -> String,
+    ) -> Answer {
+        Answer::accepted(match Format::of(given) {
+            Format::People => text(),
+            Format::Tsv => table.tsv(),
+            Format::Json => table.json(),
+        })
+    }
+
+    /// The same of one record, which is no list.
+    fn one<const N: usize>(
+        given: &Given,
+        table: &Table<N>,
+        text: impl FnOnce() -> String,
+    ) -> Answer {
+        match Format::of(given) {
+            Format::Json => Answer::accepted(table.json_one()),
+            _ => Answer::many(given, table, text),
+        }
     }
 
     /// Nothing to say.
@@ -182,11 +221,6 @@ impl Answer {
             status: REFUSED,
         }
     }
-}
-
-/// A leaf and a place in its block, as a line.
-fn found(LeafPlace { node, line, column }: LeafPlace) -> String {
-    format!("node {node}: line {line}, column {column} of its block\n")
 }
 
 /// Items in a line.

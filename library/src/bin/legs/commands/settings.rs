@@ -3,13 +3,13 @@ use leg_sheet::Settings;
 use super::{Answer, Command};
 use crate::fault::Fault;
 use crate::given::Given;
-use crate::options::BYTES;
+use crate::options::{BYTES, FORCE};
 use crate::over::{read_over, Over};
 
 pub const COMMAND: Command = Command {
     name: "settings",
     operands: &["[FILE]"],
-    options: &[BYTES],
+    options: &[BYTES, FORCE],
     takes_settings: true,
     about: "the settings of FILE, or the default ones, in words",
     run,
@@ -23,7 +23,7 @@ fn run(given: &Given) -> Result<Answer, Fault> {
     })?;
     let bytes = Over::of(given)?.over("the settings", own)?;
     if given.has(BYTES.name) {
-        return Ok(Answer::file(bytes));
+        return Answer::bytes(given, bytes);
     }
     let settings = Settings::from_bytes(&bytes);
     let settings = settings.map_err(|refusal| Fault::refused("the settings", refusal))?;

@@ -1,15 +1,15 @@
-use std::fmt::Display;
-
 use leg_sheet::SizeRecord;
 
 use super::{Answer, Command};
 use crate::fault::Fault;
 use crate::given::Given;
+use crate::options::{JSON, TSV};
+use crate::table::{Field, Table};
 
 pub const COMMAND: Command = Command {
     name: "sizes",
     operands: &["FILE"],
-    options: &[],
+    options: &[TSV, JSON],
     takes_settings: true,
     about: "what each node needs and is allotted, and the nodes below it, by its number",
     run,
@@ -17,23 +17,28 @@ pub const COMMAND: Command = Command {
 
 fn run(given: &Given) -> Result<Answer, Fault> {
     let sizes = given.file()?.call(|input| input.sizes())?;
-    let mut text = line([
-        "node",
-        "natural width",
-        "natural height",
-        "allotted width",
-        "allotted height",
-        "nodes below",
-    ]);
-    text.extend(sizes.iter().enumerate().map(record));
-    Ok(Answer::accepted(text))
+    let table = Table {
+        names: [
+            "node",
+            "natural_width",
+            "natural_height",
+            "allotted_width",
+            "allotted_height",
+            "nodes_below",
+        ],
+        rows: sizes.iter().enumerate().map(record).collect(),
+    };
+    Ok(Answer::many(given, &table, || table.columns()))
 }
 
-fn record((node, size): (usize, &SizeRecord)) -> String {
-    let [natural_width, natural_height, width, height, below] = size.to_numbers().map(usize::from);
-    line([node, natural_width, natural_height, width, height, below])
-}
-
-fn line<T: Display>([node, natural_width, natural_height, width, height, below]: [T; 6]) -> String {
-    format!("{node:>4}{natural_width:>15}{natural_height:>16}{width:>16}{height:>17}{below:>13}\n")
+fn record((node, size): (usize, &SizeRecord)) -> [Field; 6] {
+    let [natural_width, natural_height, width, height, below] = size.to_numbers().map(Field::from);
+    [
+        node.into(),
+        natural_width,
+        natural_height,
+        width,
+        height,
+        below,
+    ]
 }

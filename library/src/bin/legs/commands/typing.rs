@@ -19,16 +19,20 @@ pub const COMMAND: Command = Command {
 fn run(given: &Given) -> Result<Answer, Fault> {
     let file = given.file()?;
     file.call(|input| Settings::from_bytes(input.settings))?;
-    let text = file.call(|input| Tree::from_bytes(input.tree))?.typed();
-    if !gives(&text, file.input().tree) {
-        let error = io::Error::other("typed, it is read as another tree");
-        return Err(Fault::Failed(file.name, error));
-    }
-    Ok(Answer::accepted(text))
+    let tree = file.tree()?;
+    typed(&file.name, &tree).map(Answer::accepted)
 }
 
-/// Whether the proved reader makes these bytes of the text.
-fn gives(text: &str, tree: &[u8]) -> bool {
-    let mut back = vec![0; tree.len()];
-    calls::read_typed(text.as_bytes(), &mut back) == Ok(tree.len()) && back == tree
+/// A tree as a typed list, of which the proved reader has made the same tree.
+pub fn typed(name: &str, tree: &Tree) -> Result<String, Fault> {
+    let text = tree.typed();
+    let bytes = tree
+        .to_bytes()
+        .map_err(|refusal| Fault::refused(name, refusal))?;
+    let mut back = vec![0; bytes.len()];
+    if calls::read_typed(text.as_bytes(), &mut back) != Ok(bytes.len()) || back != bytes {
+        let error = io::Error::other("typed, it is read as another tree");
+        return Err(Fault::Failed(name.into(), error));
+    }
+    Ok(text)
 }
