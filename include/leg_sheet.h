@@ -135,7 +135,9 @@ uint64_t leg_sizes(const uint8_t *settings, size_t settings_len, const uint8_t *
 /* A leaf's record. 1 to 6, 9; 8 last, where `out` has under LEG_RECORD numbers. Writes node, width, height; first_row, last_row, first_col, last_col,
  * no_right, lean_top, top_left, top_intersection (1 or 0); the pair (leg_short_splits3) of the cut that its parent made for it, of the horizontal list in
  * a Row, of the vertical one in a Column; 0 0 for the root; the horizontal list, then the vertical one, each a count and 512 entries with 0 past the
- * count. Counts LEG_RECORD. */
+ * count. A length left of 0 in the pair tells nothing: borders may meet there, nothing may stand there, or the piece was lost on the way into a nested group. Ask leg_place for the cell
+ * above the crossing at the leaf's top right, or in a Column beside the one at its bottom left: the place one line above the crossing, or one column to its left. Counts
+ * LEG_RECORD. */
 uint64_t leg_leaf_record(const uint8_t *settings, size_t settings_len, const uint8_t *tree, size_t tree_len, size_t node, uint16_t *out, size_t out_len);
 
 /* Prints a leaf's block, its lines joined by 0A. 1 to 6, 9, 8. Counts the bytes written. */

@@ -149,6 +149,9 @@ pub struct CutPair {
     /// How many pieces it took.
     pub taken: usize,
     /// The length left of the first piece not taken; 0 if there is none or it was removed.
+    ///
+    /// In a leaf's record 0 tells nothing: borders may meet there, nothing may stand there, or the piece was lost on the way into a nested group. The cell above the crossing at the leaf's
+    /// top right, or in a Column beside the one at its bottom left, is that of the [place](crate::place) one line above the crossing, or one column to its left.
     pub rest: u16,
 }
 

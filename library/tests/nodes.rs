@@ -160,6 +160,55 @@ fn starts_are_refused_as_sheets_are() {
     assert_eq!(bad.starts(), Err(Refusal::BadSettings));
 }
 
+/// The length left of a cut, where it is not 0, is that of the cell above the crossing at a leaf's top right, or beside the one at its bottom left, from the crossing on; which cell that is
+/// the place next to the crossing says, also where the length is 0.
+#[test]
+fn the_cell_at_a_crossing() {
+    let mut seed = 5;
+    let (mut cut, mut under) = (0, 0);
+    for round in 0..400 {
+        let tree = some_tree(&mut seed, 3 + round % 4);
+        let (settings, bytes) = (some_settings(round % 2).to_bytes(), tree.to_bytes());
+        let tree_bytes = bytes.expect("a tree");
+        let input = Input {
+            settings: &settings,
+            tree: &tree_bytes,
+        };
+        let Ok(starts) = input.starts() else {
+            continue;
+        };
+        for node in tree.nodes().filter(|node| node.is_leaf()) {
+            let leaf = input.leaf_record(node.number).expect("a leaf");
+            let parent = node.parent.and_then(|parent| tree.node(parent));
+            let (start, is_row) = (starts[node.number], matches!(parent, Some(Tree::Row(_))));
+            let Place { line, column } = start.expect("a start");
+            // The place next to the crossing, and how far it is from the start of its own leaf's inside to the crossing.
+            let next = if is_row {
+                (line.wrapping_sub(1), column + 1 + usize::from(leaf.width))
+            } else {
+                (line + 1 + usize::from(leaf.height), column.wrapping_sub(1))
+            };
+            let Ok(at) = input.place(next.0, next.1) else {
+                assert_eq!(leaf.pair.rest, 0);
+                continue;
+            };
+            let other = input.leaf_record(at.node).expect("a leaf");
+            let (passed, size) = if is_row {
+                (at.column, usize::from(other.width))
+            } else {
+                (at.line, usize::from(other.height))
+            };
+            let is_inside = 0 < passed && passed <= size;
+            if leaf.pair.rest > 0 {
+                assert_eq!(usize::from(leaf.pair.rest), size - passed);
+                cut += 1;
+            }
+            under += usize::from(is_inside);
+        }
+    }
+    assert!(cut > 200 && under > cut, "{cut} {under}");
+}
+
 /// A range is a line that begins with `? `; what is none is told with its place.
 #[test]
 fn plans_are_typed() {
