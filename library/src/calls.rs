@@ -71,7 +71,7 @@ fn answer(word: u64) -> Result<usize, Refusal> {
 /// Reads settings, with a margin or without, and writes the [`SETTINGS`] numbers of the first field.
 ///
 /// # Errors
-/// 1, 8.
+/// [`BadSettings`](Refusal::BadSettings), [`TooShort`](Refusal::TooShort).
 pub fn read_settings(bytes: &[u8], out: &mut [u16]) -> Result<usize, Refusal> {
     // SAFETY: pointers and lengths of slices that are borrowed here.
     answer(unsafe {
@@ -82,7 +82,7 @@ pub fn read_settings(bytes: &[u8], out: &mut [u16]) -> Result<usize, Refusal> {
 /// Reads the same settings and writes the [`MARGIN`] numbers of the margin: without one four 0 and four spaces.
 ///
 /// # Errors
-/// 1, 8.
+/// [`BadSettings`](Refusal::BadSettings), [`TooShort`](Refusal::TooShort).
 pub fn read_margin(bytes: &[u8], out: &mut [u16]) -> Result<usize, Refusal> {
     // SAFETY: pointers and lengths of slices that are borrowed here.
     answer(unsafe {
@@ -93,7 +93,7 @@ pub fn read_margin(bytes: &[u8], out: &mut [u16]) -> Result<usize, Refusal> {
 /// Reads a tree and counts its nodes.
 ///
 /// # Errors
-/// 2 to 5.
+/// [`BadTree`](Refusal::BadTree), [`BadText`](Refusal::BadText), [`TooManyNodes`](Refusal::TooManyNodes), [`TooDeep`](Refusal::TooDeep).
 pub fn read_tree(tree: &[u8]) -> Result<usize, Refusal> {
     // SAFETY: pointer and length of a slice that is borrowed here.
     answer(unsafe { raw::leg_read_tree(tree.as_ptr(), tree.len()) })
@@ -102,7 +102,8 @@ pub fn read_tree(tree: &[u8]) -> Result<usize, Refusal> {
 /// Writes [`SIZES`] numbers for each node: natural width and height, allotted width and height, and the number of nodes below it. Counts the nodes.
 ///
 /// # Errors
-/// 1 to 5, 8.
+/// [`BadSettings`](Refusal::BadSettings), [`BadTree`](Refusal::BadTree), [`BadText`](Refusal::BadText), [`TooManyNodes`](Refusal::TooManyNodes), [`TooDeep`](Refusal::TooDeep),
+/// [`TooShort`](Refusal::TooShort).
 pub fn sizes(settings: &[u8], tree: &[u8], list: &mut [u16]) -> Result<usize, Refusal> {
     // SAFETY: pointers and lengths of slices that are borrowed here.
     answer(unsafe {
@@ -120,7 +121,8 @@ pub fn sizes(settings: &[u8], tree: &[u8], list: &mut [u16]) -> Result<usize, Re
 /// Writes the [`RECORD`] numbers of a leaf.
 ///
 /// # Errors
-/// 1 to 6, 9, 8.
+/// [`BadSettings`](Refusal::BadSettings), [`BadTree`](Refusal::BadTree), [`BadText`](Refusal::BadText), [`TooManyNodes`](Refusal::TooManyNodes), [`TooDeep`](Refusal::TooDeep),
+/// [`TooLarge`](Refusal::TooLarge), [`NoLeaf`](Refusal::NoLeaf), [`TooShort`](Refusal::TooShort).
 pub fn leaf_record(
     settings: &[u8],
     tree: &[u8],
@@ -144,7 +146,8 @@ pub fn leaf_record(
 /// Prints a leaf's block, without the margin, [`SHEET`] bytes at the most.
 ///
 /// # Errors
-/// 1 to 6, 9, 8.
+/// [`BadSettings`](Refusal::BadSettings), [`BadTree`](Refusal::BadTree), [`BadText`](Refusal::BadText), [`TooManyNodes`](Refusal::TooManyNodes), [`TooDeep`](Refusal::TooDeep),
+/// [`TooLarge`](Refusal::TooLarge), [`NoLeaf`](Refusal::NoLeaf), [`TooShort`](Refusal::TooShort).
 pub fn print_leaf(
     settings: &[u8],
     tree: &[u8],
@@ -168,7 +171,8 @@ pub fn print_leaf(
 /// Prints the sheet with its margin, [`SHEET`] bytes at the most.
 ///
 /// # Errors
-/// 1 to 6, 8.
+/// [`BadSettings`](Refusal::BadSettings), [`BadTree`](Refusal::BadTree), [`BadText`](Refusal::BadText), [`TooManyNodes`](Refusal::TooManyNodes), [`TooDeep`](Refusal::TooDeep),
+/// [`TooLarge`](Refusal::TooLarge), [`TooShort`](Refusal::TooShort).
 pub fn print_sheet(settings: &[u8], tree: &[u8], out: &mut [u8]) -> Result<usize, Refusal> {
     // SAFETY: pointers and lengths of slices that are borrowed here.
     answer(unsafe {
@@ -186,7 +190,8 @@ pub fn print_sheet(settings: &[u8], tree: &[u8], out: &mut [u8]) -> Result<usize
 /// Writes the [`PLACE`] numbers of the leaf that has this line and column of the printed sheet, its margin included.
 ///
 /// # Errors
-/// 1 to 6, 12, 13, 8.
+/// [`BadSettings`](Refusal::BadSettings), [`BadTree`](Refusal::BadTree), [`BadText`](Refusal::BadText), [`TooManyNodes`](Refusal::TooManyNodes), [`TooDeep`](Refusal::TooDeep),
+/// [`TooLarge`](Refusal::TooLarge), [`OutsideSheet`](Refusal::OutsideSheet), [`InMargin`](Refusal::InMargin), [`TooShort`](Refusal::TooShort).
 pub fn place(
     settings: &[u8],
     tree: &[u8],
@@ -214,7 +219,9 @@ pub fn place(
 /// reads an answer.
 ///
 /// # Errors
-/// 1 to 6, 14, the 12 or 13 of the first place that has one, 8.
+/// [`BadSettings`](Refusal::BadSettings), [`BadTree`](Refusal::BadTree), [`BadText`](Refusal::BadText), [`TooManyNodes`](Refusal::TooManyNodes), [`TooDeep`](Refusal::TooDeep),
+/// [`TooLarge`](Refusal::TooLarge), [`TooManyPlaces`](Refusal::TooManyPlaces), the [`OutsideSheet`](Refusal::OutsideSheet) or [`InMargin`](Refusal::InMargin) of the first
+/// place that has one, [`TooShort`](Refusal::TooShort).
 pub fn places(
     settings: &[u8],
     tree: &[u8],
@@ -242,7 +249,8 @@ pub fn places(
 /// cells each Column has, and to `found` the [`FOUND`] numbers. Counts the Columns. [`Folded`](crate::Folded) says what is found.
 ///
 /// # Errors
-/// 1 to 5, 15, 16; 8 where `columns` has fewer numbers than there are Columns.
+/// [`BadSettings`](Refusal::BadSettings), [`BadTree`](Refusal::BadTree), [`BadText`](Refusal::BadText), [`TooManyNodes`](Refusal::TooManyNodes), [`TooDeep`](Refusal::TooDeep),
+/// [`NotAList`](Refusal::NotAList), [`TooWide`](Refusal::TooWide); [`TooShort`](Refusal::TooShort) where `columns` has fewer numbers than there are Columns.
 pub fn fold(
     settings: &[u8],
     tree: &[u8],
@@ -271,7 +279,8 @@ pub fn fold(
 /// ranges are put in, and each end is reached by some texts. Nothing is too large here.
 ///
 /// # Errors
-/// 1 to 5, 17. Every other call refuses a range with 2.
+/// [`BadSettings`](Refusal::BadSettings), [`BadTree`](Refusal::BadTree), [`BadText`](Refusal::BadText), [`TooManyNodes`](Refusal::TooManyNodes), [`TooDeep`](Refusal::TooDeep),
+/// [`BadRange`](Refusal::BadRange). Every other call refuses a range with [`BadTree`](Refusal::BadTree).
 pub fn plan(settings: &[u8], tree: &[u8], ends: &mut [u32; ENDS]) -> Result<usize, Refusal> {
     // SAFETY: pointers and lengths of slices, and a pointer to four numbers, that are borrowed here.
     answer(unsafe {
@@ -289,7 +298,8 @@ pub fn plan(settings: &[u8], tree: &[u8], ends: &mut [u32; ENDS]) -> Result<usiz
 /// index, the fewest letters first, equal ones by node. Counts the Cells, [`NODES`] at the most. Nothing is too large here.
 ///
 /// # Errors
-/// 1 to 5; 8 where either list has fewer numbers than there are Cells.
+/// [`BadSettings`](Refusal::BadSettings), [`BadTree`](Refusal::BadTree), [`BadText`](Refusal::BadText), [`TooManyNodes`](Refusal::TooManyNodes), [`TooDeep`](Refusal::TooDeep);
+/// [`TooShort`](Refusal::TooShort) where either list has fewer numbers than there are Cells.
 pub fn widen(
     settings: &[u8],
     tree: &[u8],
@@ -315,7 +325,8 @@ pub fn widen(
 /// [`DraftStore`](crate::DraftStore) says more of a store.
 ///
 /// # Errors
-/// 18, 19, the tree's 2 to 5, 20.
+/// [`BadStore`](Refusal::BadStore), [`NoDraft`](Refusal::NoDraft), the tree's [`BadTree`](Refusal::BadTree), [`BadText`](Refusal::BadText),
+/// [`TooManyNodes`](Refusal::TooManyNodes), [`TooDeep`](Refusal::TooDeep), [`NoRoom`](Refusal::NoRoom).
 pub fn save_draft(store: &mut [u8], name: u8, tree: &[u8]) -> Result<usize, Refusal> {
     // SAFETY: pointers and lengths of slices that are borrowed here.
     answer(unsafe {
@@ -332,7 +343,7 @@ pub fn save_draft(store: &mut [u8], name: u8, tree: &[u8]) -> Result<usize, Refu
 /// Forgets a draft, and counts nothing: those behind it close up, and the bytes that are freed are zero.
 ///
 /// # Errors
-/// 18, 19.
+/// [`BadStore`](Refusal::BadStore), [`NoDraft`](Refusal::NoDraft).
 pub fn forget_draft(store: &mut [u8], name: u8) -> Result<usize, Refusal> {
     // SAFETY: pointer and length of a slice that is borrowed here.
     answer(unsafe { raw::leg_forget_draft(store.as_mut_ptr(), store.len(), name) })
@@ -341,7 +352,7 @@ pub fn forget_draft(store: &mut [u8], name: u8) -> Result<usize, Refusal> {
 /// Copies a draft's tree out, and counts its bytes.
 ///
 /// # Errors
-/// 18, 19, 8.
+/// [`BadStore`](Refusal::BadStore), [`NoDraft`](Refusal::NoDraft), [`TooShort`](Refusal::TooShort).
 pub fn return_draft(store: &[u8], name: u8, out: &mut [u8]) -> Result<usize, Refusal> {
     // SAFETY: pointers and lengths of slices that are borrowed here.
     answer(unsafe {
@@ -360,7 +371,8 @@ pub fn return_draft(store: &[u8], name: u8, out: &mut [u8]) -> Result<usize, Ref
 /// with the same sheet outside the texts' own bytes.
 ///
 /// # Errors
-/// 2 to 5; 9 where a number names no Cell; 8 where `out` has fewer bytes than the tree.
+/// [`BadTree`](Refusal::BadTree), [`BadText`](Refusal::BadText), [`TooManyNodes`](Refusal::TooManyNodes), [`TooDeep`](Refusal::TooDeep); [`NoLeaf`](Refusal::NoLeaf) where a
+/// number names no Cell; [`TooShort`](Refusal::TooShort) where `out` has fewer bytes than the tree.
 pub fn blank(tree: &[u8], nodes: &[u16], out: &mut [u8]) -> Result<usize, Refusal> {
     // SAFETY: pointers and lengths of slices that are borrowed here.
     answer(unsafe {
@@ -378,7 +390,10 @@ pub fn blank(tree: &[u8], nodes: &[u16], out: &mut [u8]) -> Result<usize, Refusa
 /// Reads a typed list and writes the bytes of its tree, [`TREE`] at the most, which every other call takes. Counts them. The settings are not part of a typed list.
 ///
 /// # Errors
-/// 30; the first fault in reading order, 31 to 39, with its line and column; 8 where `out` has fewer bytes than the tree.
+/// [`ListTooLong`](Refusal::ListTooLong); the first fault in reading order, [`BadCharacter`](Refusal::BadCharacter), [`BadEscape`](Refusal::BadEscape),
+/// [`OddIndent`](Refusal::OddIndent), [`SecondRoot`](Refusal::SecondRoot), [`NoParent`](Refusal::NoParent), [`ListTooDeep`](Refusal::ListTooDeep),
+/// [`ListTooMany`](Refusal::ListTooMany), [`ListTooLarge`](Refusal::ListTooLarge), [`ListEmpty`](Refusal::ListEmpty), with its line and column; [`TooShort`](Refusal::TooShort)
+/// where `out` has fewer bytes than the tree.
 pub fn read_typed(text: &[u8], out: &mut [u8]) -> Result<usize, TypedFault> {
     // SAFETY: pointers and lengths of slices that are borrowed here.
     let word =
@@ -389,7 +404,7 @@ pub fn read_typed(text: &[u8], out: &mut [u8]) -> Result<usize, TypedFault> {
 /// Cuts the list of the first `count` pieces at `width` and writes [`CUT`] numbers.
 ///
 /// # Errors
-/// 8 where a list is too short, `pieces` among them; 10.
+/// [`TooShort`](Refusal::TooShort) where a list is too short, `pieces` among them; [`TooManyPieces`](Refusal::TooManyPieces).
 pub fn short_splits3(
     pieces: &[u16],
     count: usize,
@@ -412,7 +427,7 @@ pub fn short_splits3(
 /// The same cut, with the list left in the place of the lent one, in its first 512 numbers, 0 past the count; writes [`LENT_CUT`] numbers to `out`.
 ///
 /// # Errors
-/// 8 where a list is too short, `pieces` among them; 10.
+/// [`TooShort`](Refusal::TooShort) where a list is too short, `pieces` among them; [`TooManyPieces`](Refusal::TooManyPieces).
 pub fn short_splits3_lent(
     pieces: &mut [u16],
     count: usize,
@@ -435,7 +450,7 @@ pub fn short_splits3_lent(
 /// Cuts the list and writes the positions and the list left, [`LIST`] numbers each.
 ///
 /// # Errors
-/// 8 where a list is too short, `pieces` among them; 10.
+/// [`TooShort`](Refusal::TooShort) where a list is too short, `pieces` among them; [`TooManyPieces`](Refusal::TooManyPieces).
 pub fn short_splits(
     pieces: &[u16],
     count: usize,
@@ -461,7 +476,7 @@ pub fn short_splits(
 /// Writes the part of `spare` that child `index` of `n` gets, and counts nothing. Priority 0 is First, 1 Last, every number over 1 List.
 ///
 /// # Errors
-/// 11.
+/// [`NoChild`](Refusal::NoChild).
 pub fn share(
     spare: usize,
     n: usize,

@@ -65,7 +65,8 @@ impl<'a> DraftStore<'a> {
     /// Saves a tree under a name: an older draft of that name is dropped.
     ///
     /// # Errors
-    /// 18, 19, the tree's 2 to 5, 20. The older draft stays then.
+    /// [`BadStore`](Refusal::BadStore), [`NoDraft`](Refusal::NoDraft), the tree's [`BadTree`](Refusal::BadTree), [`BadText`](Refusal::BadText),
+    /// [`TooManyNodes`](Refusal::TooManyNodes), [`TooDeep`](Refusal::TooDeep), [`NoRoom`](Refusal::NoRoom). The older draft stays then.
     pub fn save(&mut self, name: u8, tree: &Tree) -> Result<(), Refusal> {
         self.save_bytes(name, &tree.unread())
     }
@@ -73,7 +74,8 @@ impl<'a> DraftStore<'a> {
     /// Saves the bytes of a tree.
     ///
     /// # Errors
-    /// 18, 19, the tree's 2 to 5, 20. The older draft stays then.
+    /// [`BadStore`](Refusal::BadStore), [`NoDraft`](Refusal::NoDraft), the tree's [`BadTree`](Refusal::BadTree), [`BadText`](Refusal::BadText),
+    /// [`TooManyNodes`](Refusal::TooManyNodes), [`TooDeep`](Refusal::TooDeep), [`NoRoom`](Refusal::NoRoom). The older draft stays then.
     pub fn save_bytes(&mut self, name: u8, tree: &[u8]) -> Result<(), Refusal> {
         calls::save_draft(self.bytes, name, tree).map(|_| ())
     }
@@ -81,7 +83,7 @@ impl<'a> DraftStore<'a> {
     /// Forgets a draft. Its bytes are free for the next save.
     ///
     /// # Errors
-    /// 18, 19.
+    /// [`BadStore`](Refusal::BadStore), [`NoDraft`](Refusal::NoDraft).
     pub fn forget(&mut self, name: u8) -> Result<(), Refusal> {
         calls::forget_draft(self.bytes, name).map(|_| ())
     }
@@ -89,7 +91,8 @@ impl<'a> DraftStore<'a> {
     /// The tree that was saved under a name.
     ///
     /// # Errors
-    /// 18, 19; in a store that no call has made also 2 to 5, where there is no tree under the name.
+    /// [`BadStore`](Refusal::BadStore), [`NoDraft`](Refusal::NoDraft); in a store that no call has made also [`BadTree`](Refusal::BadTree), [`BadText`](Refusal::BadText),
+    /// [`TooManyNodes`](Refusal::TooManyNodes), [`TooDeep`](Refusal::TooDeep), where there is no tree under the name.
     pub fn return_to(&self, name: u8) -> Result<Tree, Refusal> {
         Tree::from_bytes(&self.return_bytes(name)?)
     }
@@ -97,7 +100,7 @@ impl<'a> DraftStore<'a> {
     /// The bytes of the tree that was saved under a name.
     ///
     /// # Errors
-    /// 18, 19.
+    /// [`BadStore`](Refusal::BadStore), [`NoDraft`](Refusal::NoDraft).
     pub fn return_bytes(&self, name: u8) -> Result<Vec<u8>, Refusal> {
         let mut out = vec![0; self.bytes.len().min(CONTENTS)];
         let count = self.copy_out(name, &mut out)?;
@@ -108,7 +111,7 @@ impl<'a> DraftStore<'a> {
     /// Copies these bytes to a lent buffer and counts them; what is past them stays.
     ///
     /// # Errors
-    /// 18, 19, 8.
+    /// [`BadStore`](Refusal::BadStore), [`NoDraft`](Refusal::NoDraft), [`TooShort`](Refusal::TooShort).
     pub fn copy_out(&self, name: u8, out: &mut [u8]) -> Result<usize, Refusal> {
         calls::return_draft(self.bytes, name, out)
     }
@@ -116,7 +119,7 @@ impl<'a> DraftStore<'a> {
     /// The drafts of the store, by name.
     ///
     /// # Errors
-    /// 18.
+    /// [`BadStore`](Refusal::BadStore).
     pub fn list(&self) -> Result<Vec<Draft>, Refusal> {
         let mut out = vec![0; self.bytes.len().min(CONTENTS)];
         let mut drafts = Vec::new();
@@ -133,7 +136,7 @@ impl<'a> DraftStore<'a> {
     /// The bytes that no draft has. A tree takes three more than its own.
     ///
     /// # Errors
-    /// 18.
+    /// [`BadStore`](Refusal::BadStore).
     pub fn free(&self) -> Result<usize, Refusal> {
         let drafts = self.list()?;
         let used: usize = drafts.iter().map(|draft| FRONT + draft.length).sum();

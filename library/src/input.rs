@@ -2,7 +2,7 @@
 
 use crate::calls;
 use crate::records::{Folded, LeafPlace, LeafRecord, Marked, Need, Place, Planned, SizeRecord};
-use crate::refusal::Refusal;
+use crate::refusal::{PlacesRefusal, Refusal};
 use crate::tree;
 
 /// The settings' first field, and the margin's: a tag, a two-byte length and as many bytes.
@@ -49,7 +49,8 @@ impl<'a> Input<'a> {
     /// The sheet, with its margin.
     ///
     /// # Errors
-    /// 1 to 6.
+    /// [`BadSettings`](Refusal::BadSettings), [`BadTree`](Refusal::BadTree), [`BadText`](Refusal::BadText), [`TooManyNodes`](Refusal::TooManyNodes),
+    /// [`TooDeep`](Refusal::TooDeep), [`TooLarge`](Refusal::TooLarge).
     pub fn print_sheet(self) -> Result<String, Refusal> {
         printed(|out| calls::print_sheet(self.settings, self.tree, out))
     }
@@ -57,7 +58,8 @@ impl<'a> Input<'a> {
     /// A leaf's block, without the margin.
     ///
     /// # Errors
-    /// 1 to 6, 9.
+    /// [`BadSettings`](Refusal::BadSettings), [`BadTree`](Refusal::BadTree), [`BadText`](Refusal::BadText), [`TooManyNodes`](Refusal::TooManyNodes),
+    /// [`TooDeep`](Refusal::TooDeep), [`TooLarge`](Refusal::TooLarge), [`NoLeaf`](Refusal::NoLeaf).
     pub fn print_leaf(self, node: usize) -> Result<String, Refusal> {
         printed(|out| calls::print_leaf(self.settings, self.tree, node, out))
     }
@@ -65,7 +67,8 @@ impl<'a> Input<'a> {
     /// The size of each node, by its number, and how many nodes are below it.
     ///
     /// # Errors
-    /// 1 to 5.
+    /// [`BadSettings`](Refusal::BadSettings), [`BadTree`](Refusal::BadTree), [`BadText`](Refusal::BadText), [`TooManyNodes`](Refusal::TooManyNodes),
+    /// [`TooDeep`](Refusal::TooDeep).
     pub fn sizes(self) -> Result<Vec<SizeRecord>, Refusal> {
         let mut list = [[0; calls::SIZES]; calls::NODES];
         let count = calls::sizes(self.settings, self.tree, list.as_flattened_mut())?;
@@ -76,7 +79,8 @@ impl<'a> Input<'a> {
     /// A leaf's record.
     ///
     /// # Errors
-    /// 1 to 6, 9.
+    /// [`BadSettings`](Refusal::BadSettings), [`BadTree`](Refusal::BadTree), [`BadText`](Refusal::BadText), [`TooManyNodes`](Refusal::TooManyNodes),
+    /// [`TooDeep`](Refusal::TooDeep), [`TooLarge`](Refusal::TooLarge), [`NoLeaf`](Refusal::NoLeaf).
     pub fn leaf_record(self, node: usize) -> Result<LeafRecord, Refusal> {
         let mut out = [0; calls::RECORD];
         calls::leaf_record(self.settings, self.tree, node, &mut out)?;
@@ -86,7 +90,8 @@ impl<'a> Input<'a> {
     /// The leaf of a place of the printed sheet, its margin included.
     ///
     /// # Errors
-    /// 1 to 6, 12, 13.
+    /// [`BadSettings`](Refusal::BadSettings), [`BadTree`](Refusal::BadTree), [`BadText`](Refusal::BadText), [`TooManyNodes`](Refusal::TooManyNodes),
+    /// [`TooDeep`](Refusal::TooDeep), [`TooLarge`](Refusal::TooLarge), [`OutsideSheet`](Refusal::OutsideSheet), [`InMargin`](Refusal::InMargin).
     pub fn place(self, line: usize, column: usize) -> Result<LeafPlace, Refusal> {
         let mut out = [0; calls::PLACE];
         calls::place(self.settings, self.tree, line, column, &mut out)?;
@@ -96,13 +101,16 @@ impl<'a> Input<'a> {
     /// The leaves of up to 256 places, in their order, each as [`place`](Input::place) answers it alone.
     ///
     /// # Errors
-    /// 1 to 6, 14, then the 12 or 13 of the first place that has one.
-    pub fn places(self, places: &[Place]) -> Result<Marked, Refusal> {
+    /// [`BadSettings`](Refusal::BadSettings), [`BadTree`](Refusal::BadTree), [`BadText`](Refusal::BadText), [`TooManyNodes`](Refusal::TooManyNodes),
+    /// [`TooDeep`](Refusal::TooDeep), [`TooLarge`](Refusal::TooLarge), [`TooManyPlaces`](Refusal::TooManyPlaces), then the [`OutsideSheet`](Refusal::OutsideSheet) or
+    /// [`InMargin`](Refusal::InMargin) of the first place that has one, with its index.
+    pub fn places(self, places: &[Place]) -> Result<Marked, PlacesRefusal> {
         // One too many is refused as all of them are.
         let list = places.iter().take(calls::PLACES + 1);
         let numbers: Vec<u64> = list.map(|place| place.to_number()).collect();
         let (mut answers, mut read) = ([0; calls::PLACES], 0);
-        let count = calls::places(self.settings, self.tree, &numbers, &mut answers, &mut read)?;
+        let count = calls::places(self.settings, self.tree, &numbers, &mut answers, &mut read)
+            .map_err(|refusal| self.refused_at(places, refusal))?;
         let written = answers.into_iter().take(count);
         Ok(Marked {
             answers: written.map(LeafPlace::from_number).collect(),
@@ -110,10 +118,19 @@ impl<'a> Input<'a> {
         })
     }
 
+    /// Which place of a list it is that was refused: the first that is refused alone.
+    fn refused_at(self, places: &[Place], refusal: Refusal) -> PlacesRefusal {
+        let is_of_place = [Refusal::OutsideSheet, Refusal::InMargin].contains(&refusal);
+        let is_refused = |place: &Place| self.place(place.line, place.column).is_err();
+        let place = places.iter().position(is_refused).filter(|_| is_of_place);
+        PlacesRefusal { refusal, place }
+    }
+
     /// The list folded into Columns of one Row that is no wider inside than `width`, with `budget` tries at the most.
     ///
     /// # Errors
-    /// 1 to 5, 15, 16.
+    /// [`BadSettings`](Refusal::BadSettings), [`BadTree`](Refusal::BadTree), [`BadText`](Refusal::BadText), [`TooManyNodes`](Refusal::TooManyNodes),
+    /// [`TooDeep`](Refusal::TooDeep), [`NotAList`](Refusal::NotAList), [`TooWide`](Refusal::TooWide).
     pub fn fold(self, width: usize, budget: usize) -> Result<Folded, Refusal> {
         let (mut columns, mut found) = ([0; calls::CELLS], [0; calls::FOUND]);
         let (settings, tree) = (self.settings, self.tree);
@@ -124,7 +141,8 @@ impl<'a> Input<'a> {
     /// How large the sheet of the planning tree will be.
     ///
     /// # Errors
-    /// 1 to 5, 17.
+    /// [`BadSettings`](Refusal::BadSettings), [`BadTree`](Refusal::BadTree), [`BadText`](Refusal::BadText), [`TooManyNodes`](Refusal::TooManyNodes),
+    /// [`TooDeep`](Refusal::TooDeep), [`BadRange`](Refusal::BadRange).
     pub fn plan(self) -> Result<Planned, Refusal> {
         let mut ends = [0; calls::ENDS];
         calls::plan(self.settings, self.tree, &mut ends)?;
@@ -134,7 +152,8 @@ impl<'a> Input<'a> {
     /// For each Cell the fewest letters that, added to its longest line alone, make the sheet wider; the fewest first, equal ones by node.
     ///
     /// # Errors
-    /// 1 to 5.
+    /// [`BadSettings`](Refusal::BadSettings), [`BadTree`](Refusal::BadTree), [`BadText`](Refusal::BadText), [`TooManyNodes`](Refusal::TooManyNodes),
+    /// [`TooDeep`](Refusal::TooDeep).
     pub fn widen(self) -> Result<Vec<Need>, Refusal> {
         let (mut nodes, mut letters) = ([0; calls::NODES], [0; calls::NODES]);
         let count = calls::widen(self.settings, self.tree, &mut nodes, &mut letters)?;
@@ -147,7 +166,7 @@ impl<'a> Input<'a> {
     /// The tree's bytes with the texts of these Cells blanked, of every Cell where none is named. The settings are not looked at.
     ///
     /// # Errors
-    /// 2 to 5, 9.
+    /// [`BadTree`](Refusal::BadTree), [`BadText`](Refusal::BadText), [`TooManyNodes`](Refusal::TooManyNodes), [`TooDeep`](Refusal::TooDeep), [`NoLeaf`](Refusal::NoLeaf).
     pub fn blank(self, nodes: &[usize]) -> Result<Vec<u8>, Refusal> {
         tree::blanked(self.tree, nodes)
     }

@@ -1,12 +1,12 @@
 //! Leg sheets: bordered ASCII tables of nested rows and columns, printed by proved code.
 //!
 //! ```
-//! use leg_sheet::{print_sheet, Refusal, Settings, Tree};
+//! use leg_sheet::{Refusal, Settings, Sheet, Tree};
 //!
 //! let tree = Tree::column(["leg 1".into(), Tree::row(["a", "b"])]);
-//! let sheet = print_sheet(&Settings::default(), &tree)?;
+//! let sheet = Sheet::new(Settings::default(), tree)?;
 //! assert_eq!(
-//!     sheet,
+//!     sheet.print()?,
 //!     "+-------+\n\
 //!      | leg 1 |\n\
 //!      +---+---+\n\
@@ -14,8 +14,8 @@
 //!      +---+---+"
 //! );
 //!
-//! let wide = Tree::from("x".repeat(397));
-//! assert_eq!(print_sheet(&Settings::default(), &wide), Err(Refusal::TooLarge));
+//! let wide = Sheet::new(Settings::default(), Tree::from("x".repeat(397)))?;
+//! assert_eq!(wide.print(), Err(Refusal::TooLarge));
 //! # Ok::<(), Refusal>(())
 //! ```
 //!
@@ -29,7 +29,7 @@
 //! # Ok::<(), TypedFault>(())
 //! ```
 //!
-//! The functions here take [`Settings`] and a [`Tree`], or a [`Plan`] of one, and answer values; those of [`Input`] take the two as bytes; those of [`calls`] take bytes and
+//! A [`Sheet`] has [`Settings`] and a [`Tree`]; the functions here take the two, or a [`Plan`], and answer values; those of [`Input`] take them as bytes; those of [`calls`] take bytes and
 //! write to buffers that the caller lends. A [`DraftStore`] keeps trees in such a buffer. Under all of them are the same proved functions, which decide every refusal and
 //! write every byte: this crate puts values into bytes and makes values of what was written.
 
@@ -45,6 +45,7 @@ mod raw;
 mod records;
 mod refusal;
 mod settings;
+mod sheet;
 mod starts;
 mod tree;
 mod typed;
@@ -59,8 +60,9 @@ pub use records::{
     next_sibling, CutAnswer, CutPair, CutParts, Flags, Folded, LeafPlace, LeafRecord, List, Marked,
     Need, Place, Planned, Positions, ShortParts, SizeRecord, SplitList,
 };
-pub use refusal::Refusal;
+pub use refusal::{PlacesRefusal, Refusal};
 pub use settings::{Alignment, Marks, Priority, Settings, Sides, Word, WordFault};
+pub use sheet::Sheet;
 pub use tree::Tree;
 pub use typed::TypedFault;
 pub use values::{

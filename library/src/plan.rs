@@ -80,7 +80,8 @@ impl Plan {
     /// The bytes of the planning tree, which [`calls::plan`] accepts.
     ///
     /// # Errors
-    /// 2 to 5, 17, as the proved reader says.
+    /// [`BadTree`](Refusal::BadTree), [`BadText`](Refusal::BadText), [`TooManyNodes`](Refusal::TooManyNodes), [`TooDeep`](Refusal::TooDeep), [`BadRange`](Refusal::BadRange),
+    /// as the proved reader says.
     pub fn to_bytes(&self) -> Result<Vec<u8>, Refusal> {
         let mut bytes = Vec::new();
         self.put(&mut bytes);

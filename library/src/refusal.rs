@@ -95,6 +95,51 @@ impl Refusal {
     }
 }
 
+/// Why a list of places was refused, and for which place, where it was for one.
+///
+/// ```
+/// use leg_sheet::{Place, Refusal, Settings, Sheet, Tree};
+///
+/// let sheet = Sheet::new(Settings::default(), Tree::from("a"))?;
+/// let places = [0, 9].map(|line| Place { line, column: 0 });
+/// let refused = sheet.places(&places).unwrap_err();
+/// assert_eq!((refused.refusal, refused.place), (Refusal::OutsideSheet, Some(1)));
+/// assert_eq!(refused.to_string(), "refused 12: the line or column is outside the printed sheet (place 1 of the list)");
+/// # Ok::<(), Refusal>(())
+/// ```
+#[derive(Debug, Clone, Copy, PartialEq, Eq, Hash)]
+pub struct PlacesRefusal {
+    /// Why.
+    pub refusal: Refusal,
+    /// The index of the first place that has no leaf, from 0 on; none where the whole list is refused.
+    pub place: Option<usize>,
+}
+
+impl From<Refusal> for PlacesRefusal {
+    fn from(refusal: Refusal) -> PlacesRefusal {
+        let place = None;
+        PlacesRefusal { refusal, place }
+    }
+}
+
+impl From<PlacesRefusal> for Refusal {
+    fn from(refused: PlacesRefusal) -> Refusal {
+        refused.refusal
+    }
+}
+
+impl fmt::Display for PlacesRefusal {
+    fn fmt(&self, f: &mut fmt::Formatter<'_>) -> fmt::Result {
+        write!(f, "{}", self.refusal)?;
+        match self.place {
+            Some(place) => write!(f, " (place {place} of the list)"),
+            None => Ok(()),
+        }
+    }
+}
+
+impl Error for PlacesRefusal {}
+
 impl fmt::Display for Refusal {
     fn fmt(&self, f: &mut fmt::Formatter<'_>) -> fmt::Result {
         write!(f, "refused {}: {}", self.number(), self.sentence())

@@ -206,7 +206,7 @@ impl Settings {
     /// The settings of a record: 31 bytes, or 42 with the margin.
     ///
     /// # Errors
-    /// 1, where the proved reader refuses it.
+    /// [`BadSettings`](Refusal::BadSettings), where the proved reader refuses it.
     pub fn from_bytes(bytes: &[u8]) -> Result<Settings, Refusal> {
         let (mut out, mut margin) = ([0; calls::SETTINGS], [0; calls::MARGIN]);
         calls::read_settings(bytes, &mut out)?;
@@ -317,7 +317,7 @@ impl Settings {
     /// Other [marks](Settings::marks), or none: fifteen bytes, each hex 20 to 7E, or [`Marks::None`].
     ///
     /// # Errors
-    /// 1, where one is out of its range.
+    /// [`BadSettings`](Refusal::BadSettings), where one is out of its range.
     pub fn with_marks(self, marks: impl Into<Marks>) -> Result<Settings, Refusal> {
         let marks = marks.into();
         Settings { marks, ..self }.checked()
@@ -326,7 +326,7 @@ impl Settings {
     /// Another [padding](Settings::padding), each 0 to 16.
     ///
     /// # Errors
-    /// 1, where one is out of its range.
+    /// [`BadSettings`](Refusal::BadSettings), where one is out of its range.
     pub fn with_padding(self, padding: Sides) -> Result<Settings, Refusal> {
         Settings { padding, ..self }.checked()
     }
@@ -334,7 +334,7 @@ impl Settings {
     /// Other [fills](Settings::fills), each hex 20 to 7E.
     ///
     /// # Errors
-    /// 1, where one is out of its range.
+    /// [`BadSettings`](Refusal::BadSettings), where one is out of its range.
     pub fn with_fills(self, fills: Sides) -> Result<Settings, Refusal> {
         Settings { fills, ..self }.checked()
     }
@@ -378,7 +378,7 @@ impl Settings {
     /// Another [margin](Settings::margin), each 0 to 16.
     ///
     /// # Errors
-    /// 1, where one is out of its range.
+    /// [`BadSettings`](Refusal::BadSettings), where one is out of its range.
     pub fn with_margin(self, margin: Sides) -> Result<Settings, Refusal> {
         Settings { margin, ..self }.checked()
     }
@@ -386,7 +386,7 @@ impl Settings {
     /// Other [fills of the margin](Settings::margin_fills), each hex 20 to 7E.
     ///
     /// # Errors
-    /// 1, where one is out of its range.
+    /// [`BadSettings`](Refusal::BadSettings), where one is out of its range.
     pub fn with_margin_fills(self, margin_fills: Sides) -> Result<Settings, Refusal> {
         Settings {
             margin_fills,

@@ -78,7 +78,7 @@ impl Tree {
     /// The tree's bytes, which every call on bytes accepts.
     ///
     /// # Errors
-    /// 2 to 5, as the proved reader says.
+    /// [`BadTree`](Refusal::BadTree), [`BadText`](Refusal::BadText), [`TooManyNodes`](Refusal::TooManyNodes), [`TooDeep`](Refusal::TooDeep), as the proved reader says.
     pub fn to_bytes(&self) -> Result<Vec<u8>, Refusal> {
         let bytes = self.unread();
         calls::read_tree(&bytes)?;
@@ -95,7 +95,7 @@ impl Tree {
     /// The tree of bytes that the proved reader accepts.
     ///
     /// # Errors
-    /// 2 to 5.
+    /// [`BadTree`](Refusal::BadTree), [`BadText`](Refusal::BadText), [`TooManyNodes`](Refusal::TooManyNodes), [`TooDeep`](Refusal::TooDeep).
     pub fn from_bytes(bytes: &[u8]) -> Result<Tree, Refusal> {
         calls::read_tree(bytes)?;
         element(&mut &bytes[..])

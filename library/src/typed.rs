@@ -70,7 +70,9 @@ impl Tree {
     /// ```
     ///
     /// # Errors
-    /// 30 to 39, as the proved reader says.
+    /// [`ListTooLong`](Refusal::ListTooLong), [`BadCharacter`](Refusal::BadCharacter), [`BadEscape`](Refusal::BadEscape), [`OddIndent`](Refusal::OddIndent),
+    /// [`SecondRoot`](Refusal::SecondRoot), [`NoParent`](Refusal::NoParent), [`ListTooDeep`](Refusal::ListTooDeep), [`ListTooMany`](Refusal::ListTooMany),
+    /// [`ListTooLarge`](Refusal::ListTooLarge), [`ListEmpty`](Refusal::ListEmpty), as the proved reader says.
     pub fn from_typed(text: impl AsRef<[u8]>) -> Result<Tree, TypedFault> {
         let mut out = vec![0; calls::TREE];
         let count = calls::read_typed(text.as_ref(), &mut out)?;

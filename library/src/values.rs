@@ -7,7 +7,7 @@ use crate::records::{
     CutAnswer, CutParts, Folded, LeafPlace, LeafRecord, List, Marked, Need, Place, Planned,
     ShortParts, SizeRecord,
 };
-use crate::refusal::Refusal;
+use crate::refusal::{PlacesRefusal, Refusal};
 use crate::settings::{Priority, Settings};
 use crate::tree::{self, Tree};
 
@@ -39,7 +39,7 @@ fn on_bytes<T>(
 /// ```
 ///
 /// # Errors
-/// 2 to 6.
+/// [`BadTree`](Refusal::BadTree), [`BadText`](Refusal::BadText), [`TooManyNodes`](Refusal::TooManyNodes), [`TooDeep`](Refusal::TooDeep), [`TooLarge`](Refusal::TooLarge).
 pub fn print_sheet(settings: &Settings, tree: &Tree) -> Result<String, Refusal> {
     on_bytes(settings, tree, |input| input.print_sheet())
 }
@@ -47,7 +47,8 @@ pub fn print_sheet(settings: &Settings, tree: &Tree) -> Result<String, Refusal> 
 /// The block of a leaf, by the number of its node: a parent is numbered before its children, these from left to right, from 0 on.
 ///
 /// # Errors
-/// 2 to 6, 9.
+/// [`BadTree`](Refusal::BadTree), [`BadText`](Refusal::BadText), [`TooManyNodes`](Refusal::TooManyNodes), [`TooDeep`](Refusal::TooDeep), [`TooLarge`](Refusal::TooLarge),
+/// [`NoLeaf`](Refusal::NoLeaf).
 pub fn print_leaf(settings: &Settings, tree: &Tree, node: usize) -> Result<String, Refusal> {
     on_bytes(settings, tree, |input| input.print_leaf(node))
 }
@@ -65,7 +66,7 @@ pub fn print_leaf(settings: &Settings, tree: &Tree, node: usize) -> Result<Strin
 /// ```
 ///
 /// # Errors
-/// 2 to 5.
+/// [`BadTree`](Refusal::BadTree), [`BadText`](Refusal::BadText), [`TooManyNodes`](Refusal::TooManyNodes), [`TooDeep`](Refusal::TooDeep).
 pub fn sizes(settings: &Settings, tree: &Tree) -> Result<Vec<SizeRecord>, Refusal> {
     on_bytes(settings, tree, |input| input.sizes())
 }
@@ -88,7 +89,8 @@ pub fn sizes(settings: &Settings, tree: &Tree) -> Result<Vec<SizeRecord>, Refusa
 /// ```
 ///
 /// # Errors
-/// 2 to 6, 9.
+/// [`BadTree`](Refusal::BadTree), [`BadText`](Refusal::BadText), [`TooManyNodes`](Refusal::TooManyNodes), [`TooDeep`](Refusal::TooDeep), [`TooLarge`](Refusal::TooLarge),
+/// [`NoLeaf`](Refusal::NoLeaf).
 pub fn leaf_record(settings: &Settings, tree: &Tree, node: usize) -> Result<LeafRecord, Refusal> {
     on_bytes(settings, tree, |input| input.leaf_record(node))
 }
@@ -111,7 +113,8 @@ pub fn leaf_record(settings: &Settings, tree: &Tree, node: usize) -> Result<Leaf
 /// ```
 ///
 /// # Errors
-/// 2 to 6, 12, 13.
+/// [`BadTree`](Refusal::BadTree), [`BadText`](Refusal::BadText), [`TooManyNodes`](Refusal::TooManyNodes), [`TooDeep`](Refusal::TooDeep), [`TooLarge`](Refusal::TooLarge),
+/// [`OutsideSheet`](Refusal::OutsideSheet), [`InMargin`](Refusal::InMargin).
 pub fn place(
     settings: &Settings,
     tree: &Tree,
@@ -134,14 +137,16 @@ pub fn place(
 /// assert_eq!(marked.answers[0], place(&settings, &tree, 1, 6)?);
 ///
 /// let far = Place { line: usize::MAX, column: 0 };
-/// assert_eq!(places(&settings, &tree, &[pad, far]), Err(Refusal::OutsideSheet));
+/// let refused = places(&settings, &tree, &[pad, far]).unwrap_err();
+/// assert_eq!((refused.refusal, refused.place), (Refusal::OutsideSheet, Some(1)));
 /// # Ok::<(), Refusal>(())
 /// ```
 ///
 /// # Errors
-/// 2 to 6, 14, then the 12 or 13 of the first place that has one.
-pub fn places(settings: &Settings, tree: &Tree, places: &[Place]) -> Result<Marked, Refusal> {
-    on_bytes(settings, tree, |input| input.places(places))
+/// [`BadTree`](Refusal::BadTree), [`BadText`](Refusal::BadText), [`TooManyNodes`](Refusal::TooManyNodes), [`TooDeep`](Refusal::TooDeep), [`TooLarge`](Refusal::TooLarge),
+/// [`TooManyPlaces`](Refusal::TooManyPlaces), then the [`OutsideSheet`](Refusal::OutsideSheet) or [`InMargin`](Refusal::InMargin) of the first place that has one, with its index.
+pub fn places(settings: &Settings, tree: &Tree, places: &[Place]) -> Result<Marked, PlacesRefusal> {
+    on_bytes(settings, tree, |input| Ok(input.places(places)))?
 }
 
 /// A long list, a Column of 1 to 200 Cells, folded into Columns of one Row that is no wider inside than `width`: how many cells each has at the least height that was
@@ -169,7 +174,8 @@ pub fn places(settings: &Settings, tree: &Tree, places: &[Place]) -> Result<Mark
 /// ```
 ///
 /// # Errors
-/// 2 to 5, 15, 16.
+/// [`BadTree`](Refusal::BadTree), [`BadText`](Refusal::BadText), [`TooManyNodes`](Refusal::TooManyNodes), [`TooDeep`](Refusal::TooDeep), [`NotAList`](Refusal::NotAList),
+/// [`TooWide`](Refusal::TooWide).
 pub fn fold(
     settings: &Settings,
     tree: &Tree,
@@ -192,7 +198,7 @@ pub fn fold(
 /// ```
 ///
 /// # Errors
-/// 2 to 5, 17.
+/// [`BadTree`](Refusal::BadTree), [`BadText`](Refusal::BadText), [`TooManyNodes`](Refusal::TooManyNodes), [`TooDeep`](Refusal::TooDeep), [`BadRange`](Refusal::BadRange).
 pub fn plan(settings: &Settings, plan: &Plan) -> Result<Planned, Refusal> {
     let input = Input {
         settings: &settings.to_bytes(),
@@ -215,7 +221,7 @@ pub fn plan(settings: &Settings, plan: &Plan) -> Result<Planned, Refusal> {
 /// ```
 ///
 /// # Errors
-/// 2 to 5.
+/// [`BadTree`](Refusal::BadTree), [`BadText`](Refusal::BadText), [`TooManyNodes`](Refusal::TooManyNodes), [`TooDeep`](Refusal::TooDeep).
 pub fn widen(settings: &Settings, tree: &Tree) -> Result<Vec<Need>, Refusal> {
     on_bytes(settings, tree, |input| input.widen())
 }
@@ -237,7 +243,7 @@ pub fn widen(settings: &Settings, tree: &Tree) -> Result<Vec<Need>, Refusal> {
 /// ```
 ///
 /// # Errors
-/// 2 to 5, 9.
+/// [`BadTree`](Refusal::BadTree), [`BadText`](Refusal::BadText), [`TooManyNodes`](Refusal::TooManyNodes), [`TooDeep`](Refusal::TooDeep), [`NoLeaf`](Refusal::NoLeaf).
 pub fn blank(tree: &Tree, nodes: &[usize]) -> Result<Tree, Refusal> {
     Tree::from_bytes(&tree::blanked(&tree.unread(), nodes)?)
 }
@@ -252,7 +258,7 @@ pub fn blank(tree: &Tree, nodes: &[usize]) -> Result<Tree, Refusal> {
 /// ```
 ///
 /// # Errors
-/// 10.
+/// [`TooManyPieces`](Refusal::TooManyPieces).
 pub fn short_splits3(pieces: &[u16], width: u16) -> Result<CutParts, Refusal> {
     let mut out = [0; CUT];
     calls::short_splits3(pieces, pieces.len(), width, &mut out)?;
@@ -269,7 +275,7 @@ pub fn short_splits3(pieces: &[u16], width: u16) -> Result<CutParts, Refusal> {
 /// ```
 ///
 /// # Errors
-/// 10, and the list stays.
+/// [`TooManyPieces`](Refusal::TooManyPieces), and the list stays.
 pub fn short_splits3_in_place(pieces: &mut Vec<u16>, width: u16) -> Result<CutAnswer, Refusal> {
     let mut out = [0; LENT_CUT];
     let count = pieces.len();
@@ -288,7 +294,7 @@ pub fn short_splits3_in_place(pieces: &mut Vec<u16>, width: u16) -> Result<CutAn
 /// ```
 ///
 /// # Errors
-/// 10.
+/// [`TooManyPieces`](Refusal::TooManyPieces).
 pub fn short_splits(pieces: &[u16], width: u16) -> Result<ShortParts, Refusal> {
     let (mut positions, mut left) = ([0; LIST], [0; LIST]);
     calls::short_splits(pieces, pieces.len(), width, &mut positions, &mut left)?;
@@ -308,7 +314,7 @@ pub fn short_splits(pieces: &[u16], width: u16) -> Result<ShortParts, Refusal> {
 /// ```
 ///
 /// # Errors
-/// 11.
+/// [`NoChild`](Refusal::NoChild).
 pub fn share(spare: usize, n: usize, priority: Priority, index: usize) -> Result<usize, Refusal> {
     let mut part = 0;
     calls::share(spare, n, priority as u8, index, &mut part)?;

@@ -396,22 +396,29 @@ fn places_are_marked_together() {
             .iter()
             .map(|&(line, column)| Place { line, column })
             .collect();
-        places(&edged, &figure_2(), &list).map_err(Refusal::number)
+        places(&edged, &figure_2(), &list)
+            .map_err(|refused| (refused.refusal.number(), refused.place))
     };
     let leaf = |node: usize, line: usize, column: usize| LeafPlace { node, line, column };
     let all = |answers: Vec<LeafPlace>| Ok(Marked { answers, read: 5 });
     assert_eq!(marked(&[]), all(vec![]));
     let (b, first) = (leaf(4, 2, 0), leaf(1, 0, 0));
     assert_eq!(marked(&[(5, 7), (1, 2), (5, 7)]), all(vec![b, first, b]));
-    assert_eq!(marked(&[(5, 7), (0, 0), (9, 9)]), Err(13));
-    assert_eq!(marked(&[(5, 7), (9, 9), (0, 0)]), Err(12));
+    assert_eq!(marked(&[(5, 7), (0, 0), (9, 9)]), Err((13, Some(1))));
+    assert_eq!(
+        marked(&[(5, 7), (5, 7), (9, 9), (0, 0)]),
+        Err((12, Some(2)))
+    );
     assert_eq!(marked(&[(1, 2); 256]), all(vec![first; 256]));
-    assert_eq!(marked(&[(1, 2); 257]), Err(14));
-    assert_eq!(marked(&[(9, 9); 1000]), Err(14));
+    assert_eq!(marked(&[(1, 2); 257]), Err((14, None)));
+    assert_eq!(marked(&[(9, 9); 1000]), Err((14, None)));
 
     // As many lines or columns further as 32 bits count are outside all the same.
     for (line, column) in [(1 << 32, 0), (0, 1 << 32), (1 << 32, 1 << 32)] {
-        assert_eq!(marked(&[(1, 2), (1 + line, 2 + column)]), Err(12));
+        assert_eq!(
+            marked(&[(1, 2), (1 + line, 2 + column)]),
+            Err((12, Some(1)))
+        );
     }
 }
 
@@ -885,8 +892,11 @@ fn every_call_is_refused() {
     let wide = Tree::from("x".repeat(397));
     assert_eq!(place(&settings, &wide, 9, 9), Err(Refusal::TooLarge));
     let many = [Place::default(); 257];
-    assert_eq!(places(&settings, &bad, &many), Err(Refusal::BadText));
-    assert_eq!(places(&settings, &wide, &many), Err(Refusal::TooLarge));
+    assert_eq!(places(&settings, &bad, &many), Err(Refusal::BadText.into()));
+    assert_eq!(
+        places(&settings, &wide, &many),
+        Err(Refusal::TooLarge.into())
+    );
     assert_eq!(fold(&settings, &bad, 9, 9), Err(Refusal::BadText));
     assert_eq!(fold(&settings, &group, 9, 9), Err(Refusal::NotAList));
     assert_eq!(widen(&settings, &bad), Err(Refusal::BadText));
