@@ -10,7 +10,7 @@ enum { WIDTH = 40, LINES = 16 };
 static const size_t counts[] = {20, LEG_CELLS};
 static const size_t heights[] = {1, 4, LINES};
 
-static const uint8_t settings[31] = "\x10\x00\x1C" "--||-|+++++++++" "\x01\x01\x00\x00" "    " "\x00\x00\x00\x01\x02";
+static const uint8_t settings[LEG_SETTINGS_BYTES] = "\x10\x00\x1C" "--||-|+++++++++" "\x01\x01\x00\x00" "    " "\x00\x00\x00\x01\x02";
 static uint8_t tree[3 + LEG_CELLS * (3 + 2 * LINES)];
 static size_t tree_len;
 static uint16_t columns[LEG_CELLS];

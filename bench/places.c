@@ -11,7 +11,7 @@ static const double BAR = 20;
 static const size_t cells[] = {0, 8, 72};
 static const size_t counts[] = {0, 1, 4, 16, 64, LEG_PLACES};
 
-static const uint8_t settings[31] = "\x10\x00\x1C" "--||-|+++++++++" "\x01\x01\x00\x00" "    " "\x00\x00\x00\x02\x02";
+static const uint8_t settings[LEG_SETTINGS_BYTES] = "\x10\x00\x1C" "--||-|+++++++++" "\x01\x01\x00\x00" "    " "\x00\x00\x00\x02\x02";
 static uint8_t tree[4 * NODES];
 static size_t tree_len;
 static size_t lines[LEG_PLACES], columns[LEG_PLACES];

@@ -6,7 +6,7 @@
 
 enum { BYTES = 32768, NODES = 512, LONG = 32000, STAIRS = 240, STEPS = 99, BAR = 20 };
 
-static const uint8_t settings[31] = "\x10\x00\x1C" "--||-|+++++++++" "\x01\x01\x00\x00" "    " "\x00\x00\x00\x01\x02";
+static const uint8_t settings[LEG_SETTINGS_BYTES] = "\x10\x00\x1C" "--||-|+++++++++" "\x01\x01\x00\x00" "    " "\x00\x00\x00\x01\x02";
 static uint8_t tree[BYTES];
 static size_t tree_len;
 static uint16_t sizes[5 * NODES], nodes[NODES];

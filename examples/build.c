@@ -70,7 +70,7 @@ int main(void) {
         return 1;
     }
 
-    static uint8_t out[64159]; /* the largest sheet */
+    static uint8_t out[LEG_SHEET]; /* the largest sheet */
     uint64_t word = leg_print_sheet(settings, 31, t.bytes, t.len, out, sizeof out);
     if (LEG_NUMBER(word) != 0) {
         printf("refused %u\n", LEG_NUMBER(word));

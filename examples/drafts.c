@@ -7,7 +7,7 @@
 
 #include "leg_sheet.h"
 
-static const uint8_t settings[31] = "\x10\x00\x1C" "--||-|+++++++++" "\x01\x01\x00\x00" "    " "\x00\x00\x00\x01\x02";
+static const uint8_t settings[LEG_SETTINGS_BYTES] = "\x10\x00\x1C" "--||-|+++++++++" "\x01\x01\x00\x00" "    " "\x00\x00\x00\x01\x02";
 /* Row[`1`, `Home pad`]; the same with `take off` behind it; Column[`Home pad`]. */
 static const uint8_t row[] = "\x02\x00\x0F" "\x01\x00\x01" "1" "\x01\x00\x08" "Home pad";
 static const uint8_t longer[] = "\x02\x00\x1A" "\x01\x00\x01" "1" "\x01\x00\x08" "Home pad" "\x01\x00\x08" "take off";
@@ -23,7 +23,7 @@ static void save(char name, const uint8_t *tree, size_t len) {
 
 /* The sheet of a draft. */
 static void show(char name) {
-    static uint8_t tree[LEG_TREE], out[64159];
+    static uint8_t tree[LEG_TREE], out[LEG_SHEET];
     uint64_t word = leg_return_draft(store, sizeof store, (uint8_t)name, tree, sizeof tree);
     if (LEG_NUMBER(word) == 0) word = leg_print_sheet(settings, sizeof settings, tree, LEG_COUNT(word), out, sizeof out);
     if (LEG_NUMBER(word) == 0) printf("%.*s\n", (int)LEG_COUNT(word), (const char *)out);

@@ -10,7 +10,7 @@
 
 enum { WIDTH = 40, LEGS = 5 };
 
-static const uint8_t settings[31] = "\x10\x00\x1C" "--||-|+++++++++" "\x01\x01\x00\x00" "    " "\x00\x00\x00\x01\x02";
+static const uint8_t settings[LEG_SETTINGS_BYTES] = "\x10\x00\x1C" "--||-|+++++++++" "\x01\x01\x00\x00" "    " "\x00\x00\x00\x01\x02";
 static const char *const legs[LEGS] = {"1 Home pad", "2 Dam, west end", "3 Spillway", "4 Dam, east end", "5 Jetty"};
 
 /* Writes an element's tag and length; answers where its contents begin. */
@@ -22,7 +22,7 @@ static size_t head(uint8_t *bytes, size_t at, int tag, size_t length) {
 }
 
 int main(void) {
-    static uint8_t list[1000], row[1000], out[64159];
+    static uint8_t list[1000], row[1000], out[LEG_SHEET];
     size_t len = 3;
     for (size_t i = 0; i < LEGS; i++) {
         size_t length = strlen(legs[i]);

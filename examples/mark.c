@@ -10,7 +10,7 @@
 enum { PLACES = 4 };
 
 int main(void) {
-    static const uint8_t settings[31] = "\x10\x00\x1C" "--||-|+++++++++" "\x01\x01\x00\x00" "    " "\x00\x00\x00\x02\x02";
+    static const uint8_t settings[LEG_SETTINGS_BYTES] = "\x10\x00\x1C" "--||-|+++++++++" "\x01\x01\x00\x00" "    " "\x00\x00\x00\x02\x02";
     static const uint8_t tree[] = {3, 0, 20, 1, 0, 6, 'a', 'b', 'c', 'd', 'e', 'f', 2, 0, 8, 1, 0, 1, 'a', 1, 0, 1, 'b'};
     static const size_t marked[PLACES][2] = {{1, 2}, {4, 9}, {3, 2}, {4, 9}}; /* lines and columns, from 0 */
     uint64_t places[PLACES], answers[PLACES], read;

@@ -7,7 +7,7 @@
 
 #include "leg_sheet.h"
 
-static const uint8_t settings[31] = "\x10\x00\x1C" "--||-|+++++++++" "\x01\x01\x00\x00" "    " "\x00\x00\x00\x01\x02";
+static const uint8_t settings[LEG_SETTINGS_BYTES] = "\x10\x00\x1C" "--||-|+++++++++" "\x01\x01\x00\x00" "    " "\x00\x00\x00\x01\x02";
 /* Column[`abcd`, a text of 2 to 6 columns and 1 to 3 lines]. */
 static const uint8_t tree[] = {3, 0, 14, 1, 0, 4, 'a', 'b', 'c', 'd', 4, 0, 4, 2, 6, 1, 3};
 

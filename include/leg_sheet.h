@@ -1,4 +1,5 @@
-/* The leg sheet: C functions of target/staticlib/libexport.a, which `rt staticlib export` proves and builds (x86-64 Linux).
+/* Leg sheets: bordered tables of nested rows and columns. Each function below is proved to answer and to write what its definition says, for every input (README.md, 'To check the proofs').
+ * The archive libleg_sheet.a holds them, and asks for nothing but memcpy and memset (x86-64 Linux).
  *
  * A lent list is a pointer and then its length in items (not bytes). Give a pointer that is not null, aligned for the items, to as many
  * items as the length says, even where the length is 0; lists that are written must overlap no other argument. Nothing else is asked:
@@ -7,26 +8,19 @@
  * Every function answers a word: LEG_NUMBER is 0 or a refusal's number from the list below, LEG_COUNT what was counted or written, 0 beside a
  * refusal. Each function below names its refusals in the order of its tests; 2 to 5 and 17 are tested element by element in node order, at
  * each one 2, 5, 4, then 3 of a Cell or 17 of a range. A refusal writes to none of the lent lists; the line and the column of a typed list's fault are its own answer, and stand in
- * the word: LEG_FAULT_LINE, LEG_FAULT_COLUMN. Where nothing is refused, items past those said to be written stay as they were. The functions keep nothing between calls and allocate
- * nothing; on the stack they took up to 77 kilobytes (measured, at depth 16).
+ * the word: LEG_FAULT_LINE, LEG_FAULT_COLUMN. Where nothing is refused, items past those said to be written stay as they were.
  *
- *   1   settings not of the form or ranges                   11   share: n = 0 or index >= n
- *   2   tree: too long, cut short, unknown tag ..            12   a line or column outside the printed sheet
- *   3   forbidden text byte                                  13   a place in the margin
- *   4   node 513 met                                         14   over 256 places
- *   5   depth 17 met                                         15   the tree is no Column of 1 to 200 Cells
- *   6   over 400 columns or 160 lines, the margin included   16   a cell is wider than the given width
- *   7   never occurs any more; the number is kept free       17   a range with a least above its greatest, or no line
- *   8   a lent list is shorter than needed                   18   a store of drafts not of the form
- *   9   the number names no leaf; to leg_blank: no Cell      19   a name other than A to H, or one without a draft
- *  10   split list count over 512                            20   no room in a store beside its other drafts
+ * Memory. A null pointer, a pointer to fewer items than its length says, and a list that is written and overlaps another argument, even in one byte, are not memory-safe: the
+ * functions were proved for lists that are there and lie apart, and with others they may read and write anywhere. Lists that are only read may overlap, and may be constant.
  *
- * and of a typed list
- *  30   over 131,072 bytes                                   35   too deep: over one level below a group, or below a text
- *  31   a byte other than 20 to 7E in a text                 36   over 16 levels
- *  32   a backslash without n or a backslash behind it       37   over 512 rows, columns and texts
- *  33   an odd number of spaces before a line                38   with this line the tree has over 32,768 bytes
- *  34   a second root                                        39   no row, column or text
+ * Threads. Any number of threads may call any of the functions at once, also on the same lists where none of these is written. Nothing is kept between calls and nothing is
+ * allocated; no call waits, reads a clock, or touches errno.
+ *
+ * Stack. Give a thread that calls them 96 kilobytes of stack: boundary/check runs every function, at depth 16 too, in a thread that has no more. With less a call is not memory-safe.
+ *
+ * Versions. LEG_VERSION_* are the header's. With a new PATCH nothing changes that a caller can see. With a new MINOR functions, constants and refusals' numbers may be added, and what was there stays
+ * as it was: a program that was built with a header of the same MAJOR and the same or a lower MINOR runs with the library. Everything else is a new MAJOR: a parameter, a type, a length, the place of a number in a
+ * list, the order of refusals. So take any number other than 0 as a refusal, also one that the table below does not have.
  *
  * Settings, trees and stores are bytes (hex below). docs/FORMS.md has them with pictures, examples and the meaning of each; examples/build.c builds a tree.
  *
@@ -77,6 +71,10 @@
 extern "C" {
 #endif
 
+#define LEG_VERSION_MAJOR 1
+#define LEG_VERSION_MINOR 0
+#define LEG_VERSION_PATCH 0
+
 /* The parts of a word: the number in bits 32 to 39, a fault's line above it; in the lower 32 bits the count where the number is 0, else a fault's column. */
 static inline size_t leg_count(uint64_t word) { return word >> 32 ? 0 : (size_t)word; }
 static inline size_t leg_fault_column(uint64_t word) { return word >> 32 ? (size_t)(word & 0xFFFFFFFFu) : 0; }
@@ -85,9 +83,71 @@ static inline size_t leg_fault_column(uint64_t word) { return word >> 32 ? (size
 #define LEG_FAULT_LINE(word) ((size_t)((word) >> 40))
 #define LEG_FAULT_COLUMN(word) leg_fault_column(word)
 
+/* The refusals: number, name and sentence of each; 30 to 39 are of typed lists. 7 never occurs any more, and is kept free. LEG_REFUSALS(X) is X(number, name, sentence) of all of them, for tables of your
+ * own. */
+#define LEG_REFUSALS(X) \
+    X(1, LEG_BAD_SETTINGS, "the settings are not of their form or ranges") \
+    X(2, LEG_BAD_TREE, "the tree is too long, is cut short, has an unknown tag or a length past the end, or does not end at the end") \
+    X(3, LEG_BAD_TEXT, "a text has a byte other than hex 20 to 7E and 0A") \
+    X(4, LEG_TOO_MANY_NODES, "the tree has more than 512 nodes") \
+    X(5, LEG_TOO_DEEP, "the tree is more than 16 deep") \
+    X(6, LEG_TOO_LARGE, "the sheet has over 400 columns or over 160 lines") \
+    X(8, LEG_TOO_SHORT, "a lent list or output is shorter than needed") \
+    X(9, LEG_NO_LEAF, "the number names no leaf, or no Cell where texts are blanked") \
+    X(10, LEG_TOO_MANY_PIECES, "the split list has over 512 pieces") \
+    X(11, LEG_NO_CHILD, "there are no children to share among, or the index is past them") \
+    X(12, LEG_OUTSIDE_SHEET, "the line or column is outside the printed sheet") \
+    X(13, LEG_IN_MARGIN, "the place is in the sheet's margin") \
+    X(14, LEG_TOO_MANY_PLACES, "there are over 256 places") \
+    X(15, LEG_NOT_A_LIST, "the tree is no Column of 1 to 200 Cells") \
+    X(16, LEG_TOO_WIDE, "a cell is wider than the given width") \
+    X(17, LEG_BAD_RANGE, "a range has a least above its greatest, or no line") \
+    X(18, LEG_BAD_STORE, "the store's fields are not of their form") \
+    X(19, LEG_NO_DRAFT, "the name is none of A to H, or no draft has it") \
+    X(20, LEG_NO_ROOM, "the store has no room for the tree beside the other drafts") \
+    X(30, LEG_LIST_TOO_LONG, "the list has over 131,072 bytes") \
+    X(31, LEG_BAD_CHARACTER, "only letters, digits, signs and spaces may stand here: no tab, no accent") \
+    X(32, LEG_BAD_ESCAPE, "after a backslash only n or a backslash may stand") \
+    X(33, LEG_ODD_INDENT, "a level is two spaces, and this line begins with an odd number of them") \
+    X(34, LEG_SECOND_ROOT, "a second root: every line after the first is indented") \
+    X(35, LEG_NO_PARENT, "too deep: a line stands at most one level below a row or column, and none below a text") \
+    X(36, LEG_LIST_TOO_DEEP, "over 16 levels") \
+    X(37, LEG_LIST_TOO_MANY, "over 512 rows, columns and texts") \
+    X(38, LEG_LIST_TOO_LARGE, "the list is too long: with this line its tree has over 32,768 bytes") \
+    X(39, LEG_LIST_EMPTY, "the list is empty: no line has a row, a column or a text")
+
+#define LEG_ENUMERATOR(number, name, sentence) name = number,
+enum leg_refusal { LEG_ACCEPTED = 0, LEG_REFUSALS(LEG_ENUMERATOR) };
+#undef LEG_ENUMERATOR
+
+/* The sentence of a number, for people: printf("refused: %s\n", leg_sentence(LEG_NUMBER(word))). */
+#define LEG_CASE(number, name, sentence) case number: return sentence;
+static inline const char *leg_sentence(unsigned number) {
+    switch (number) {
+        LEG_REFUSALS(LEG_CASE)
+        default: return number == 0 ? "accepted" : "a refusal that this header does not know";
+    }
+}
+#undef LEG_CASE
+
+/* The limits: a sheet's columns and lines, its margin included, and its bytes, which an output for any sheet or block has; a tree's nodes, depth and bytes; the bytes of a typed list. */
+#define LEG_WIDTH 400
+#define LEG_HEIGHT 160
+#define LEG_SHEET ((LEG_WIDTH + 1) * LEG_HEIGHT - 1)
+#define LEG_NODES 512
+#define LEG_DEPTH 16
+#define LEG_TREE 32768
+#define LEG_TYPED 131072
+
+/* The bytes of settings, without a margin and with one; the default ones, LEG_SETTINGS_BYTES of them. (A string literal has one byte more, so hand in the constant and not its sizeof.) */
+#define LEG_SETTINGS_BYTES 31
+#define LEG_SETTINGS_MARGIN_BYTES 42
+#define LEG_DEFAULTS ((const uint8_t *)("\x10\x00\x1C" "--||-|+++++++++" "\x01\x01\x00\x00" "    " "\x00\x00\x00\x01\x02"))
+
 /* Lengths of the lists that are written whole. */
 #define LEG_SETTINGS 28
 #define LEG_MARGIN 8
+#define LEG_SIZES 5
 #define LEG_PIECES 512
 #define LEG_LIST (1 + LEG_PIECES)
 #define LEG_RECORD (13 + 2 * LEG_LIST)
@@ -97,10 +157,27 @@ static inline size_t leg_fault_column(uint64_t word) { return word >> 32 ? (size
 #define LEG_FOUND 3
 #define LEG_ENDS 4
 
+/* Where the numbers stand in these lists. Marks are 15 numbers, padding, sizes and fills 4 each: left, right, top, bottom. A list of pieces or positions is its count, then LEG_PIECES entries. */
+enum {
+    LEG_SETTINGS_MARKS = 0, LEG_SETTINGS_PADDING = 15, LEG_SETTINGS_FILLS = 19,
+    LEG_SETTINGS_HORIZONTAL = 23, LEG_SETTINGS_VERTICAL, LEG_SETTINGS_LINE_MODE, LEG_SETTINGS_WIDTH_PRIORITY, LEG_SETTINGS_HEIGHT_PRIORITY,
+    LEG_MARGIN_SIZES = 0, LEG_MARGIN_FILLS = 4,
+    LEG_SIZES_NATURAL_WIDTH = 0, LEG_SIZES_NATURAL_HEIGHT, LEG_SIZES_ALLOTTED_WIDTH, LEG_SIZES_ALLOTTED_HEIGHT, LEG_SIZES_BELOW,
+    LEG_RECORD_NODE = 0, LEG_RECORD_WIDTH, LEG_RECORD_HEIGHT,
+    LEG_RECORD_FIRST_ROW, LEG_RECORD_LAST_ROW, LEG_RECORD_FIRST_COL, LEG_RECORD_LAST_COL,
+    LEG_RECORD_NO_RIGHT, LEG_RECORD_LEAN_TOP, LEG_RECORD_TOP_LEFT, LEG_RECORD_TOP_INTERSECTION,
+    LEG_RECORD_TAKEN, LEG_RECORD_REST, LEG_RECORD_HORIZONTAL = 13, LEG_RECORD_VERTICAL = 13 + LEG_LIST,
+    LEG_CUT_YES = 0, LEG_CUT_TAKEN, LEG_CUT_REST, LEG_CUT_TAKEN_LIST = 3, LEG_CUT_LEFT_LIST = 3 + LEG_LIST,
+    LEG_LENT_CUT_YES = 0, LEG_LENT_CUT_TAKEN, LEG_LENT_CUT_REST, LEG_LENT_CUT_LEFT, LEG_LENT_CUT_TAKEN_LIST = 4,
+    LEG_PLACE_NODE = 0, LEG_PLACE_LINE, LEG_PLACE_COLUMN,
+    LEG_FOUND_HEIGHT = 0, LEG_FOUND_TRIES, LEG_FOUND_MISS,
+    LEG_ENDS_LEAST_WIDTH = 0, LEG_ENDS_GREATEST_WIDTH, LEG_ENDS_LEAST_HEIGHT, LEG_ENDS_GREATEST_HEIGHT
+};
+
 /* leg_places takes up to LEG_PLACES places, each a number that LEG_AT makes of a line and a column, and writes as many answers, of which LEG_NODE, LEG_LINE and
  * LEG_COLUMN are the parts. A line or column past 32 bits counts as the greatest of 32 bits: both are outside every sheet. */
 #define LEG_PLACES 256
-#define LEG_32(n) ((uint64_t)(n) < 0xFFFFFFFFu ? (uint64_t)(n) : 0xFFFFFFFFu)
+#define LEG_32(n) ((uint64_t)(n) >> 32 ? 0xFFFFFFFFu : (uint64_t)(n))
 #define LEG_AT(line, column) (LEG_32(line) << 32 | LEG_32(column))
 #define LEG_NODE(answer) ((size_t)((answer) >> 32))
 #define LEG_LINE(answer) ((size_t)((answer) >> 16 & 0xFFFFu))
@@ -109,12 +186,8 @@ static inline size_t leg_fault_column(uint64_t word) { return word >> 32 ? (size
 /* leg_fold takes lists of up to LEG_CELLS Cells, and writes no more Columns. */
 #define LEG_CELLS 200
 
-/* The most bytes of a tree, and so of a draft that was saved; a store of LEG_STORE bytes has room for any eight. */
-#define LEG_TREE 32768
+/* A draft is a tree of up to LEG_TREE bytes; a store of LEG_STORE bytes has room for any eight. */
 #define LEG_STORE (8 * (3 + LEG_TREE))
-
-/* The most bytes of a typed list. */
-#define LEG_TYPED 131072
 
 /* Reads settings of 31 or 42 bytes. 1, 8. Writes the 28 numbers after the first tag and length: 15 marks, or 15 zeros; padding left, right, top, bottom;
  * their fills; horizontal and vertical alignment; line mode; width and height priority. Counts 28. */
@@ -161,12 +234,12 @@ uint64_t leg_places(const uint8_t *settings, size_t settings_len, const uint8_t 
  * padding); 8 last, where `columns` has fewer numbers than the answer has Columns. Writes how many cells each Column has at the least t that fitted; and to `found`
  * LEG_FOUND numbers: that t, the tries made, and the most by which t can lie above the least that fits: 0 if every t was tried, else t less the tallest cell's height.
  * Counts the Columns. */
-uint64_t leg_fold(const uint8_t *settings, size_t settings_len, const uint8_t *tree, size_t tree_len, size_t width, size_t budget, uint16_t *columns, size_t columns_len, uint64_t *found);
+uint64_t leg_fold(const uint8_t *settings, size_t settings_len, const uint8_t *tree, size_t tree_len, size_t width, size_t budget, uint16_t *columns, size_t columns_len, uint64_t found[LEG_FOUND]);
 
 /* How large the sheet of a planning tree will be. 1 to 5 and 17. Writes to `ends` LEG_ENDS numbers: the least and the greatest W, the least and the greatest H.
  * Whatever texts within the ranges are put in, the sheet's W and H lie between these, and each of the four is reached by some texts; the limits on W, H and the bytes of
  * the tree with its texts are put aside. Counts LEG_ENDS. */
-uint64_t leg_plan(const uint8_t *settings, size_t settings_len, const uint8_t *tree, size_t tree_len, uint32_t *ends);
+uint64_t leg_plan(const uint8_t *settings, size_t settings_len, const uint8_t *tree, size_t tree_len, uint32_t ends[LEG_ENDS]);
 
 /* The letters that widen the sheet: for each Cell the smallest number of letters which, added to its longest line alone, makes W larger. No smaller addition to that Cell
  * alone changes W; the limits on W and the tree's bytes are put aside. 1 to 5; 8 last, where `nodes` or `letters` has fewer numbers than there are Cells. Writes for each
