@@ -1,16 +1,30 @@
-//! Links target/staticlib/libexport.a of the project, which `rt staticlib export` writes.
+//! Links the archive of the proved functions: libleg_sheet.a in the folder that LEG_SHEET_LIB_DIR names; or target/staticlib/libexport.a of the project, which `rt staticlib export` writes; or
+//! lib/libleg_sheet.a under the prefix where `./install` has put it, and this crate as share/leg_sheet/rust.
 
-use std::path::Path;
+use std::env;
+use std::path::{Path, PathBuf};
+
+const ASKED: &str = "LEG_SHEET_LIB_DIR";
 
 fn main() {
-    let folder = Path::new(env!("CARGO_MANIFEST_DIR")).join("../target/staticlib");
-    let archive = folder.join("libexport.a");
-    assert!(
-        archive.is_file(),
-        "no file {}: run `rt staticlib export` first",
-        archive.display()
-    );
-    println!("cargo:rerun-if-changed={}", archive.display());
+    println!("cargo:rerun-if-env-changed={ASKED}");
+    let here = Path::new(env!("CARGO_MANIFEST_DIR"));
+    let places = match env::var_os(ASKED) {
+        Some(folder) => vec![(PathBuf::from(folder), "leg_sheet")],
+        None => vec![
+            (here.join("../target/staticlib"), "export"),
+            (here.join("../../../lib"), "leg_sheet"),
+        ],
+    };
+    let archives = places
+        .iter()
+        .map(|(folder, name)| folder.join(format!("lib{name}.a")));
+    let archives: Vec<PathBuf> = archives.collect();
+    let Some(at) = archives.iter().position(|archive| archive.is_file()) else {
+        panic!("there is none of {archives:?}: run `rt staticlib export` in the project, or set {ASKED} to the folder of libleg_sheet.a");
+    };
+    let (folder, name) = &places[at];
+    println!("cargo:rerun-if-changed={}", archives[at].display());
     println!("cargo:rustc-link-search=native={}", folder.display());
-    println!("cargo:rustc-link-lib=static=export");
+    println!("cargo:rustc-link-lib=static={name}");
 }

@@ -25,7 +25,8 @@ pub fn version() -> String {
     format!("legs {}\n", env!("CARGO_PKG_VERSION"))
 }
 
-fn all() -> String {
+/// What is said of all commands.
+pub fn all() -> String {
     let line = |command: &Command| format!("  {:<38}{}\n", command.usage(), command.about);
     let commands: String = COMMANDS.iter().map(line).collect();
     let about = "Prints leg sheets: bordered tables of nested rows and columns.";
@@ -33,7 +34,8 @@ fn all() -> String {
     format!("{about}\n\n{commands}\n{more}\n\n{LISTS}\n{REST}")
 }
 
-fn of_command(command: &Command) -> String {
+/// What is said of one command: its words, what it does, its options.
+pub fn of_command(command: &Command) -> String {
     let mut text = format!("{}\n  {}\n", command.usage(), command.about);
     text.extend(command.options.iter().map(option));
     if command.takes_settings {

@@ -9,6 +9,7 @@ mod file;
 mod given;
 mod help;
 mod limits;
+mod manual;
 mod marked;
 mod mistakes;
 mod options;
@@ -36,6 +37,9 @@ use shown::tell;
 
 /// Finds the command among the words and runs it on the others.
 fn run(words: &[OsString]) -> Result<Answer, Fault> {
+    if let Some(page) = manual::page(words) {
+        return Ok(Answer::accepted(page));
+    }
     let given = Given::split(words)?;
     if given.has(VERSION.name) {
         return Ok(Answer::accepted(version()));

@@ -73,6 +73,16 @@ pub fn setting(name: &str) -> Option<&'static Word> {
     Word::all().iter().find(|word| word.name() == name)
 }
 
+/// The names of all options, those of settings among them.
+pub fn names() -> Vec<String> {
+    let common = [SETTINGS, NO_LINES, VERSION].into_iter().chain(HELP);
+    let of_commands = COMMANDS.iter().flat_map(|command| command.options);
+    let settings = Word::all().iter().map(|word| format!("--{}", word.name()));
+    let mut names: Vec<String> = common.map(|option| option.name.into()).collect();
+    names.extend(of_commands.map(|option| option.name.into()).chain(settings));
+    names
+}
+
 /// Whether an option takes a value; none where there is no such option.
 pub fn takes_value(name: &str) -> Option<bool> {
     if setting(name).is_some() {
