@@ -12,9 +12,8 @@ static uint8_t tree[LEG_TREE], sheet[LEG_SHEET];
 
 /* The bytes of the list's tree; or none, and what is wrong with the list is told. */
 static size_t read_list(const char *list) {
-    uint32_t place[LEG_PLACE_TYPED];
-    uint64_t word = leg_read_typed((const uint8_t *)list, strlen(list), tree, sizeof tree, place);
-    if (LEG_NUMBER(word) != 0) printf("line %u, column %u: %s\n", place[0], place[1], leg_sentence(LEG_NUMBER(word)));
+    uint64_t word = leg_read_typed((const uint8_t *)list, strlen(list), tree, sizeof tree);
+    if (LEG_NUMBER(word) != 0) printf("line %zu, column %zu: %s\n", LEG_FAULT_LINE(word), LEG_FAULT_COLUMN(word), leg_sentence(LEG_NUMBER(word)));
     return LEG_COUNT(word);
 }
 

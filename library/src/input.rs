@@ -31,9 +31,6 @@ pub struct Input<'a> {
 }
 
 impl<'a> Input<'a> {
-    /// One byte more than the longest input that can be accepted: a longer one is refused as its beginning of so many bytes is.
-    pub const BYTES: usize = SETTINGS_BYTES + MARGIN_BYTES + calls::TREE + 1;
-
     /// The sheet program's input: the settings record, then the tree. The record is the first 31 bytes, or all if there are fewer; and where a
     /// hex 11 follows them, that byte and the ten after it, or all there are.
     #[must_use]
