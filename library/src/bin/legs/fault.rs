@@ -16,6 +16,8 @@ pub enum Fault {
     Refused(String, Refusal, String),
     /// What is wrong with a typed list or with settings in words, as it is shown.
     Mistake(String),
+    /// What is no question paper of which key, and why.
+    Unlike(String, String, String),
     /// What is wrong with the words.
     Usage(String),
     /// What could not be read or written.
@@ -30,7 +32,7 @@ impl Fault {
 
     pub fn status(&self) -> u8 {
         match self {
-            Fault::Refused(..) | Fault::Mistake(_) => REFUSED,
+            Fault::Refused(..) | Fault::Mistake(_) | Fault::Unlike(..) => REFUSED,
             Fault::Usage(_) => 2,
             _ if self.is_silent() => UNREAD,
             Fault::Failed(..) => 3,
@@ -51,6 +53,9 @@ impl fmt::Display for Fault {
                 write!(f, "legs: {name}: refused {}: {words}", refusal.number())
             }
             Fault::Mistake(shown) => f.write_str(shown),
+            Fault::Unlike(paper, key, why) => {
+                write!(f, "legs: {paper}: no question paper of {key}: {why}")
+            }
             Fault::Usage(message) => write!(f, "legs: usage: {message}; 'legs --help' says more"),
             Fault::Failed(name, error) => write!(f, "legs: {name}: {error}"),
         }

@@ -22,6 +22,7 @@ mod source;
 mod store;
 mod table;
 mod texts;
+mod view;
 mod warnings;
 
 use std::ffi::OsString;

@@ -55,6 +55,11 @@ pub const LINES: Opt = Opt::with(
     "LINE,LINE..",
     "the texts in these lines of the typed list, from 1 on",
 );
+pub const PAPER: Opt = Opt::with(
+    "--paper",
+    "FILE",
+    "its question paper, to change between the two at the same places",
+);
 pub const ALL: Opt = Opt::flag("--all", "the texts of all Cells");
 pub const TYPED: Opt = Opt::flag("--typed", "as a typed list");
 pub const BYTES: Opt = Opt::flag("--bytes", "the settings as bytes, 31, or 42 with a margin");

@@ -14,6 +14,7 @@ mod print;
 mod settings;
 mod sizes;
 mod typing;
+mod view;
 mod widen;
 
 use std::ffi::OsString;
@@ -29,6 +30,7 @@ use crate::table::{Format, Table};
 pub const COMMANDS: &[Command] = &[
     print::COMMAND,
     nodes::COMMAND,
+    view::COMMAND,
     sizes::COMMAND,
     leaf::COMMAND,
     place::COMMAND,

@@ -1,0 +1,151 @@
+//! The page of `legs view`, without a browser: its data held to the calls, each place asked by itself; nothing from outside; texts that look like HTML. `view/check` opens it in a browser.
+
+mod held;
+mod json;
+mod papers;
+mod random;
+mod sheets;
+mod texts;
+
+use std::io::Write;
+use std::process::{Command, Output, Stdio};
+
+use held::between;
+use leg_sheet::{Settings, Tree};
+
+const FOLDER: &str = concat!(env!("CARGO_MANIFEST_DIR"), "/../examples");
+
+/// Runs a program in the folder of the examples, with this on standard input.
+fn run(program: &str, words: &[&str], input: &[u8]) -> Output {
+    let mut child = Command::new(program)
+        .args(words)
+        .current_dir(FOLDER)
+        .stdin(Stdio::piped())
+        .stdout(Stdio::piped())
+        .stderr(Stdio::piped())
+        .spawn()
+        .expect("it starts");
+    // One that does not read its standard input may have closed it.
+    let _ = child.stdin.take().expect("a pipe").write_all(input);
+    child.wait_with_output().expect("it ends")
+}
+
+/// The page that `legs view` writes.
+fn view(words: &[&str], input: &[u8]) -> String {
+    let words = [&["view"], words].concat();
+    let output = run(env!("CARGO_BIN_EXE_legs"), &words, input);
+    let message = String::from_utf8_lossy(&output.stderr).into_owned();
+    assert_eq!((message.as_str(), output.status.code()), ("", Some(0)));
+    String::from_utf8(output.stdout).expect("text")
+}
+
+/// Its message and status where there is no page.
+fn fails(words: &[&str], input: &[u8], message: &str, status: i32) {
+    let words = [&["view"], words].concat();
+    let output = run(env!("CARGO_BIN_EXE_legs"), &words, input);
+    let said = String::from_utf8(output.stderr).expect("text");
+    assert_eq!(said, format!("legs: {message}\n"));
+    assert_eq!(
+        (output.stdout.len(), output.status.code()),
+        (0, Some(status))
+    );
+}
+
+/// The bytes of settings and a tree.
+fn bytes(settings: &Settings, tree: &Tree) -> Vec<u8> {
+    [settings.to_bytes(), tree.to_bytes().expect("a tree")].concat()
+}
+
+/// A number over every tenth column, as far as there is room, and a digit over each.
+#[test]
+fn rulers() {
+    for columns in [5, 9, 10, 11, 12, 13, 99, 100, 101, 102, 103, 104, 399, 400] {
+        let page = view(&["-"], "x".repeat(columns - 4).as_bytes());
+        let ruler = between(
+            &page,
+            "<pre class=\"ruler\" id=\"over\" aria-hidden=\"true\">",
+            "</pre>",
+        );
+        let (tens, digits) = ruler.split_once('\n').expect("two lines");
+        assert_eq!((tens.len(), digits.len()), (columns, columns));
+        for column in 0..columns {
+            assert_eq!(digits[column..=column], (column % 10).to_string());
+        }
+        for column in (0..columns).step_by(10) {
+            let number = column.to_string();
+            let room = columns - column;
+            let shown = tens[column..].split(' ').next();
+            assert_eq!(
+                shown,
+                Some(if number.len() > room { "" } else { &number }),
+                "{columns}"
+            );
+        }
+        assert_eq!(
+            between(
+                &page,
+                "<pre class=\"ruler\" id=\"along\" aria-hidden=\"true\">",
+                "</pre>"
+            ),
+            "0\n1\n2"
+        );
+    }
+}
+
+/// Paper that is wider than high where the letters can be larger so.
+#[test]
+fn paper() {
+    let paper = |list: &str| {
+        let page = view(&["-"], list.as_bytes());
+        between(&page, "@page { size: A4 ", ";").to_string()
+    };
+    assert_eq!(paper("short"), "portrait");
+    assert_eq!(paper(&"x".repeat(74)), "portrait");
+    assert_eq!(paper(&"x".repeat(396)), "landscape");
+    assert_eq!(paper(&("x".repeat(200) + &"\\nx".repeat(150))), "portrait");
+}
+
+#[test]
+fn refusals() {
+    fails(
+        &["refused.legs"],
+        b"",
+        "refused.legs: refused 6: the sheet has over 400 columns or over 160 lines",
+        1,
+    );
+    fails(
+        &["key.legs", "--paper", "refused.legs"],
+        b"",
+        "refused.legs: refused 6: the sheet has over 400 columns or over 160 lines",
+        1,
+    );
+    let usage = "usage: legs view FILE [--paper PAPER]; 'legs --help' says more";
+    for words in [
+        &[][..],
+        &["a", "b"],
+        &["a", "--paper"],
+        &["a", "b", "c"],
+        &["a", "--paper", "b", "c"],
+    ] {
+        fails(words, b"", usage, 2);
+    }
+    let once = "usage: standard input is read once; 'legs --help' says more";
+    fails(&["-", "--paper", "-"], b"a", once, 2);
+    for paper in ["-", "paper.legs"] {
+        fails(
+            &["key.legs", "--paper", paper, "--settings", "-"],
+            b"a",
+            once,
+            2,
+        );
+    }
+    let missing = "none.list: No such file or directory (os error 2)";
+    fails(&["key.legs", "--paper", "none.list"], b"", missing, 3);
+}
+
+#[test]
+fn help() {
+    let help = run(env!("CARGO_BIN_EXE_legs"), &["--help"], b"").stdout;
+    let help = String::from_utf8(help).expect("text");
+    assert!(help.contains("\n  legs view FILE [--paper PAPER] "));
+}
