@@ -110,20 +110,21 @@ fn refusals() {
     fails(
         &["refused.legs"],
         b"",
-        "refused.legs: refused 6: the sheet has over 400 columns or over 160 lines",
+        "refused.legs: refused 6: the sheet would have 406 columns, 400 is the limit",
         1,
     );
     fails(
         &["key.legs", "--paper", "refused.legs"],
         b"",
-        "refused.legs: refused 6: the sheet has over 400 columns or over 160 lines",
+        "refused.legs: refused 6: the sheet would have 406 columns, 400 is the limit",
         1,
     );
-    let usage = "usage: legs view FILE [--paper PAPER]; 'legs --help' says more";
+    let value = "usage: --paper wants a value; 'legs --help' says more";
+    fails(&["a", "--paper"], b"", value, 2);
+    let usage = "usage: legs view FILE; 'legs --help' says more";
     for words in [
         &[][..],
         &["a", "b"],
-        &["a", "--paper"],
         &["a", "b", "c"],
         &["a", "--paper", "b", "c"],
     ] {
@@ -145,7 +146,10 @@ fn refusals() {
 
 #[test]
 fn help() {
-    let help = run(env!("CARGO_BIN_EXE_legs"), &["--help"], b"").stdout;
-    let help = String::from_utf8(help).expect("text");
-    assert!(help.contains("\n  legs view FILE [--paper PAPER] "));
+    let says = |words: &[&str]| {
+        let help = run(env!("CARGO_BIN_EXE_legs"), words, b"").stdout;
+        String::from_utf8(help).expect("text")
+    };
+    assert!(says(&["--help"]).contains("\n  legs view FILE "));
+    assert!(says(&["help", "view"]).contains("\n    --paper FILE "));
 }

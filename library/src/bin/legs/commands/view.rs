@@ -22,8 +22,9 @@ fn run(given: &Given) -> Result<Answer, Fault> {
     let over = Over::of(given)?;
     let (key, paper) = (&given.operands[0], given.value(PAPER.name));
     let is_input = |word: &OsStr| word == "-";
-    let inputs = [Some(key.as_os_str()), paper].into_iter().flatten();
-    if inputs.filter(|word| is_input(word)).count() + usize::from(over.is_from("-")) > 1 {
+    let (key_is, paper_is) = (is_input(key), paper.is_some_and(is_input));
+    let settings_are = over.is_from("-");
+    if key_is && paper_is || settings_are && (key_is || paper.is_some()) {
         return Err(Fault::Usage("standard input is read once".into()));
     }
     // Each under the settings of the options.
