@@ -11,8 +11,9 @@ import time
 
 # Chromium reads commands from its descriptor 3 and writes answers and events to 4, each with a zero byte behind it.
 PIPES = 'exec "$@" 3<&0 4>&1 < /dev/null > /dev/null 2>&1'
-OPTIONS = ["--headless", "--disable-gpu", "--hide-scrollbars", "--no-first-run", "--remote-debugging-pipe", "--force-color-profile=srgb"]
-SECONDS = 120
+# Without a sandbox, which neither root nor every container can have: only pages of our own are opened.
+OPTIONS = ["--headless", "--no-sandbox", "--disable-gpu", "--disable-dev-shm-usage", "--hide-scrollbars", "--force-color-profile=srgb", "--remote-debugging-pipe"]
+SECONDS = 60
 
 
 class Browser:
@@ -20,9 +21,7 @@ class Browser:
 
     def __init__(self, program):
         self.folder = tempfile.mkdtemp()
-        # The sandbox does not run as root, and only pages of our own are opened.
-        options = OPTIONS + ["--user-data-dir=" + self.folder] + (["--no-sandbox"] if os.getuid() == 0 else [])
-        words = ["sh", "-c", PIPES, "sh", program, *options]
+        words = ["sh", "-c", PIPES, "sh", program, *OPTIONS, "--user-data-dir=" + self.folder]
         self.process = subprocess.Popen(words, stdin=subprocess.PIPE, stdout=subprocess.PIPE, bufsize=0)
         self.read, self.events, self.count = b"", [], 0
 
@@ -33,7 +32,7 @@ class Browser:
             message["sessionId"] = session
         self.process.stdin.write(json.dumps(message).encode() + b"\0")
         while True:
-            answer = self.message()
+            answer = self.message(method)
             if answer.get("id") == self.count:
                 break
             self.events.append(answer)
@@ -41,13 +40,13 @@ class Browser:
             raise RuntimeError(f"{method}: {answer['error']['message']}")
         return answer["result"]
 
-    def message(self):
+    def message(self, awaited):
         end = time.monotonic() + SECONDS
         while b"\0" not in self.read:
             ready, _, _ = select.select([self.process.stdout], [], [], max(0, end - time.monotonic()))
             more = os.read(self.process.stdout.fileno(), 1 << 20) if ready else b""
             if not more:
-                raise RuntimeError("the browser does not answer")
+                raise RuntimeError(f"the browser is silent, and {awaited} awaited")
             self.read += more
         message, self.read = self.read.split(b"\0", 1)
         return json.loads(message)
@@ -57,7 +56,7 @@ class Browser:
         at = 0
         while True:
             if at == len(self.events):
-                self.events.append(self.message())
+                self.events.append(self.message(method))
             event = self.events[at]
             if event.get("method") == method and event.get("sessionId") == session:
                 return self.events.pop(at)["params"]

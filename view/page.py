@@ -25,6 +25,7 @@ AREAS = """(() => {
 class Page(Tab):
     def __init__(self, browser, *words, given="", is_opened=True, **size):
         super().__init__(browser, **size)
+        self.name = " ".join(words)
         self.sheet = legs.printed(words[0], given=given)
         handle, self.path = tempfile.mkstemp(suffix=".html")
         with os.fdopen(handle, "w") as file:
@@ -32,7 +33,10 @@ class Page(Tab):
         if is_opened:
             self.open(self.path)
 
-    def close(self):
+    def close(self, check=None):
+        """Tells the check, where it is to know, what the browser found wrong."""
+        if check:
+            check.equal(f"faults of {self.name}", self.faults(), [])
         super().close()
         os.remove(self.path)
 

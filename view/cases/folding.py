@@ -46,7 +46,7 @@ def by_keyboard(check, browser):
     page.press("Enter")
     folded(check, page, example, "Enter at the cover", [])
     check.equal("and back to the sheet", (page.active(), page.status()), ("field", ["unfolded: node 41: row, 2 below"]))
-    page.close()
+    page.close(check)
 
 
 def by_mouse(check, browser):
@@ -66,7 +66,7 @@ def by_mouse(check, browser):
     folded(check, page, example, "click at 9 again", [24])
     page.click(".fold")
     folded(check, page, example, "click at the cover of 24", [])
-    page.close()
+    page.close(check)
 
 
 def outline(check, browser):
@@ -99,7 +99,7 @@ def outline(check, browser):
     page.run("document.getElementById('clear').focus()")
     page.press("Tab")
     check.equal("Tab leads to a line in sight", page.active(), "1")
-    page.close()
+    page.close(check)
 
 
 CASES = [by_keyboard, by_mouse, outline]

@@ -25,8 +25,7 @@ def every_place(check, browser):
         check.equal(f"{file}: places", [row[0] for row in given], [f"{line} {column}" for line, column in example.places])
         check.equal(f"{file}: answers", found, [example.answers[place] for place in example.places])
         check.holds(f"{file}: some are refused, and most are not", {12} <= set(example.answers.values()) and len(set(example.answers.values())) > 500)
-        check.equal(f"{file}: faults", page.faults(), [])
-        page.close()
+        page.close(check)
 
 
 def every_leaf(check, browser):
@@ -50,7 +49,7 @@ def every_leaf(check, browser):
         check.equal(f"{file}: the last stays", page.cursor(), example.area(example.leaves()[-1])[:2])
         page.press("p")
         check.equal(f"{file}: back", page.cursor(), example.area(example.leaves()[-2])[:2])
-        page.close()
+        page.close(check)
 
 
 def keys(check, browser):
@@ -89,7 +88,7 @@ def keys(check, browser):
     check.equal("Shift+Tab leads back to the sheet", page.active(), "field")
     page.press("Tab", shift=True)
     check.equal("and out of it", page.active(), "print")
-    page.close()
+    page.close(check)
 
 
 def crossing(check, browser):
@@ -101,7 +100,7 @@ def crossing(check, browser):
         page.press("Enter")
         page.press("u")
         check.equal(f"u from {node}", page.cursor(), example.area(example.above(node)[0])[:2])
-    page.close()
+    page.close(check)
 
 
 def mouse(check, browser):
@@ -126,12 +125,12 @@ def mouse(check, browser):
     check.equal("no place was marked", page.answers(), [])
     page.point_at(12, 31, clicks=2)
     check.equal("a double click marks", [row[:2] for row in page.answers()], [["12 31", str(example.owner(12, 31))]])
-    page.close()
+    page.close(check)
 
 
 def go_to(check, browser):
     page, example = Page(browser, "binder.legs"), legs.Example("binder.legs")
-    for typed, place in [("12 31", (12, 31)), ("1,8", (1, 8)), (" 3 ; 20 ", (3, 20)), ("5\t9", (5, 9))]:
+    for typed, place in [("12 31", (12, 31)), ("1,8", (1, 8)), (" 3 , 20 ", (3, 20)), ("5\t9", (5, 9))]:
         page.type("#place", typed)
         page.press("Enter")
         check.equal(f"go to {typed!r}", page.cursor(), list(place))
@@ -143,7 +142,7 @@ def go_to(check, browser):
         page.click("#go button")
         check.equal(f"go to {typed!r}", page.status(), [typed, said])
         check.equal("the cursor stays", page.cursor(), [5, 9])
-    page.close()
+    page.close(check)
 
 
 CASES = [every_place, every_leaf, keys, crossing, mouse, go_to]

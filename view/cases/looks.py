@@ -33,7 +33,7 @@ def colours(check, browser):
         check.holds(f"{scheme}: all were looked at", {"hit", "above", "marked", "over", "sheet"} <= {name for name, _ in contrasts}, f": {contrasts}")
         papers.add(page.run("getComputedStyle(document.body).backgroundColor"))
     check.equal("two schemes", len(papers), 2)
-    page.close()
+    page.close(check)
 
 
 def narrow(check, browser):
@@ -50,7 +50,7 @@ def narrow(check, browser):
     page.press("End", ctrl=True)
     box = page.run("(() => { const it = document.getElementById('cursor').getBoundingClientRect(); return [it.left >= 0, it.right <= 320, it.top >= 0, it.bottom <= document.getElementById('status').getBoundingClientRect().top] })()")
     check.equal("the cursor is in sight", box, [True] * 4)
-    page.close()
+    page.close(check)
 
 
 def read_out(check, browser):
@@ -70,12 +70,12 @@ def read_out(check, browser):
     check.equal("levels", [state(node).get("level") for node in items][:9], [1, 2, 3, 3, 2, 3, 3, 3, 2])
     check.holds("expanded", state(items[0]).get("expanded") is True and "expanded" not in state(items[2]), f": {state(items[0])}")
     live = [state(node).get("live") for node in nodes if value(node, "role") == "status"]
-    check.equal("what is said is read out", live, ["polite"] * len(live))
+    check.equal("what is said and what is marked is read out", live, ["polite"] * 2)
     page.point_at(5, 40)
     check.equal("but not what a pointer passes", page.text("#said"), [""])
     page.point_at(5, 40, clicks=1)
     check.equal("a click is", page.text("#said"), [". ".join(page.status())])
-    page.close()
+    page.close(check)
 
 
 def opens(check, browser):
@@ -93,7 +93,7 @@ def opens(check, browser):
     page.press("End", ctrl=True)
     check.equal("its last place", page.cursor(), [159, 399])
     check.holds("is said", page.status()[1].startswith("node 511: "), f": {page.status()}")
-    page.close()
+    page.close(check)
 
 
 CASES = [colours, narrow, read_out, opens]

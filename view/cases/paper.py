@@ -33,14 +33,13 @@ def switching(check, browser):
     check.equal("the choice", page.run("[...document.querySelectorAll('#sheets input')].map((it) => it.checked)"), [False, True])
     page.press("k")
     check.equal("k again", page.text("#sheet"), [sheets["key.legs"]])
-    check.equal("faults", page.faults(), [])
-    page.close()
+    page.close(check)
 
 
 def alone(check, browser):
     page = Page(browser, "key.legs")
     check.equal("a key alone has no choice", page.text("#sheets"), [])
-    page.close()
+    page.close(check)
 
 
 CASES = [switching, alone]

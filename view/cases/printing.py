@@ -26,7 +26,7 @@ def one_page(check, browser):
         for rulers in (False, True):
             page.run(f"document.getElementById('paper-rulers').checked = {str(rulers).lower()}")
             check_page(check, page, f"{title}, rulers {rulers}", rulers)
-        page.close()
+        page.close(check)
 
 
 def check_page(check, page, title, has_rulers):
@@ -72,7 +72,7 @@ def folds_and_lights(check, browser):
     page.run("window.print = () => (window.isPrinted = true)")
     page.click("#print")
     check.equal("the button prints", page.run("window.isPrinted"), True)
-    page.close()
+    page.close(check)
 
 
 CASES = [one_page, folds_and_lights]

@@ -36,16 +36,15 @@ def hostile_texts(check, browser):
     page.press("f")
     check.equal("elements", page.run("['script', 'style', 'img', 'title', 'pre'].map((it) => document.getElementsByTagName(it).length)"), [2, 1, 0, 1, 3])
     check.equal("title", page.run("document.title"), "standard input: leg sheet")
-    check.equal("faults", page.faults(), [])
-    page.close()
+    page.close(check)
 
 
 def policy(check, browser):
     page = Page(browser, "flight.list")
-    check.equal("faults", page.faults(), [])
     seen, is_run, is_hidden = page.run(ATTEMPTS)
     check.equal("refused", seen, ["connect-src", "frame-src", "img-src", "script-src-elem", "style-src-elem"])
     check.equal("nothing was run or hidden", (is_run, is_hidden), (False, False))
+    check.holds("and the browser tells", len(page.faults()) >= len(seen))
     page.close()
 
 
@@ -57,12 +56,11 @@ def every_example(check, browser):
     for name in names:
         page = Page(browser, name)
         check.equal(f"{name}: sheet", page.text("#sheet"), ["\n".join(page.sheet)])
-        check.equal(f"{name}: faults", page.faults(), [])
         page.call("Emulation.setScriptExecutionDisabled", value=True)
         page.open(page.path)
         check.equal(f"{name}: without script", page.text("#sheet"), ["\n".join(page.sheet)])
         check.equal(f"{name}: what needs script", page.text(".scripted"), [])
-        page.close()
+        page.close(check)
 
 
 def odd_sheets(check, browser):
@@ -76,15 +74,13 @@ def odd_sheets(check, browser):
         page.click("#clear")
         page.press("Tab", "End", "Enter")
         check.holds(f"{title}: said", "; has no place in the sheet; flags: " in page.status()[1], f": {page.status()}")
-        check.equal(f"{title}: faults", page.faults(), [])
-        page.close()
+        page.close(check)
     for given, labels in [("'", ["(empty cell)"]), ("row", ["(empty row)"]), ("column\n  row\n  column\n", ["column, 2 below", "(empty row)", "(empty column)"])]:
         page = Page(browser, "-", given=given)
         check.equal(f"{given!r}: outline", [label for _, label in page.outline()], labels)
         page.run("document.getElementById('field').focus()")
         page.press("n", "p", "u", "f", "Enter", "End")
-        check.equal(f"{given!r}: faults", page.faults(), [])
-        page.close()
+        page.close(check)
 
 
 CASES = [hostile_texts, policy, every_example, odd_sheets]

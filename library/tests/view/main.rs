@@ -105,43 +105,39 @@ fn paper() {
     assert_eq!(paper(&("x".repeat(200) + &"\\nx".repeat(150))), "portrait");
 }
 
+/// How the message begins, and the status, where there is no page.
+fn refuses(words: &[&str], beginning: &str, status: i32) {
+    let words = [&["view"], words].concat();
+    let output = run(env!("CARGO_BIN_EXE_legs"), &words, b"");
+    let said = String::from_utf8(output.stderr).expect("text");
+    assert!(said.starts_with(&format!("legs: {beginning}: ")), "{said}");
+    let answer = (output.stdout.len(), output.status.code());
+    assert_eq!(answer, (0, Some(status)));
+}
+
 #[test]
 fn refusals() {
-    fails(
-        &["refused.legs"],
-        b"",
-        "refused.legs: refused 6: the sheet would have 406 columns, 400 is the limit",
-        1,
-    );
-    fails(
-        &["key.legs", "--paper", "refused.legs"],
-        b"",
-        "refused.legs: refused 6: the sheet would have 406 columns, 400 is the limit",
-        1,
-    );
-    let value = "usage: --paper wants a value; 'legs --help' says more";
-    fails(&["a", "--paper"], b"", value, 2);
-    let usage = "usage: legs view FILE; 'legs --help' says more";
-    for words in [
-        &[][..],
-        &["a", "b"],
-        &["a", "b", "c"],
-        &["a", "--paper", "b", "c"],
-    ] {
-        fails(words, b"", usage, 2);
+    refuses(&["refused.legs"], "refused.legs: refused 6", 1);
+    let paper = ["key.legs", "--paper", "refused.legs"];
+    refuses(&paper, "refused.legs: refused 6", 1);
+    refuses(&["key.legs", "--paper", "none.list"], "none.list", 3);
+    for words in [&[][..], &["a", "b"], &["a", "--paper"], &["a", "b", "c"]] {
+        refuses(words, "usage", 2);
     }
-    let once = "usage: standard input is read once; 'legs --help' says more";
-    fails(&["-", "--paper", "-"], b"a", once, 2);
-    for paper in ["-", "paper.legs"] {
-        fails(
-            &["key.legs", "--paper", paper, "--settings", "-"],
+    let once = "usage: standard input is read once";
+    let both = ["-", "--paper", "-"];
+    let settings = ["-", "--paper", "key.legs", "--settings", "-"];
+    let paper = ["key.legs", "--paper", "-", "--settings", "-"];
+    for words in [&both[..], &settings, &paper] {
+        let output = run(
+            env!("CARGO_BIN_EXE_legs"),
+            &[&["view"], words].concat(),
             b"a",
-            once,
-            2,
         );
+        let said = String::from_utf8(output.stderr).expect("text");
+        assert!(said.contains(once), "{said}");
+        assert_eq!(output.status.code(), Some(2));
     }
-    let missing = "none.list: No such file or directory (os error 2)";
-    fails(&["key.legs", "--paper", "none.list"], b"", missing, 3);
 }
 
 #[test]

@@ -10,11 +10,7 @@ use super::owners::{Area, Crossing};
 pub fn data(layout: &Layout, sheets: &[Texts]) -> String {
     let owners = layout.owners.lines.iter().map(|line| runs(line));
     let nodes = layout.nodes.iter().map(node);
-    let refusals = [
-        Refusal::OutsideSheet,
-        Refusal::InMargin,
-        Refusal::TooManyPlaces,
-    ];
+    let refusals = [Refusal::OutsideSheet, Refusal::InMargin];
     let words = refusals.map(|refusal| {
         let (number, sentence) = (refusal.number(), json(refusal.sentence()));
         format!("\"{number}\":{sentence}")

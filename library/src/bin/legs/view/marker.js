@@ -3,22 +3,19 @@
 
 const [places, answers, copied] = ["places", "answers", "copied"].map(element);
 
-/** As many places as one candidate gives (document 02, 6). */
-const MOST = 256;
-
-/** The answers to the field's lines but blank ones and comments: for each what was said, its place, what was found. */
+/** The answers to the field's lines, without comments, which # begins: for each what was said, its place, what was found. */
 function marked() {
-  const lines = places.value.split("\n").map((said) => said.trim());
-  return lines.filter((said) => said && !said.startsWith("#")).map(markedLine);
+  const lines = places.value.split("\n").map((said) => said.split("#")[0].trim());
+  return lines.filter((said) => said).map(markedLine);
 }
 
-function markedLine(said, at) {
-  const numbers = said.match(/^(\d+)(?:\s*[,;]\s*|\s+)(\d+)$/);
+function markedLine(said) {
+  const numbers = said.match(/^(\d+)[\s,]+(\d+)$/);
   if (!numbers) return { said, wrong: "no line and column" };
-  const [top, left] = numbers.slice(1).map(Number);
-  const found = at < MOST ? find(top, left) : { refused: 14 };
+  const place = numbers.slice(1).map(Number);
+  const found = find(...place);
   const wrong = found.refused && `${found.refused}: ${data.refusals[found.refused]}`;
-  return { said, place: [top, left], wrong, ...found };
+  return { said, place, wrong, ...found };
 }
 
 /** A row of the table: the place leads to the sheet. */
@@ -56,11 +53,11 @@ function drawMarked() {
 /** A text in one field of a table: line feeds and backslashes as in typed lists. */
 const inField = (text) => text.replaceAll("\\", "\\\\").replaceAll("\n", "\\n");
 
-/** The answers, a line each, their fields parted by tabs. */
+/** The answers, a line each, their fields parted by tabs: the fields of a place that has none are empty but for the refusal's number. */
 function tsv() {
-  const lines = marked().map(({ said, place, wrong, node, line: top, column: left }) => {
+  const lines = marked().map(({ said, place, wrong, refused, node, line: top, column: left }) => {
     const text = wrong ? "" : data.sheets[shown].texts[node];
-    const fields = [...(place ?? [said, ""]), node ?? "", top ?? "", left ?? "", text, wrong ?? ""];
+    const fields = [...(place ?? [said, ""]), node ?? "", top ?? "", left ?? "", text, refused ?? wrong ?? ""];
     return fields.map((it) => inField(String(it)).replaceAll("\t", " ")).join("\t");
   });
   return ["line\tcolumn\tnode\tblock_line\tblock_column\ttext\trefused", ...lines, ""].join("\n");

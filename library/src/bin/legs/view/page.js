@@ -32,7 +32,7 @@ function drawSheets() {
 /** The place typed into the field beside 'go to'. */
 function goTyped(event) {
   event.preventDefault();
-  const { said, place, wrong } = markedLine(element("place").value.trim(), 0);
+  const { said, place, wrong } = markedLine(element("place").value.trim());
   if (wrong) return say([said, wrong]);
   go(...place);
   field.focus();
