@@ -30,6 +30,7 @@ def switching(check, browser):
     page.run("document.getElementById('field').focus()")
     page.press("k")
     check.equal("k", page.text("#sheet"), [sheets["paper.legs"]])
+    check.equal("which is read out", page.text("#said"), ["paper.legs"])
     check.equal("the choice", page.run("[...document.querySelectorAll('#sheets input')].map((it) => it.checked)"), [False, True])
     page.press("k")
     check.equal("k again", page.text("#sheet"), [sheets["key.legs"]])

@@ -59,7 +59,10 @@ const sheetKeys = {
   Enter: add,
   g: () => element("place").focus(),
   m: () => places.focus(),
-  k: () => show((shown + 1) % data.sheets.length),
+  k: () => {
+    show((shown + 1) % data.sheets.length);
+    element("said").textContent = data.sheets[shown].name;
+  },
   r: () => (rulers.checked = !rulers.checked),
 };
 
