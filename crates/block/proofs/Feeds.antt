@@ -1,9 +1,9 @@
 -- Lines joined by 0A: their length, their places, and that they are the lines laid over bytes of 0A. Assumes nothing.
 use mathlib.Core.Path.{_≡_, refl, sym, _∙_}
-use Prim.Native.Nat.{ℕ, zero, suc, _+_, _*_, _<_}
+use Prim.Native.Nat.{ℕ, zero, suc, _+_, _*_, _≤_, _<_}
 use native.Mathlib.Omega.{arith}
 use mathlib.Core.List.{List, [], _∷_, _++_, append-assoc}
-use lib.ListN.{length, getD, replicate, length-append, length-replicate, replicate-append-replicate, List·getD-append}
+use lib.ListN.{length, getD, drop, replicate, length-append, length-replicate, replicate-append-replicate, List·getD-append}
 use lib.Seq.{sets, sets-eq, take-at, drop-at, getD-append-add}
 use Rattle.block.specs.Content.{feeds}
 use Rattle.block.specs.Paint.{pasted}
@@ -66,3 +66,13 @@ feeds-over (l ∷ m ∷ x) pre r w e =
 -- lines laid over 0A, each one place after the one before: the lines joined by 0A, and what came after them
 pub pasted-feeds : (x : List (List ℕ)) (r : List ℕ) (w : ℕ) → Every (λ l. length l ≡ w) x → pasted (replicate (length (feeds x)) 10 ++ r) 0 (w + 1) x ≡ feeds x ++ r
 pasted-feeds x r w e = feeds-over x [] r w e
+
+-- the same where n bytes of 0A were written at the start
+pub fed-pasted : (x : List (List ℕ)) {h w : ℕ} → Dims x h w → (n : ℕ) → n ≡ length (feeds x) → (o o₁ o₂ : List ℕ) → n ≤ length o
+    → o₁ ≡ sets o 0 (replicate n 10) → o₂ ≡ pasted o₁ 0 (w + 1) x → o₂ ≡ feeds x ++ drop n o
+fed-pasted x {w = w} d n e o o₁ o₂ l e₁ e₂ =
+    let a : List ℕ = replicate n 10 in
+    let m : length a ≡ n = length-replicate n 10 in
+    let z : 0 + length a ≡ n = omega arith in
+    let f : sets o 0 a ≡ a ++ drop n o = sets-eq a o 0 (omega arith) ∙ rw z in
+    e₂ ∙ rw (e₁, f, e) (pasted-feeds x (drop (length (feeds x)) o) w (d .columns))

@@ -14,4 +14,3 @@ pub mod Crossed
 pub mod Planned
 pub mod Corners
 pub mod Painted
-pub mod Printed

@@ -1,14 +1,13 @@
--- Lines laid over bytes; what the printers of a leaf ask and promise.
+-- Lines laid over bytes; what the painter of a leaf asks and promises.
 use mathlib.Core.Path.{_≡_}
 use Prim.Native.Nat.{ℕ, _+_, _*_, _≤_, _<_}
-use mathlib.Core.List.{List, [], _∷_, _++_}
-use lib.ListN.{length, drop}
+use mathlib.Core.List.{List, [], _∷_}
+use lib.ListN.{length}
 use lib.Seq.{sets}
 use Rattle.settings.specs.declared.Settings.{Settings}
 use Rattle.sizes.specs.declared.Size.{Size}
 use Rattle.sizes.specs.Sizes.{Fits, leafSize}
 use Rattle.block.specs.declared.Flags.{Flags}
-use Rattle.block.specs.Content.{feeds}
 use Rattle.block.specs.Block.{Leaf, tall, wide}
 
 -- the bytes o with the lines x over them: the first at `at`, each `stride` after the one before
@@ -41,8 +40,3 @@ pub record Paintable (s : Settings) (t : List ℕ) (n z : Size) (f : Flags) (h v
   pub few-vertical : length v ≤ 512
   pub apart : wide s z f ≤ stride
   pub room : Room base stride (tall s z f) (wide s z f) len
-
--- the lines x joined by 0A stand at the start of the bytes, which were o₀; r is how many bytes they are; the bytes after them are as they were
-pub record Printed (x : List (List ℕ)) (r : ℕ) (o₀ o : List ℕ) : Type 0 where
-  pub count-is : r ≡ length (feeds x)
-  pub out-is : o ≡ feeds x ++ drop r o₀

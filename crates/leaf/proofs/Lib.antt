@@ -3,6 +3,7 @@ pub mod Seek
 pub mod Calls
 pub mod Bytes
 pub mod Records
+pub mod Alone
 mod Parts
 pub mod Pair
 pub mod Numbers

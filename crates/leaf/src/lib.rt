@@ -1,7 +1,10 @@
 // The leaf record and the leaf printer.
 use block::Flags;
+use entries::entry::BASE;
+use entries::entry::FRONT;
 use entries::entry::entry_at;
 use entries::find_leaf;
+use entries::paint_leaves;
 use frame::Written;
 use settings::Settings;
 use sizes::Size;
@@ -11,17 +14,16 @@ use sizes::lists::natural_at;
 use splits::SplitList;
 use splits::cut::CutPair;
 use splits::lent::list_at;
-use tree::front::length_at;
 ghost use mathlib.Core.Path.{_≡_};
-ghost use Prim.Native.Nat.{_≤_, _<_};
+ghost use Prim.Native.Nat.{_≤_};
 ghost use lib.ListN.{length};
 ghost use Rattle.sizes.specs.Input.{inputOf};
 ghost use Rattle.block.specs.Content.{feeds};
 ghost use Rattle.block.specs.Block as blocks;
 ghost use Rattle.layout.specs.Walk.{leafOf};
 ghost use Rattle.frame.specs.Printer.{printTo};
-ghost use Rattle.leaf.specs.Answers.{noRecord, recordOf, leafRecordOf, leafPrintOf};
-ghost use Rattle.leaf.specs.Contracts.{blockBytes, noSought, Shows, Seeks};
+ghost use Rattle.leaf.specs.Answers.{noFlags, noRecord, recordOf, leafRecordOf, leafPrintOf};
+ghost use Rattle.leaf.specs.Contracts.{noSought, Shows, Seeks};
 
 // A leaf's record: node, allotted size, both split lists as handed to the leaf, eight flags, the pair of the cut that its parent made for it; or a refusal with 0 or no elsewhere.
 pub struct LeafRecord {
@@ -34,12 +36,27 @@ pub struct LeafRecord {
     pub pair: CutPair,
 }
 
+fn no_flags() -> Flags
+    ensures { λ r. ⌜ r ≡ noFlags ⌝ }
+{
+    Flags {
+        first_row: false,
+        last_row: false,
+        first_col: false,
+        last_col: false,
+        no_right: false,
+        lean_top: false,
+        top_left: false,
+        top_intersection: false,
+    }
+}
+
 fn no_record(number: u8) -> LeafRecord
     ensures { λ r. ⌜ r ≡ noRecord number ⌝ }
 {
     let h = splits::no_pieces();
     let v = splits::no_pieces();
-    let flags = layout::no_flags();
+    let flags = no_flags();
     let size = Size {
         width: 0,
         height: 0,
@@ -62,8 +79,8 @@ fn record_at(tree: &[u8], list: &[u16], leaf: &[u16], s: Settings) -> LeafRecord
 {
     let e = entry_at(leaf);
     let p = e.spot;
-    let h = list_at(leaf, 8, e.horizontal);
-    let v = list_at(leaf, 8 + e.horizontal, e.vertical);
+    let h = list_at(leaf, FRONT, e.horizontal);
+    let v = list_at(leaf, FRONT + e.horizontal, e.vertical);
     let size = allotted_at(list, p.node);
     let flags = layout::flags_of(p.flags);
     let pair = e.pair;
@@ -144,45 +161,24 @@ pub fn leaf_record(settings: &[u8], tree: &[u8], node: usize) -> LeafRecord
     record_at(tree, &list, &leaves[i..], s)
 }
 
-// The bytes of a leaf's block: its lines and the 0A between them.
-pub fn block_bytes(s: Settings, size: Size, f: Flags) -> usize
-    requires { ⌜ (size .width < 65536) × (size .height < 65536) ⌝ }
-    ensures { λ r. ⌜ r ≡ blockBytes s size f ⌝ }
-{
-    let wide = block::block_wide(s, size, f);
-    let tall = block::block_tall(s, size, f);
-    common::less_one(tall * (wide + 1))
-}
-
-// The block of the leaf whose entry is at the front of `leaf`, its lines joined by 0A, at the start of the output; or 8.
-fn print_block(tree: &[u8], list: &[u16], leaf: &[u16], s: Settings, out: &mut [u8]) -> Written
+// The block of the leaf whose entry is at the front of `leaf`, its lines joined by 0A, at the start of the output; or 8. It is painted over bytes of 0A, as the only
+// leaf of a sheet would be: its first byte is the output's.
+fn print_block(tree: &[u8], list: &[u16], leaf: &mut [u16], s: Settings, out: &mut [u8]) -> Written
     requires { ⌜ Shows (now tree) (now list) (now leaf) s ⌝ }
     ensures { λ r. ⌜ ((q : Shows (now (tree .entry)) (now (list .entry)) (now (leaf .entry)) s) → (r ≡ printTo (feeds (blocks.block s (leafOf (q .leaf)))) (now (out .entry)) .answer) × (now (out .exit) ≡ printTo (feeds (blocks.block s (leafOf (q .leaf)))) (now (out .entry)) .out)) ⌝ }
 {
     let e = entry_at(leaf);
-    let p = e.spot;
-    let middle = 8 + e.horizontal;
-    let end = middle + e.vertical;
-    let at = p.at;
-    let text = at + 3;
-    let stop = text + length_at(&tree[at..]);
-    let natural = natural_at(list, p.node);
-    let size = allotted_at(list, p.node);
-    let flags = layout::flags_of(p.flags);
-    let n = block_bytes(s, size, flags);
+    let end = FRONT + e.horizontal + e.vertical;
+    let size = allotted_at(list, e.spot.node);
+    let flags = layout::flags_of(e.spot.flags);
+    let stride = block::block_wide(s, size, flags) + 1;
+    let n = common::less_one(block::block_tall(s, size, flags) * stride);
     if out.len() < n {
         return frame::refused(8);
     }
-    block::paint_joined(
-        out,
-        s,
-        &tree[text..stop],
-        natural,
-        size,
-        flags,
-        &leaf[8..middle],
-        &leaf[middle..end],
-    );
+    block::bytes::fill(out, 0, n, 10);
+    leaf[BASE] = 0;
+    paint_leaves(tree, list, &leaf[..end], s, stride, out);
     Written {
         number: 0,
         count: n,
@@ -202,5 +198,5 @@ pub fn print_leaf(settings: &[u8], tree: &[u8], node: usize, out: &mut [u8]) -> 
     }
     let i = q.entry;
     let s = q.settings;
-    print_block(tree, &list, &leaves[i..], s, out)
+    print_block(tree, &list, &mut leaves[i..], s, out)
 }
