@@ -8,7 +8,8 @@ use lib.ListN.{length, replicate}
 use Rattle.common.specs.Choice.{pick}
 use Rattle.settings.specs.declared.Settings.{Settings}
 use Rattle.sizes.specs.declared.Size.{Size}
-use Rattle.sizes.specs.Sizes.{Fits, leafSize}
+use Rattle.sizes.specs.Sizes.{leafSize}
+use Rattle.sizes.specs.Contracts.{Fits}
 use Rattle.sizes.proofs.Separator.{sep-one, sep-none}
 use Rattle.block.specs.declared.Flags.{Flags}
 use Rattle.block.specs.Content.{column, paired}

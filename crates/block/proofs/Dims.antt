@@ -9,7 +9,8 @@ use Rattle.common.specs.Choice.{pick}
 use Rattle.settings.specs.declared.Settings.{Settings}
 use Rattle.sizes.specs.declared.Size.{Size}
 use Rattle.sizes.specs.Text.{lines, textHeight}
-use Rattle.sizes.specs.Sizes.{sep, Fits, leafSize}
+use Rattle.sizes.specs.Sizes.{sep, leafSize}
+use Rattle.sizes.specs.Contracts.{Fits}
 use Rattle.sizes.proofs.Heights.{leaf-height}
 use Rattle.block.specs.declared.Flags.{Flags}
 use Rattle.block.specs.Content.{ruled, column}

@@ -10,7 +10,8 @@ use Rattle.common.specs.Choice.{pick}
 use Rattle.settings.specs.declared.Settings.{Settings}
 use Rattle.splits.specs.Splits.{named}
 use Rattle.sizes.specs.declared.Size.{Size}
-use Rattle.sizes.specs.Sizes.{Fits, leafSize}
+use Rattle.sizes.specs.Sizes.{leafSize}
+use Rattle.sizes.specs.Contracts.{Fits}
 use Rattle.block.specs.declared.Flags.{Flags}
 use Rattle.block.specs.declared.borders.Borders.{Borders}
 use Rattle.block.specs.Block.{Leaf, body, topLine, middle, bottomLine, block, tall, wide}

@@ -6,7 +6,8 @@ use mathlib.Core.List.{List}
 use lib.ListN.{length, getD}
 use Rattle.settings.specs.declared.Settings.{Settings}
 use Rattle.sizes.specs.declared.Size.{Size}
-use Rattle.sizes.specs.Sizes.{Fits, leafSize}
+use Rattle.sizes.specs.Sizes.{leafSize}
+use Rattle.sizes.specs.Contracts.{Fits}
 use Rattle.block.specs.declared.Flags.{Flags}
 use Rattle.block.specs.Block.{block, tall, wide}
 use Rattle.block.specs.Paint.{pasted, leafWith, Paintable}

@@ -7,7 +7,8 @@ use lib.ListN.{getD, replicate}
 use Rattle.settings.specs.declared.Settings.{Settings}
 use Rattle.sizes.specs.declared.Size.{Size}
 use Rattle.sizes.specs.Text.{lines, textWidth, textHeight}
-use Rattle.sizes.specs.Sizes.{Fits, leafSize}
+use Rattle.sizes.specs.Sizes.{leafSize}
+use Rattle.sizes.specs.Contracts.{Fits}
 use Rattle.block.specs.declared.body.Plan.{Plan}
 use Rattle.block.specs.Block.{textLine, body}
 use Rattle.block.specs.Paint.{Room}

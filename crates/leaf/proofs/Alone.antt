@@ -7,8 +7,8 @@ use lib.ListN.{length, set, take, drop, replicate, length-append}
 use lib.Seq.{sets, take-at}
 use Rattle.settings.specs.declared.Settings.{Settings}
 use Rattle.sizes.specs.declared.Size.{Size}
-use Rattle.sizes.specs.Sizes.{Fits, leafSize}
-use Rattle.sizes.specs.Collecting.{Small}
+use Rattle.sizes.specs.Sizes.{leafSize}
+use Rattle.sizes.specs.Contracts.{Small, Fits}
 use Rattle.sizes.specs.Listed.{allottedAt}
 use Rattle.block.specs.declared.Flags.{Flags}
 use Rattle.block.specs.Content.{feeds}
@@ -20,7 +20,7 @@ use Rattle.block.proofs.Feeds.{fed-pasted}
 use Rattle.layout.specs.Walk.{Placed, leafOf}
 use Rattle.layout.specs.Contracts.{flagsAt}
 use Rattle.entries.specs.declared.entry.Entry.{Entry}
-use Rattle.entries.specs.Listing.{entryAt, entryOf, Stands, Listing, empty, entry, Begins, Asks, paintAll, PaintsAll}
+use Rattle.entries.specs.Contracts.{entryAt, entryOf, Stands, Listing, empty, entry, Begins, Asks, paintAll, PaintsAll}
 use Rattle.frame.specs.Printer.{noPrint, printTo}
 use Rattle.frame.proofs.Printers.{Answers}
 use Rattle.leaf.specs.Contracts.{blockBytes}

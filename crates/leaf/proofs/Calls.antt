@@ -16,8 +16,7 @@ use Rattle.sizes.specs.declared.Measured.{Measured}
 use Rattle.sizes.specs.Sizes.{sep, natural}
 use Rattle.sizes.specs.Input.{given, inputOf}
 use Rattle.sizes.specs.declared.Size.{Size}
-use Rattle.sizes.specs.Answer.{measuredOf, listOf}
-use Rattle.sizes.specs.Listed.{naturalAt, Allotted}
+use Rattle.sizes.specs.Contracts.{measuredOf, listOf, naturalAt, Allotted}
 use Rattle.sizes.proofs.Given.{Takes, takes, accepts, accepts-listed, accepts-root, listed-length, refuses}
 use Rattle.block.proofs.Every.{every-map}
 use Rattle.layout.specs.Walk.{Placed, leaves, insideW, insideH}
@@ -25,11 +24,12 @@ use Rattle.layout.proofs.Laid.{root-laid}
 use Rattle.layout.proofs.Inside.{Inside, laid-inside}
 use Rattle.layout.proofs.Fit.{LeafFits, leaves-fit}
 use Rattle.entries.specs.declared.Met.{Met}
-use Rattle.entries.specs.Listing as entries
-use Rattle.entries.specs.Listing.{Listing, Lists, Finds, Begins, entryOf}
-use Rattle.walk.specs.Walking.{Low, ReadyTree, WalksTree}
+use Rattle.entries.specs.Contracts as entries
+use Rattle.entries.specs.Contracts.{Listing, Lists, Finds, Begins, entryOf}
+use Rattle.walk.specs.Contracts.{Low, ReadyTree, WalksTree}
 use Rattle.frame.specs.declared.Frame.{Frame}
-use Rattle.frame.specs.Frame.{W, H, frameOf, largeOf, tooLarge}
+use Rattle.frame.specs.Frame.{W, H, tooLarge}
+use Rattle.frame.specs.Contracts.{frameOf, largeOf}
 use Rattle.frame.proofs.Sheets.{sheetFrame, frame-is, large-is, large-no}
 use Rattle.leaf.specs.declared.Sought.{Sought}
 use Rattle.leaf.specs.Answers.{numbered, leafRecordOf, leafPrintOf}

@@ -13,7 +13,8 @@ use Rattle.common.specs.Choice.{pick}
 use Rattle.settings.specs.declared.Settings.{Settings}
 use Rattle.settings.specs.declared.Margin.{Margin}
 use Rattle.tree.specs.Tree.{Tree}
-use Rattle.sizes.specs.Sizes.{Fits, leafSize}
+use Rattle.sizes.specs.Sizes.{leafSize}
+use Rattle.sizes.specs.Contracts.{Fits}
 use Rattle.sizes.proofs.Elems.{elem-none}
 use Rattle.block.specs.Content.{feeds}
 use Rattle.block.specs.Block.{block}

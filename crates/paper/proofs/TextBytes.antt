@@ -10,7 +10,8 @@ use Rattle.settings.specs.declared.Settings.{Settings}
 use Rattle.tree.specs.Tree.{Tree}
 use Rattle.sizes.specs.declared.Size.{Size}
 use Rattle.sizes.specs.Text.{lines, textWidth, textHeight}
-use Rattle.sizes.specs.Sizes.{sep, Fits, leafSize}
+use Rattle.sizes.specs.Sizes.{sep, leafSize}
+use Rattle.sizes.specs.Contracts.{Fits}
 use Rattle.block.specs.Block.{Leaf, before, indent, textLine, body, topLine, middle, block, tall, wide}
 use Rattle.block.proofs.Every.{every-at, every-elem, byteAt, byte-left, byte-right}
 use Rattle.block.proofs.TextLine.{before-le, mode-le, lines-width, lines-height}

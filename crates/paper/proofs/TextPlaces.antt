@@ -10,7 +10,8 @@ use Rattle.common.specs.Choice.{pick}
 use Rattle.settings.specs.declared.Settings.{Settings}
 use Rattle.sizes.specs.declared.Size.{Size}
 use Rattle.sizes.specs.Text.{lines, textWidth, textHeight}
-use Rattle.sizes.specs.Sizes.{sep, Fits, leafSize}
+use Rattle.sizes.specs.Sizes.{sep, leafSize}
+use Rattle.sizes.specs.Contracts.{Fits}
 use Rattle.block.specs.Block.{Leaf, mark, before, indent, textLine, body, topLine, middle, bottomLine, block, wide}
 use Rattle.block.proofs.Every.{Dims, dims-paired, dims-move, byteAt}
 use Rattle.block.proofs.TextLine.{text-dims}

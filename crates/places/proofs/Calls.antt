@@ -10,13 +10,14 @@ use Rattle.tree.specs.Tree.{Tree}
 use Rattle.sizes.specs.declared.Measured.{Measured}
 use Rattle.sizes.specs.declared.Size.{Size}
 use Rattle.sizes.specs.Sizes.{sep}
-use Rattle.sizes.specs.Listed.{naturalAt}
+use Rattle.sizes.specs.Contracts.{naturalAt}
 use Rattle.sizes.proofs.Whole.{here-of}
 use Rattle.sizes.specs.Input.{Input, refused, given, inputOf}
 use Rattle.sizes.proofs.Given.{Takes, takes}
 use Rattle.sizes.proofs.Separator.{sep-small}
 use Rattle.frame.specs.declared.Frame.{Frame}
-use Rattle.frame.specs.Frame.{W, H, frameOf, tooLarge}
+use Rattle.frame.specs.Frame.{W, H, tooLarge}
+use Rattle.frame.specs.Contracts.{frameOf}
 use Rattle.frame.proofs.Sheets.{frame-is, large-no}
 use Rattle.places.specs.declared.LeafPlace.{LeafPlace}
 use Rattle.places.specs.Words.{lineOf, columnOf, answerWord, placeWord}

@@ -11,7 +11,8 @@ use Rattle.tree.specs.Tree.{Axis, across, down, Tree, Trees}
 use Rattle.tree.specs.Planning.{Plan, Plans}
 use Rattle.sizes.specs.declared.Size.{Size}
 use Rattle.sizes.specs.Text.{total, greatest}
-use Rattle.sizes.specs.Sizes.{Fits, sep, along, beside, sized, spanned, leafSize, natural, naturals}
+use Rattle.sizes.specs.Sizes.{sep, along, beside, sized, spanned, leafSize, natural, naturals}
+use Rattle.sizes.specs.Contracts.{Fits}
 use Rattle.sizes.proofs.Fill.{fits-refl}
 use Rattle.plan.specs.Choices.{WithinRange, Chooses, Chooses*}
 use Rattle.plan.specs.Ends.{noPlans?, rangeSize, endSize, endSizes, outer}

@@ -15,18 +15,18 @@ use Rattle.tree.specs.Tree.{Tree}
 use Rattle.sizes.specs.declared.Measured.{Measured}
 use Rattle.sizes.specs.Input.{inputOf}
 use Rattle.sizes.specs.declared.Size.{Size}
-use Rattle.sizes.specs.Answer.{measuredOf}
-use Rattle.sizes.specs.Listed.{naturalAt}
+use Rattle.sizes.specs.Contracts.{measuredOf, naturalAt}
 use Rattle.block.specs.Paint.{Room, pasted}
 use Rattle.common.specs.Every.{Every}
 use Rattle.block.proofs.Every.{every-map, every-and}
 use Rattle.frame.specs.declared.Frame.{Frame}
 use Rattle.layout.specs.Walk.{Placed, leaves, insideW, insideH}
-use Rattle.frame.specs.Frame.{W, H, frameOf, largeOf, tooLarge}
+use Rattle.frame.specs.Frame.{W, H, tooLarge}
+use Rattle.frame.specs.Contracts.{frameOf, largeOf}
 use Rattle.frame.specs.Printer.{Prints, noPrint}
 use Rattle.frame.proofs.Printers.{Answers}
 use Rattle.frame.proofs.Sheets.{sheetFrame, large-no}
-use Rattle.entries.specs.Listing.{Listing, Asks, PaintsAll, paintAll}
+use Rattle.entries.specs.Contracts.{Listing, Asks, PaintsAll, paintAll}
 use Rattle.layout.proofs.Laid.{root-laid}
 use Rattle.layout.proofs.Fit.{LeafFits, leaves-fit}
 use Rattle.layout.proofs.Inside.{Inside, laid-inside, room-inside}
@@ -35,7 +35,7 @@ use Rattle.sizes.proofs.Given.{refuses}
 use Rattle.leaf.proofs.Calls.{Taken, call-takes, call-large, call-frame, call-stride, Fitting}
 use Rattle.sheet.specs.Sheet.{sheet}
 use Rattle.sheet.specs.Answers.{sheetOf}
-use Rattle.sheet.specs.Planning.{refusalOf, leftSide, topSide, insideAt, Framed, beforeOf, afterOf}
+use Rattle.sheet.specs.Contracts.{refusalOf, leftSide, topSide, insideAt, Framed, beforeOf, afterOf}
 use Rattle.sheet.proofs.Bytes.{sheet-length}
 use Rattle.sheet.proofs.Painted.{painted, sheet-painted}
 use Rattle.sheet.proofs.Planned.{planned-no, planned-yes}

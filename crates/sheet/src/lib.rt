@@ -10,7 +10,7 @@ ghost use lib.ListN.{length};
 ghost use Rattle.block.specs.Paint.{Wrote};
 ghost use Rattle.sizes.specs.Input.{inputOf};
 ghost use Rattle.sheet.specs.Answers.{sheetOf};
-ghost use Rattle.sheet.specs.Planning.{refusalOf, Framed, insideAt, beforeOf, afterOf};
+ghost use Rattle.sheet.specs.Contracts.{refusalOf, Framed, insideAt, beforeOf, afterOf};
 
 // 6 and 8 in this order, for an output of `len` bytes; 0 where the sheet is printed.
 fn refusal_of(f: Frame, len: usize) -> u8

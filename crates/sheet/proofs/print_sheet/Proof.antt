@@ -10,7 +10,7 @@ use Rattle.sizes.specs.Input.{inputOf}
 use Rattle.sizes.proofs.Given.{listed-length}
 use Rattle.frame.proofs.Printers.{refusal}
 use Rattle.leaf.proofs.Calls.{Taken, taken, ready, front-in, listing}
-use Rattle.sheet.specs.Planning.{refusalOf}
+use Rattle.sheet.specs.Contracts.{refusalOf}
 use Rattle.sheet.proofs.Printed.{sheet-refused, sheet-no, fits, framed, fitting, base-in, sheet-paints, sheet-answers}
 use borrow.Author.Needs.{needs}
 use Rattle.sheet.proofs.print_sheet.Statement.{statement}

@@ -1,0 +1,48 @@
+-- What the functions of this crate ask and give, beyond the definitions; no theorem speaks of it.
+use Prim.Native.Nat.{ℕ, _+_, _≤_, _<_, suc}
+use mathlib.Core.Path.{_≡_}
+use mathlib.Core.List.{List, [], _∷_}
+use lib.ListN.{length, take, drop, getD}
+use Rattle.splits.specs.declared.SplitList.{SplitList}
+use Rattle.splits.specs.declared.Positions.{Positions}
+use Rattle.splits.specs.declared.cut.CutAt.{CutAt}
+use Rattle.splits.specs.declared.short.Listed.{Listed}
+use Rattle.splits.specs.Splits.{reach, shortSplits3, pairOf}
+use Rattle.splits.specs.Lists.{listOf, positionList}
+
+-- over the first n of s, the loop of a cut stops before entry `at`, at position `pos`
+pub record Stops (step w n : ℕ) (s : List ℕ) (at pos : ℕ) : Type 0 where
+  pub within : at ≤ n
+  pub low : pos ≤ w
+  pub high : at < n → w ≤ pos + getD s at 0
+  pub taken : reach step w (take n s) 0 .taken ≡ take at (take n s)
+  pub left : reach step w (take n s) 0 .left ≡ drop at (take n s)
+  pub reached : reach step w (take n s) 0 .pos ≡ pos
+
+-- what `short_splits3` of s₀ answers: the pieces taken stand at the front of s, those left past the ones that are gone
+pub record CutsIn (w : ℕ) (r : CutAt) (s₀ s : List ℕ) : Type 0 where
+  pub split : r .split ≡ shortSplits3 s₀ w .split
+  pub pair : r .pair ≡ pairOf (shortSplits3 s₀ w)
+  pub taken : take (r .pair .taken) s ≡ shortSplits3 s₀ w .taken
+  pub left : drop (r .gone) s ≡ shortSplits3 s₀ w .left
+  pub some : r .pair .taken ≤ r .gone
+  pub within : r .gone ≤ length s₀
+
+-- what the loop of `short_splits` answers
+pub record Told (w : ℕ) (list : SplitList) (r : Listed) : Type 0 where
+  pub stops : Stops 0 w (list .count) (list .pieces) (r .positions .count) (r .pos)
+  pub listed : r .positions ≡ positionList (reach 0 w (listOf list) 0 .positions)
+
+-- positions to which an index below 512 can be added
+pub record Small (p : Positions) : Type 0 where
+  pub few : p .count ≤ 512
+  pub each : (i : ℕ) → i < p .count → getD (p .entries) i 0 < 65536
+
+-- the same for positions
+abbrev pub positionsOf : Positions → List ℕ
+positionsOf p = take (p .count) (p .entries)
+
+-- each place is greater than the one before it, and none is less than b
+unfoldable pub Rises : ℕ → List ℕ → Type 0
+Rises b [] = Unit {0}
+Rises b (m ∷ ms) = (b ≤ m) × Rises (suc m) ms
