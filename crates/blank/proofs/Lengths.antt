@@ -9,7 +9,6 @@ use Rattle.tree.specs.Tree.{Tree, Trees, cell, group, none, more, nodes}
 use Rattle.tree.specs.Bytes.{Is, Are, lengthAt, contents}
 use Rattle.tree.specs.Accepted.{bytesOf, bytesOf*}
 use Rattle.tree.proofs.Fronts.{is-whole, contents-length}
-use Rattle.blank.specs.Alike.{recast, recast*}
 use Rattle.blank.specs.Blank.{blanked, blanked*, shownByte}
 
 unfoldable mutual
@@ -42,17 +41,6 @@ mutual
   pub bytes*-length : (ts : Trees) → length (bytesOf* ts) ≡ bytesIn* ts
   bytes*-length none = refl
   bytes*-length (more t ts) = rw length-append (omega (arith, bytes-length t, bytes*-length ts))
-
-mutual
-  unfolding bytesIn recast
-
-  pub recast-bytes-in : (f : ℕ → ℕ) (t : Tree) → bytesIn (recast f t) ≡ bytesIn t
-  recast-bytes-in f (cell x) = ap (λ (n : ℕ). 3 + n) (length-map x f)
-  recast-bytes-in f (group a ts) = ap (λ (n : ℕ). 3 + n) (recast*-bytes-in f ts)
-
-  recast*-bytes-in : (f : ℕ → ℕ) (ts : Trees) → bytesIn* (recast* f ts) ≡ bytesIn* ts
-  recast*-bytes-in f none = refl
-  recast*-bytes-in f (more t ts) = ap₂ (λ (n m : ℕ). n + m) (recast-bytes-in f t) (recast*-bytes-in f ts)
 
 mutual
   unfolding bytesIn blanked

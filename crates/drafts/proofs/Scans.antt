@@ -73,26 +73,6 @@ unfolding allThen
 onto-done [] k = refl
 onto-done (f ∷ fs) k = ap (fieldThen f) (onto-done fs (k .2)) ∙ rw (k .1)
 
--- a field whose tag is among those done
-has-after : (j : ℕ) (fs gs : List (List ℕ)) → hasTag j fs ≡ true → hasTag j (fs ++ gs) ≡ true
-unfolding hasTag
-has-after j [] gs h = let z : _≡_ {A = ℕ} 0 1 = cc in absurd (omega arith)
-has-after j (f ∷ fs) gs h = go (eqb (tagIn f) j) (hasTag j fs) h (has-after j fs gs)
-  where
-    go : (c x : Bool) → pick c true x ≡ true → (x ≡ true → hasTag j (fs ++ gs) ≡ true) → pick c true (hasTag j (fs ++ gs)) ≡ true
-    go true x h e = refl
-    go false x h e = e h
-
--- what is read has the fields in it
-then-has : (f g : List ℕ) (x : Option (List (List ℕ))) → tagIn f ≡ tagIn g → fieldThen f (fieldThen g x) ≡ none
-unfolding hasTag
-then-has f g none e = refl
-then-has f g (some fs) e = go (hasTag (tagIn g) fs)
-  where
-    go : (c : Bool) → fieldThen f (pick c none (some (g ∷ fs))) ≡ none
-    go true = refl
-    go false = rw (eq-eqb (tagIn g) (tagIn f) (sym e))
-
 abbrev Holds : ℕ → Option (List (List ℕ)) → Type 0
 Holds k none = Unit {0}
 Holds k (some fs) = hasTag k fs ≡ true
