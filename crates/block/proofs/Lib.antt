@@ -12,5 +12,6 @@ pub mod Room
 pub mod Left
 pub mod Crossed
 pub mod Planned
+pub mod Ground
 pub mod Corners
 pub mod Painted

@@ -92,6 +92,10 @@ middle-painted s t z b ps fits o o₂ o₃ at stride h e₂ e₃ =
     let right = edges-dims (z .height) 1 (b .right) (getD (b .marks) 3 0) in
     e₃ ∙ rw e₂ (pasted-beside (pasted o at stride (leftOf b (z .height) ps)) (at + 1) stride text right (omega arith) ∙ pasted-beside o at stride left (dims-paired text right) h)
 
+pub body-apart : {s : Settings} {t : List ℕ} {n z : Size} {f : Flags} {h v : List ℕ} {base stride len : ℕ} → Paintable s t n z f h v base stride len → z .width ≤ stride
+unfolding wide
+body-apart k = omega (arith, k .apart)
+
 module _ {s : Settings} {t : List ℕ} {n z : Size} {f : Flags} {h v : List ℕ} {base stride len : ℕ} (k : Paintable s t n z f h v base stride len) (b : Borders) (is : b ≡ bordersOf s f) (long : length (s .marks) ≡ 15) where
   right-is : b .right ≡ f .«last_col»
   unfolding bordersOf

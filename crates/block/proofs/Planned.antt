@@ -20,6 +20,10 @@ pub natural-wide : (s : Settings) (t : List ℕ) (n : Size) → n ≡ leafSize s
 unfolding leafSize
 natural-wide s t n e = rw e (omega arith)
 
+pub natural-tall : (s : Settings) (t : List ℕ) (n : Size) → n ≡ leafSize s t → n .height ≡ textHeight t + s .top + s .bottom
+unfolding leafSize
+natural-tall s t n e = rw e
+
 -- the plan k of the text t in the size z
 pub record Planned (s : Settings) (t : List ℕ) (z : Size) (k : Plan) : Type 0 where
   pub tall : z .height ≡ k .above + s .top + (textHeight t + (s .bottom + k .below))

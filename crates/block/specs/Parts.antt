@@ -1,4 +1,5 @@
 -- What the painter's parts write, where there are lines.
+use mathlib.Core.Path.{_≡_}
 use Prim.Native.Nat.{ℕ, _+_, _-_, _*_}
 use mathlib.Core.List.{List, [], _∷_, _++_}
 use lib.ListN.{getD, set, replicate}
@@ -27,6 +28,28 @@ planOf s n z = record {
   inner = z .width - s .left - s .right;
   widest = n .width - s .left - s .right;
 }
+
+-- a line of the body without its text
+unfoldable pub clear : Settings → ℕ → List ℕ
+clear s inner = replicate (s .left) (getD (s .fills) 0 0) ++ (replicate inner 32 ++ replicate (s .right) (getD (s .fills) 1 0))
+
+-- the body without its text, which has n lines
+unfoldable pub ground : Settings → Plan → ℕ → ℕ → List (List ℕ)
+unfolding clear
+ground s k n w =
+    (replicate (k .above) (replicate w 32) ++ replicate (s .top) (replicate w (getD (s .fills) 2 0)))
+    ++ (replicate n (clear s (k .inner))
+    ++ (replicate (s .bottom) (replicate w (getD (s .fills) 3 0)) ++ replicate (k .below) (replicate w 32)))
+
+abbrev pub groundLines : Settings → Plan → ℕ → ℕ
+groundLines s k n = k .above + s .top + (n + (s .bottom + k .below))
+
+-- every padding is of spaces
+pub record Blank (fills : List ℕ) : Type 0 where
+  pub left-is : getD fills 0 0 ≡ 32
+  pub right-is : getD fills 1 0 ≡ 32
+  pub top-is : getD fills 2 0 ≡ 32
+  pub bottom-is : getD fills 3 0 ≡ 32
 
 -- the marks of a leaf: `config_borders`
 unfoldable pub bordersOf : Settings → Flags → Borders

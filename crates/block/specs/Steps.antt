@@ -1,9 +1,9 @@
--- The painter's steps: the marks before a body, the body, the marks after it.
+-- The painter's steps: the marks before a body, the text over its ground, the marks after it.
 use mathlib.Core.Path.{_≡_}
 use Prim.Native.Nat.{ℕ, _+_, _*_, _≤_, _<_}
 use mathlib.Core.Bool.{Bool, true}
-use mathlib.Core.List.{List}
-use lib.ListN.{length}
+use mathlib.Core.List.{List, _++_, map}
+use lib.ListN.{length, replicate}
 use lib.Seq.{sets}
 use Rattle.common.specs.Choice.{pick}
 use Rattle.sizes.specs.declared.Size.{Size}
@@ -11,6 +11,10 @@ use Rattle.block.specs.declared.Begun.{Begun}
 use Rattle.block.specs.declared.borders.Borders.{Borders}
 use Rattle.block.specs.Paint.{pasted, Room}
 use Rattle.block.specs.Parts.{topOf, leftOf, rightOf, bottomOf}
+
+-- over lines g, whatever lines follow them, stand the lines ls as f makes them
+pub record Over (g : List ℕ) (f : List ℕ → List ℕ) (ls : List (List ℕ)) (at stride : ℕ) (o o′ : List ℕ) : Type 0 where
+  pub done : (b : List ℕ) (y : List (List ℕ)) → o ≡ pasted b at stride (replicate (length ls) g ++ y) → o′ ≡ pasted b at stride (map f ls ++ y)
 
 -- a block's columns with lines
 abbrev pub columnsIn : Borders → Size → ℕ

@@ -1,13 +1,14 @@
 // A leaf's text, line by line.
 ghost use mathlib.Core.Path.{_≡_};
 ghost use Prim.Native.Nat.{_+_, _*_, _-_, _<_, _≤_};
-ghost use mathlib.Core.List.{map};
 ghost use lib.ListN.{length};
 ghost use lib.Seq.{sets};
 ghost use Rattle.common.specs.Choice.{pick};
 ghost use Rattle.sizes.specs.Text.{lines, textWidth, textHeight};
 ghost use Rattle.block.specs.Block.{before, indent, textLine};
-ghost use Rattle.block.specs.Paint.{pasted, Room, Wrote};
+ghost use Rattle.block.specs.Paint.{Room};
+ghost use Rattle.block.specs.Parts.{clear};
+ghost use Rattle.block.specs.Steps.{Over};
 use crate::bytes;
 use settings::Alignment;
 use settings::Settings;
@@ -44,21 +45,17 @@ fn line_indent(s: Settings, inner: usize, widest: usize, line: &[u8]) -> usize
     indent_start(al, inner, w)
 }
 
-// One line of the text, with its padding and indent.
+// One line of the text, over spaces and padding.
 fn text_line(out: &mut [u8], at: usize, s: Settings, inner: usize, widest: usize, line: &[u8])
     requires { ⌜ (length (now line) ≤ widest) × (widest ≤ inner) × (at + (s .left + inner + s .right) ≤ length (now out)) ⌝ }
-    ensures { λ _. ⌜ now (out .exit) ≡ sets (now (out .entry)) at (textLine s inner widest (now (line .entry))) ⌝ }
+    ensures { λ _. ⌜ now (out .exit) ≡ sets (now (out .entry)) (at + (s .left + indent s inner widest (now (line .entry)))) (now (line .entry)) ⌝ }
+    ensures within { λ _. ⌜ indent s inner widest (now (line .entry)) + length (now (line .entry)) ≤ inner ⌝ }
 {
-    let left = line_indent(s, inner, widest, line);
-    let right = inner - line.len() - left;
-    let p = bytes::fill(out, at, s.left, s.fills[0]);
-    let q = bytes::fill(out, p, left, 32);
-    let r = bytes::copy(out, q, line);
-    let t = bytes::fill(out, r, right, 32);
-    bytes::fill(out, t, s.right, s.fills[1]);
+    let left = s.left + line_indent(s, inner, widest, line);
+    bytes::copy(out, at + left, line);
 }
 
-// All lines of the text, one under another.
+// All lines of the text, one under another, over spaces and padding.
 pub fn text_lines(
     out: &mut [u8],
     at: usize,
@@ -67,10 +64,10 @@ pub fn text_lines(
     inner: usize,
     widest: usize,
     text: &[u8],
-) -> usize
-    requires { ⌜ (length (now text) < 65536) × (widest ≡ textWidth (now text)) × (widest ≤ inner) ⌝ }
+)
+    requires { ⌜ (length (now text) < 65536) × (widest ≡ textWidth (now text)) × (widest ≤ inner) × (s .left + inner + s .right ≤ stride) ⌝ }
     requires { ⌜ Room at stride (textHeight (now text)) (s .left + inner + s .right) (length (now out)) ⌝ }
-    ensures { λ r. ⌜ Wrote r (at + textHeight (now (text .entry)) * stride) (now (out .exit)) (pasted (now (out .entry)) at stride (map (textLine s inner widest) (lines (now (text .entry))))) ⌝ }
+    ensures { λ _. ⌜ Over (clear s inner) (textLine s inner widest) (lines (now (text .entry))) at stride (now (out .entry)) (now (out .exit)) ⌝ }
 {
     let mut p = at;
     let mut from = 0;
@@ -80,5 +77,4 @@ pub fn text_lines(
         p += stride;
         from = end + 1;
     }
-    p
 }

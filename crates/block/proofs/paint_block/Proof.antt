@@ -1,5 +1,5 @@
 use mathlib.Core.Path.{refl}
-use Rattle.block.proofs.Painted.{lined, body-room, after-room, block-painted}
+use Rattle.block.proofs.Painted.{lined, body-apart, body-room, after-room, block-painted}
 use borrow.Author.Needs.{needs}
 use Rattle.block.proofs.paint_block.Statement.{statement}
 use Rattle.block.proofs.paint_block.Tie as tie
@@ -14,7 +14,7 @@ paint-body-requires : tie.Need-paint-body-requires
 paint-body-requires c κs =
     let k = c .before .before .before .before .before .before .before .before .before .before .before .before .before .pre in
     let b = c .before .before .before .before .before .config-borders .ensures in
-    ((k .text-small, k .natural-is, k .fits), body-room k _ (b .0) (b .1) _ refl _ (c .before .before .before .paint-before .ensures .at-is) (search needs))
+    ((k .text-small, k .natural-is, k .fits, body-apart k), body-room k _ (b .0) (b .1) _ refl _ (c .before .before .before .paint-before .ensures .at-is) (search needs))
 
 paint-after-requires : tie.Need-paint-after-requires
 paint-after-requires c κs =

@@ -1,86 +1,104 @@
-use mathlib.Core.Path.{_≡_, _∙_}
-use Prim.Native.Nat.{ℕ, _+_, _*_}
-use mathlib.Core.List.{List, _++_, map}
-use lib.ListN.{getD, replicate, length-append, length-replicate, length-map}
+use mathlib.Core.Path.{_≡_, refl}
+use Prim.Native.Nat.{ℕ, _+_, _-_, _*_, _≤_, _<_}
+use native.Mathlib.Omega.{arith}
+use mathlib.Core.List.{List}
 use borrow.Author.Needs.{needs}
 use Rattle.settings.specs.declared.Settings.{Settings}
 use Rattle.sizes.specs.declared.Size.{Size}
-use Rattle.sizes.specs.Text.{lines, textHeight}
+use Rattle.sizes.specs.Text.{textHeight}
+use Rattle.sizes.specs.Sizes.{leafSize}
+use Rattle.sizes.specs.Contracts.{Fits}
 use Rattle.block.specs.declared.body.Plan.{Plan}
-use Rattle.block.specs.Block.{textLine, body}
-use Rattle.block.specs.Paint.{pasted, Wrote}
-use Rattle.block.proofs.TextLine.{lines-height}
-use Rattle.block.proofs.Left.{then-pasted}
-use Rattle.block.proofs.Planned.{natural-wide, Planned, planned, above-room, text-room, below-room}
+use Rattle.block.specs.Paint.{Room}
+use Rattle.block.specs.Parts.{planOf, groundLines}
+use Rattle.block.proofs.Planned.{natural-wide, natural-tall, Planned, planned, above-room, text-room}
+use Rattle.block.proofs.Ground.{body-over}
 use Rattle.block.proofs.body.paint_body.Statement.{statement}
 use Rattle.block.proofs.body.paint_body.Tie as tie
 
--- the body from its three parts
-body-is : (s : Settings) (t : List ℕ) (z : Size) (k : Plan) → Planned s t z k → (o o₁ o₂ o₃ : List ℕ) (at stride p q r e : ℕ)
-    → Wrote p (at + (k .above + s .top) * stride) o₁ (pasted o at stride (replicate (k .above) (replicate (z .width) 32) ++ replicate (s .top) (replicate (z .width) (getD (s .fills) 2 0))))
-    → Wrote q (p + textHeight t * stride) o₂ (pasted o₁ p stride (map (textLine s (k .inner) (k .widest)) (lines t)))
-    → Wrote r e o₃ (pasted o₂ q stride (replicate (s .bottom) (replicate (z .width) (getD (s .fills) 3 0)) ++ replicate (k .below) (replicate (z .width) 32)))
-    → o₃ ≡ pasted o at stride (body s t z)
-body-is s t z k h o o₁ o₂ o₃ at stride p q r e w₁ w₂ w₃ =
-    rw (h .body-is)
-    (then-pasted _ _ o o₁ o₃ at p stride (k .above + s .top) (simp (length-append, length-replicate)) w₁
-    (then-pasted _ _ o₁ o₂ o₃ p q stride (textHeight t) (length-map (lines t) (textLine s (k .inner) (k .widest)) ∙ lines-height t) w₂ (w₃ .out-is)))
+-- what the body asks, and its plan
+module _ (s : Settings) (t : List ℕ) (n z : Size) (k : Plan) (is : n ≡ leafSize s t) (fits : Fits n z) (e : k ≡ planOf s n z) (at stride len : ℕ) (room : Room at stride (z .height) (z .width) len) where
+  h : Planned s t z k
+  h = planned s t n z k is fits e
+
+  text-lines : n .height - s .top - s .bottom ≡ textHeight t
+  text-lines = omega (arith, natural-tall s t n is)
+
+  all-lines : groundLines s k (n .height - s .top - s .bottom) ≡ z .height
+  all-lines = omega (arith, text-lines, h .tall)
+
+  above-small : at + (k .above + s .top) * stride < 18446744073709551616
+  above-small = omega (arith, above-room s t z k h at stride len room .small)
+
+  text-there : {len′ : ℕ} → len′ ≡ len → Room (at + (k .above + s .top) * stride) stride (textHeight t) (s .left + k .inner + s .right) len′
+  text-there = text-room s t z k h at stride len room _ refl
 
 plan-body-requires : tie.Need-plan-body-requires
 plan-body-requires c κs =
     let start = c .before .before in
     (start .pre .0 .2, natural-wide _ (start .args .text .now) _ (start .pre .0 .1))
 
-element-copy-out-rows-twice : tie.Need-element-copy-out-rows-twice
-element-copy-out-rows-twice c = search needs
+sub-n : tie.Need-sub-n
+sub-n c = let start = c .before .before .before .before .before in omega (arith, natural-tall _ (start .args .text .now) _ (start .pre .0 .1))
 
-rows-twice-requires : tie.Need-rows-twice-requires
-rows-twice-requires c κs =
-    let start = c .before .before .before .before .before in
+sub-n-2 : tie.Need-sub-n-2
+sub-n-2 c = let start = c .before .before .before .before .before .before in omega (arith, natural-tall _ (start .args .text .now) _ (start .pre .0 .1))
+
+paint-ground-requires : tie.Need-paint-ground-requires
+paint-ground-requires c κs =
+    let start = c .before .before .before .before .before .before .before in
     let a = start .args in
-    let h = planned (a .t4) (a .text .now) (a .natural) (a .size) _ (start .pre .0 .1) (start .pre .0 .2) (c .before .before .plan-body .ensures) in
-    above-room (a .t4) (a .text .now) (a .size) _ h (a .at) (a .stride) _ (start .pre .1)
+    let e = c .before .before .before .before .plan-body .ensures in
+    ((planned (a .s) (a .text .now) (a .natural) (a .size) _ (start .pre .0 .1) (start .pre .0 .2) e .wide, start .pre .0 .3, all-lines (a .s) (a .text .now) (a .natural) (a .size) _ (start .pre .0 .1) (start .pre .0 .2) e _ _ _ (start .pre .1)), start .pre .1)
+
+add-p : tie.Need-add-p
+add-p c =
+    let start = c .before .before .before .before .before .before .before .before .before .before .before .before in
+    let a = start .args in
+    let tall = planned (a .s) (a .text .now) (a .natural) (a .size) _ (start .pre .0 .1) (start .pre .0 .2) (c .before .before .before .before .before .before .before .before .before .plan-body .ensures) .tall in
+    let size = start .good .1 .1 .1 .1 .1 .1 .0 in
+    omega arith
+
+mul-p : tie.Need-mul-p
+mul-p c =
+    let start = c .before .before .before .before .before .before .before .before .before .before .before .before in
+    let a = start .args in
+    omega (arith, above-small (a .s) (a .text .now) (a .natural) (a .size) _ (start .pre .0 .1) (start .pre .0 .2) (c .before .before .before .before .before .before .before .before .before .plan-body .ensures) _ _ _ (start .pre .1))
+
+add-p-2 : tie.Need-add-p-2
+add-p-2 c =
+    let start = c .before .before .before .before .before .before .before .before .before .before .before .before in
+    let a = start .args in
+    omega (arith, above-small (a .s) (a .text .now) (a .natural) (a .size) _ (start .pre .0 .1) (start .pre .0 .2) (c .before .before .before .before .before .before .before .before .before .plan-body .ensures) _ _ _ (start .pre .1))
 
 text-lines-requires : tie.Need-text-lines-requires
 text-lines-requires c κs =
-    let start = c .before .before .before .before .before .before .before .before .before in
+    let start = c .before .before .before .before .before .before .before .before .before .before .before .before .before in
     let a = start .args in
-    let h = planned (a .t4) (a .text .now) (a .natural) (a .size) _ (start .pre .0 .1) (start .pre .0 .2) (c .before .before .before .before .before .before .plan-body .ensures) in
-    let room = text-room (a .t4) (a .text .now) (a .size) _ h (a .at) (a .stride) _ (start .pre .1) _ (c .before .before .before .rows-twice .ensures .end-is) in
-    ((start .pre .0 .0, h .widest-is, h .within), room (search needs))
-
-element-copy-out-rows-twice-2 : tie.Need-element-copy-out-rows-twice-2
-element-copy-out-rows-twice-2 c = search needs
-
-rows-twice-requires-2 : tie.Need-rows-twice-requires-2
-rows-twice-requires-2 c κs =
-    let start = c .before .before .before .before .before .before .before .before .before .before .before .before .before .before in
-    let a = start .args in
-    let h = planned (a .t4) (a .text .now) (a .natural) (a .size) _ (start .pre .0 .1) (start .pre .0 .2) (c .before .before .before .before .before .before .before .before .before .before .before .plan-body .ensures) in
-    below-room (a .t4) (a .text .now) (a .size) _ h (a .at) (a .stride) _ (start .pre .1) _ (c .before .before .before .before .before .before .before .before .rows-twice .ensures .end-is) _ (c .before .before .before .before .text-lines .ensures .end-is) (search needs)
-
-same-length : tie.Need-same-length
-same-length c = search needs
+    let e = c .before .before .before .before .before .before .before .before .before .before .plan-body .ensures in
+    let h = planned (a .s) (a .text .now) (a .natural) (a .size) _ (start .pre .0 .1) (start .pre .0 .2) e in
+    ((start .pre .0 .0, h .widest-is, h .within, rw (h .wide) (start .pre .0 .3)), text-there (a .s) (a .text .now) (a .natural) (a .size) _ (start .pre .0 .1) (start .pre .0 .2) e _ _ _ (start .pre .1) (search needs))
 
 returns : tie.Need-returns
 returns c =
-    let start = c .before .before .before .before .before .before .before .before .before .before .before .before .before .before .before .before .before in
+    let start = c .before .before .before .before .before .before .before .before .before .before .before .before .before .before .before .before in
     let a = start .args in
-    let h = planned (a .t4) (a .text .now) (a .natural) (a .size) _ (start .pre .0 .1) (start .pre .0 .2) (c .before .before .before .before .before .before .before .before .before .before .before .before .before .before .plan-body .ensures) in
-    let above = c .before .before .before .before .before .before .before .before .before .before .before .rows-twice .ensures in
-    let text = c .before .before .before .before .before .before .before .text-lines .ensures in
-    let below = c .before .before .rows-twice2 .ensures in
-    body-is (a .t4) (a .text .now) (a .size) _ h (a .out .now) _ _ _ (a .at) (a .stride) _ _ _ _ above text below
+    let e = c .before .before .before .before .before .before .before .before .before .before .before .before .before .plan-body .ensures in
+    let h = planned (a .s) (a .text .now) (a .natural) (a .size) _ (start .pre .0 .1) (start .pre .0 .2) e in
+    let n = text-lines (a .s) (a .text .now) (a .natural) (a .size) _ (start .pre .0 .1) (start .pre .0 .2) e _ _ _ (start .pre .1) in
+    body-over (a .s) (a .text .now) (a .size) _ h (a .out .now) _ _ (a .at) (a .stride) (rw n at (c .before .before .before .before .before .before .before .before .paint-ground .ensures)) (c .before .before .text-lines .ensures)
 
 pub paint-body-spec : {M : Type 1} → statement M
 paint-body-spec =
     tie.close
     (tie.spec
     plan-body-requires
-    element-copy-out-rows-twice
-    rows-twice-requires
+    sub-n
+    sub-n-2
+    paint-ground-requires
+    add-p
+    mul-p
+    add-p-2
     text-lines-requires
-    element-copy-out-rows-twice-2
-    rows-twice-requires-2
-    same-length
+    (λ c. search needs)
     returns)

@@ -7,8 +7,8 @@ use mathlib.Core.List.{List}
 use lib.ListN.{length, drop, getD, set, length-set, drop-of-length-le}
 use lib.Seq.{sets, drop-cons}
 use borrow.Author.Needs.{needs}
-use Rattle.block.proofs.bytes.copy.Statement.{statement}
-use Rattle.block.proofs.bytes.copy.Tie as tie
+use Rattle.block.proofs.bytes.copy_run.Statement.{statement}
+use Rattle.block.proofs.bytes.copy_run.Tie as tie
 
 -- one store, of those from i on
 copy-step : (l s : List ℕ) (at i : ℕ) → i < length s → sets l (at + i) (drop i s) ≡ sets (set l (at + i) (getD s i 0)) (at + (i + 1)) (drop (i + 1) s)
@@ -45,19 +45,16 @@ loop-again c =
     let k = c .before .before .loop in
     (omega arith, (refl, (rw length-set (k .inv .1 .1 .0), k .inv .1 .1 .1 ∙ copy-step (k .out) (a .line .now) (a .at) (k .i) (omega arith))))
 
-add-result : tie.Need-add-result Inv-loop μ-loop
-add-result c = search needs
-
 same-length : tie.Need-same-length Inv-loop μ-loop
 same-length c = search needs
 
 returns : tie.Need-returns Inv-loop μ-loop
 returns c =
     let k = c .before .loop in
-    record { end-is = refl; out-is = sym (rw (drop-of-length-le (c .before .before .args .line .now) {i = k .i} (omega arith)) at (k .inv .1 .1 .1)) }
+    sym (rw (drop-of-length-le (c .before .before .args .line .now) {i = k .i} (omega arith)) at (k .inv .1 .1 .1))
 
-pub copy-spec : {M : Type 1} → statement M
-copy-spec =
+pub copy-run-spec : {M : Type 1} → statement M
+copy-run-spec =
     tie.close
     (tie.spec
     Inv-loop
@@ -69,6 +66,5 @@ copy-spec =
     add-i
     loop-less
     loop-again
-    add-result
     same-length
     returns)

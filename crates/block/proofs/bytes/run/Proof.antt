@@ -7,8 +7,8 @@ use mathlib.Core.List.{List}
 use lib.ListN.{length, set, replicate, length-set}
 use lib.Seq.{sets}
 use borrow.Author.Needs.{needs}
-use Rattle.block.proofs.bytes.fill.Statement.{statement}
-use Rattle.block.proofs.bytes.fill.Tie as tie
+use Rattle.block.proofs.bytes.run.Statement.{statement}
+use Rattle.block.proofs.bytes.run.Tie as tie
 
 -- one store, of those from i to `end`
 fill-step : (l : List ℕ) (i end b : ℕ) → i < end → sets l i (replicate (end - i) b) ≡ sets (set l i b) (i + 1) (replicate (end - (i + 1)) b)
@@ -49,10 +49,10 @@ returns : tie.Need-returns Inv-loop μ-loop
 returns c =
     let k = c .before .loop in
     let e : c .before .before .args .at + c .before .before .args .n - k .i ≡ 0 = omega arith in
-    record { end-is = refl; out-is = sym (rw e at (k .inv .1 .1 .1)) }
+    sym (rw e at (k .inv .1 .1 .1))
 
-pub fill-spec : {M : Type 1} → statement M
-fill-spec =
+pub run-spec : {M : Type 1} → statement M
+run-spec =
     tie.close
     (tie.spec
     Inv-loop
