@@ -3,11 +3,14 @@ use mathlib.Core.Path.{_≡_, refl, sym, ap, _∙_}
 use Prim.Native.Nat.{ℕ, zero, suc, _+_, _-_, _*_, _≤_, _<_}
 use native.Mathlib.Omega.{arith}
 use mathlib.Core.List.{List, [], _∷_, _++_, map, append-assoc}
-use lib.ListN.{length, getD, replicate, length-append, length-replicate, replicate-append-replicate}
+use lib.ListN.{length, drop, getD, replicate, length-append, length-replicate, replicate-append-replicate}
 use lib.Seq.{sets, length-sets}
 use Rattle.settings.specs.declared.Settings.{Settings}
 use Rattle.sizes.specs.declared.Size.{Size}
+use Rattle.feeds.specs.Feeds.{firstFeed}
 use Rattle.sizes.specs.Text.{lines, textHeight}
+use Rattle.sizes.proofs.Either.{either}
+use Rattle.sizes.proofs.Lines.{rest, rest-none, rest-next, line-in}
 use Rattle.block.specs.declared.body.Plan.{Plan}
 use Rattle.block.specs.Content.{paired}
 use Rattle.block.specs.Block.{indent, textLine, body}
@@ -52,6 +55,17 @@ ground-blank s k n w h b wide tall =
     = rw (replicate-append-replicate {A = ℕ} (k .inner) (s .right) 32, replicate-append-replicate {A = ℕ} (s .left) (k .inner + s .right) 32) (let e : s .left + (k .inner + s .right) ≡ w = omega arith in rw e) in
     rw (b .left-is, b .right-is, b .top-is, b .bottom-is, c, ← tall) (sym (simp replicate-append-replicate))
 
+-- ---- the lines of the text still to come, from a place on
+
+pub more-from : (t : List ℕ) (from more : ℕ) → length (rest from t) ≡ more → 0 < more → from ≤ length t
+more-from t from more e h = either (suc (length t)) from (λ k. let z = rw (rest-none t from k) at e in absurd (omega (arith, z))) (λ k. omega arith)
+
+-- the last one ends with the text
+pub last-end : (t : List ℕ) (from : ℕ) → from ≤ length t → length (rest from t) ≡ 1 → (e : ℕ) → e ≡ from + firstFeed (drop from t) → e ≡ length t
+last-end t from h one e is = either (length t) e
+    (λ k. omega (arith, line-in t from h e is))
+    (λ k. let z = rw (rest-next t from h e is, rest-next t (e + 1) (omega arith) _ refl) at one in absurd (omega (arith, z)))
+
 -- ---- the text over it
 
 pub over-none : (g : List ℕ) (f : List ℕ → List ℕ) (at stride : ℕ) (o : List ℕ) → Over g f [] at stride o o
@@ -75,8 +89,9 @@ pub still-start : (g : List ℕ) (f : List ℕ → List ℕ) (ls : List (List �
 still-start g f ls at stride w n o e r = record { room = rw e r; long = refl; all = λ e k. k }
 
 module _ {g : List ℕ} {f : List ℕ → List ℕ} {ls : List (List ℕ)} {at p stride w : ℕ} {o₀ o : List ℕ} where
-  pub still-done : Still g f ls [] at p stride w o₀ o → Over g f ls at stride o₀ o
-  still-done k = k .all o (over-none g f p stride o)
+  pub still-done : (rs : List (List ℕ)) → length rs ≡ 0 → Still g f ls rs at p stride w o₀ o → Over g f ls at stride o₀ o
+  still-done [] e k = k .all o (over-none g f p stride o)
+  still-done (l ∷ rs) e k = absurd (omega arith)
 
   module _ {l : List ℕ} {rs : List (List ℕ)} (k : Still g f ls (l ∷ rs) at p stride w o₀ o) where
     pub still-room : p + w ≤ length o

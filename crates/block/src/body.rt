@@ -151,5 +151,5 @@ pub fn paint_body(
     let n = natural.height - s.top - s.bottom;
     paint_ground(out, at, stride, s, plan, n, size);
     let p = at + (plan.above + s.top) * stride;
-    text::text_lines(out, p, stride, s, plan.inner, plan.widest, text);
+    text::text_lines(out, p, stride, s, plan.inner, plan.widest, n, text);
 }

@@ -1,9 +1,11 @@
 // A leaf's text, line by line.
 ghost use mathlib.Core.Path.{_≡_};
 ghost use Prim.Native.Nat.{_+_, _*_, _-_, _<_, _≤_};
-ghost use lib.ListN.{length};
+ghost use mathlib.Core.Bool.{true};
+ghost use lib.ListN.{length, drop};
 ghost use lib.Seq.{sets};
 ghost use Rattle.common.specs.Choice.{pick};
+ghost use Rattle.feeds.specs.Feeds.{firstFeed};
 ghost use Rattle.sizes.specs.Text.{lines, textWidth, textHeight};
 ghost use Rattle.block.specs.Block.{before, indent, textLine};
 ghost use Rattle.block.specs.Paint.{Room};
@@ -55,7 +57,18 @@ fn text_line(out: &mut [u8], at: usize, s: Settings, inner: usize, widest: usize
     bytes::copy(out, at + left, line);
 }
 
-// All lines of the text, one under another, over spaces and padding.
+// Where the line that starts at `from` ends; the last one ends with the text, and needs no search.
+fn end_of_line(text: &[u8], from: usize, last: bool) -> usize
+    requires { ⌜ (from ≤ length (now text)) × (last ≡ true → from + firstFeed (drop from (now text)) ≡ length (now text)) ⌝ }
+    ensures { λ r. ⌜ r ≡ from + firstFeed (drop from (now (text .entry))) ⌝ }
+{
+    if last {
+        return text.len();
+    }
+    sizes::text::line_end(text, from)
+}
+
+// All n lines of the text, one under another, over spaces and padding.
 pub fn text_lines(
     out: &mut [u8],
     at: usize,
@@ -63,18 +76,21 @@ pub fn text_lines(
     s: Settings,
     inner: usize,
     widest: usize,
+    n: usize,
     text: &[u8],
 )
-    requires { ⌜ (length (now text) < 65536) × (widest ≡ textWidth (now text)) × (widest ≤ inner) × (s .left + inner + s .right ≤ stride) ⌝ }
+    requires { ⌜ (length (now text) < 65536) × (n ≡ textHeight (now text)) × (widest ≡ textWidth (now text)) × (widest ≤ inner) × (s .left + inner + s .right ≤ stride) ⌝ }
     requires { ⌜ Room at stride (textHeight (now text)) (s .left + inner + s .right) (length (now out)) ⌝ }
     ensures { λ _. ⌜ Over (clear s inner) (textLine s inner widest) (lines (now (text .entry))) at stride (now (out .entry)) (now (out .exit)) ⌝ }
 {
     let mut p = at;
     let mut from = 0;
-    while from <= text.len() {
-        let end = sizes::text::line_end(text, from);
+    let mut more = n;
+    while 0 < more {
+        let end = end_of_line(text, from, more == 1);
         text_line(out, p, s, inner, widest, &text[from..end]);
         p += stride;
         from = end + 1;
+        more -= 1;
     }
 }

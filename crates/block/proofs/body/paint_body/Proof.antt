@@ -77,7 +77,8 @@ text-lines-requires c κs =
     let a = start .args in
     let e = c .before .before .before .before .before .before .before .before .before .before .plan-body .ensures in
     let h = planned (a .s) (a .text .now) (a .natural) (a .size) _ (start .pre .0 .1) (start .pre .0 .2) e in
-    ((start .pre .0 .0, h .widest-is, h .within, rw (h .wide) (start .pre .0 .3)), text-there (a .s) (a .text .now) (a .natural) (a .size) _ (start .pre .0 .1) (start .pre .0 .2) e _ _ _ (start .pre .1) (search needs))
+    let n = text-lines (a .s) (a .text .now) (a .natural) (a .size) _ (start .pre .0 .1) (start .pre .0 .2) e _ _ _ (start .pre .1) in
+    ((start .pre .0 .0, n, h .widest-is, h .within, rw (h .wide) (start .pre .0 .3)), text-there (a .s) (a .text .now) (a .natural) (a .size) _ (start .pre .0 .1) (start .pre .0 .2) e _ _ _ (start .pre .1) (search needs))
 
 returns : tie.Need-returns
 returns c =
