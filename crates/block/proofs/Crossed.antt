@@ -17,10 +17,11 @@ use Rattle.sizes.proofs.Stores.{sets-append}
 use Rattle.splits.specs.Splits.{isNamed}
 use Rattle.block.specs.Content.{ruled, column}
 use Rattle.block.specs.Paint.{pasted}
-use Rattle.block.specs.Parts.{crossed}
+use Rattle.block.specs.Parts.{spaces, crossed}
+use Rattle.block.proofs.Every.{Dims, paired-same, dims-lines, dims-replicate}
 use Rattle.block.proofs.Stores.{sets-sets}
-use Rattle.block.proofs.Pasted.{sets-pasted}
-use Rattle.block.proofs.Dims.{length-ruled}
+use Rattle.block.proofs.Pasted.{sets-pasted, pasted-beside, pasted-aside}
+use Rattle.block.proofs.Dims.{length-ruled, left-dims}
 
 -- ---- one place
 
@@ -128,8 +129,20 @@ column-replicate zero c = refl
 column-replicate (suc n) c = ap (λ (x : List (List ℕ)). (c ∷ []) ∷ x) (column-replicate n c)
 
 -- n equal marks, one under another, and then crossed
-pub stack-crossed : (ks o : List ℕ) (at step n b c : ℕ) → 0 < step → crossed (pasted o at step (replicate n (c ∷ []))) at step n ks b ≡ pasted o at step (column 1 (ruled ks b c 0 n))
+stack-crossed : (ks o : List ℕ) (at step n b c : ℕ) → 0 < step → crossed (pasted o at step (replicate n (c ∷ []))) at step n ks b ≡ pasted o at step (column 1 (ruled ks b c 0 n))
 stack-crossed ks o at step n b c h = rw (← (column-replicate n c), crossed-column ks (replicate n c) o at step n b h (length-replicate n c), crossed-ruled ks n b c)
+
+-- the same with w spaces behind each
+pub marks-crossed : (ks o : List ℕ) (at step n w b c : ℕ) → 1 + w ≤ step
+    → crossed (pasted o at step (replicate n (c ∷ replicate w 32))) at step n ks b ≡ pasted (pasted o at step (column 1 (ruled ks b c 0 n))) (at + 1) step (spaces n w)
+marks-crossed ks o at step n w b c h =
+    let x : List (List ℕ) = replicate n (c ∷ []) in
+    let y : List (List ℕ) = spaces n w in
+    let marks : Dims x n 1 = dims-lines n (c ∷ []) 1 refl in
+    let blanks : Dims y n w = dims-replicate n w 32 in
+    let beside : pasted o at step (replicate n (c ∷ replicate w 32)) ≡ pasted (pasted o (at + 1) step y) at step x
+    = sym (pasted-aside o at step marks blanks h ∙ pasted-beside o at step marks blanks h ∙ ap (pasted o at step) (paired-same n (c ∷ []) (replicate w 32))) in
+    rw (beside, stack-crossed ks (pasted o (at + 1) step y) at step n b c (omega arith)) (pasted-aside o at step (left-dims 1 ks b c n) blanks h)
 
 -- ---- in a row
 

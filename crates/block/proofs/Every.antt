@@ -74,6 +74,11 @@ dims-replicate n w b = record {
 pub dims-move : {x : List (List ℕ)} {h k w v : ℕ} → Dims x h w → h ≡ k → w ≡ v → Dims x k v
 dims-move d p q = rw (← q) (rw (← p) d)
 
+pub paired-same : (n : ℕ) (a b : List ℕ) → paired (replicate n a) (replicate n b) ≡ replicate n (a ++ b)
+unfolding paired
+paired-same zero a b = refl
+paired-same (suc n) a b = rw (paired-same n a b)
+
 pub dims-cons : {l : List ℕ} {x : List (List ℕ)} {h w : ℕ} → Dims x h w → length l ≡ w → Dims (l ∷ x) (suc h) w
 dims-cons d e = record { lines = ap suc (d .lines); columns = (e, d .columns) }
 

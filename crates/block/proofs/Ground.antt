@@ -12,24 +12,18 @@ use Rattle.sizes.specs.Text.{lines, textHeight}
 use Rattle.sizes.proofs.Either.{either}
 use Rattle.sizes.proofs.Lines.{rest, rest-none, rest-next, line-in}
 use Rattle.block.specs.declared.body.Plan.{Plan}
-use Rattle.block.specs.Content.{paired}
 use Rattle.block.specs.Block.{indent, textLine, body}
 use Rattle.block.specs.Paint.{pasted, Room}
-use Rattle.block.specs.Steps.{Over}
-use Rattle.block.specs.Parts.{clear, ground, groundLines, Blank}
-use Rattle.block.proofs.Every.{dims-lines, dims-replicate}
+use Rattle.block.specs.Steps.{Turned, Over}
+use Rattle.block.specs.Parts.{spaces, clear, ground, groundLines, Blank}
+use Rattle.block.proofs.Every.{Dims, paired-same, dims-append, dims-lines, dims-replicate}
 use Rattle.block.proofs.Stores.{sets-within}
-use Rattle.block.proofs.Pasted.{pasted-append, sets-pasted, pasted-beside}
+use Rattle.block.proofs.Pasted.{pasted-append, sets-pasted, pasted-beside, pasted-over}
 use Rattle.block.proofs.Room.{room-head, room-next, room-tail}
 use Rattle.block.proofs.TextLine.{lines-height}
 use Rattle.block.proofs.Planned.{Planned}
 
 -- ---- the ground
-
-paired-same : (n : ℕ) (a b : List ℕ) → paired (replicate n a) (replicate n b) ≡ replicate n (a ++ b)
-unfolding paired
-paired-same zero a b = refl
-paired-same (suc n) a b = rw (paired-same n a b)
 
 -- lines from their left padding, spaces and right padding
 pub sides-painted : (s : Settings) (inner n : ℕ) (o o₁ o₂ o₃ : List ℕ) (at stride : ℕ) → s .left + inner + s .right ≤ stride
@@ -48,12 +42,26 @@ sides-painted s inner n o o₁ o₂ o₃ at stride h e₁ e₂ e₃ =
     ∙ rw (paired-same n (l ++ m) r, append-assoc l m r))
 
 -- where every padding is of spaces, all lines are
-pub ground-blank : (s : Settings) (k : Plan) (n w h : ℕ) → Blank (s .fills) → s .left + k .inner + s .right ≡ w → groundLines s k n ≡ h → replicate h (replicate w 32) ≡ ground s k n w
+ground-blank : (s : Settings) (k : Plan) (n w h : ℕ) → Blank (s .fills) → s .left + k .inner + s .right ≡ w → groundLines s k n ≡ h → replicate h (replicate w 32) ≡ ground s k n w
 unfolding ground clear
 ground-blank s k n w h b wide tall =
     let c : _≡_ {A = List ℕ} (replicate (s .left) 32 ++ (replicate (k .inner) 32 ++ replicate (s .right) 32)) (replicate w 32)
     = rw (replicate-append-replicate {A = ℕ} (k .inner) (s .right) 32, replicate-append-replicate {A = ℕ} (s .left) (k .inner + s .right) 32) (let e : s .left + (k .inner + s .right) ≡ w = omega arith in rw e) in
     rw (b .left-is, b .right-is, b .top-is, b .bottom-is, c, ← tall) (sym (simp replicate-append-replicate))
+
+ground-dims : (s : Settings) (k : Plan) (n w : ℕ) → s .left + k .inner + s .right ≡ w → Dims (ground s k n w) (groundLines s k n) w
+unfolding ground clear
+ground-dims s k n w e =
+    dims-append (dims-append (dims-replicate (k .above) w 32) (dims-replicate (s .top) w _))
+    (dims-append (dims-lines n _ w (simp (length-append, length-replicate) (omega arith))) (dims-append (dims-replicate (s .bottom) w _) (dims-replicate (k .below) w 32)))
+
+-- over spaces the ground is already there, or it is painted
+pub turned-blank : (s : Settings) (k : Plan) (n w h at stride : ℕ) (o : List ℕ) → Blank (s .fills) → s .left + k .inner + s .right ≡ w → groundLines s k n ≡ h → Turned (spaces h w) (ground s k n w) at stride o o
+turned-blank s k n w h at stride o blank wide tall = record { done = λ b e. e ∙ ap (pasted b at stride) (ground-blank s k n w h blank wide tall) }
+
+pub turned-padded : (s : Settings) (k : Plan) (n w h at stride : ℕ) (o o′ : List ℕ) → s .left + k .inner + s .right ≡ w → groundLines s k n ≡ h → w ≤ stride → o′ ≡ pasted o at stride (ground s k n w)
+    → Turned (spaces h w) (ground s k n w) at stride o o′
+turned-padded s k n w h at stride o o′ wide tall apart p = record { done = λ b e. p ∙ rw e (pasted-over b at stride (dims-replicate h w 32) (rw tall at (ground-dims s k n w wide)) apart) }
 
 -- ---- the lines of the text still to come, from a place on
 

@@ -16,9 +16,9 @@ use Rattle.block.specs.declared.Flags.{Flags}
 use Rattle.block.specs.declared.borders.Borders.{Borders}
 use Rattle.block.specs.Block.{Leaf, body, topLine, middle, bottomLine, block, tall, wide}
 use Rattle.block.specs.Paint.{pasted, Room, Wrote, leafWith, Paintable}
-use Rattle.block.specs.Parts.{bordersOf, topOf, leftOf, rightOf, middleOf, bottomOf}
+use Rattle.block.specs.Parts.{spaces, bordersOf, topOf, leftOf, rightOf, middleOf, bottomOf}
 use Rattle.block.specs.declared.Begun.{Begun}
-use Rattle.block.specs.Steps.{columnsIn, Lined, Begins, Rest, endedOf}
+use Rattle.block.specs.Steps.{columnsIn, Lined, begunOf, Begins, Rest, endedOf}
 use Rattle.block.proofs.Every.{dims-paired}
 use Rattle.block.proofs.Dims.{body-dims, left-dims, edges-dims, middle-dims}
 use Rattle.block.proofs.Pasted.{pasted-beside}
@@ -37,7 +37,7 @@ module _ {b : Borders} {z : Size} {h v : List ℕ} {base stride len : ℕ} (k : 
   pub body-start : base + stride + 1 < 18446744073709551616
   body-start = omega (arith, k .room .small)
 
-  pub left-room : {len′ : ℕ} → len′ ≡ len → Room (base + stride) stride (z .height) 1 len′
+  pub left-room : {len′ : ℕ} → len′ ≡ len → Room (base + stride) stride (z .height) (1 + z .width) len′
   left-room l = record { fits = omega (arith, k .room .fits); small = omega (arith, k .room .small) }
 
   -- those after it
@@ -58,12 +58,14 @@ module _ {b : Borders} {z : Size} {h v : List ℕ} {base stride len : ℕ} (k : 
 
 module _ (lines : Bool) (b : Borders) (z : Size) (h v : List ℕ) (base stride : ℕ) where
   pub begun-lined : lines ≡ true → (next : ℕ) (o o₁ o₂ : List ℕ) → o₁ ≡ sets o base (topOf b (z .width) h)
-      → Wrote next (base + stride + z .height * stride) o₂ (pasted o₁ (base + stride) stride (leftOf b (z .height) v))
+      → Wrote next (base + stride + z .height * stride) o₂ (pasted (pasted o₁ (base + stride) stride (leftOf b (z .height) v)) (base + stride + 1) stride (spaces (z .height) (z .width)))
       → Begins lines b z h v base stride (record { at = base + stride + 1; next = next }) o o₂
+  unfolding begunOf
   begun-lined l next o o₁ o₂ e w = rw l (record { at-is = omega arith; next-is = λ y. w .end-is; out-is = w .out-is ∙ rw e })
 
-  pub begun-bare : lines ≡ false → (o : List ℕ) → Begins lines b z h v base stride (record { at = base; next = base }) o o
-  begun-bare l o = rw l (record { at-is = omega arith; next-is = λ y. let w : _≡_ {A = ℕ} 0 1 = cc in absurd (omega arith); out-is = refl })
+  pub begun-bare : lines ≡ false → (o o₁ : List ℕ) → o₁ ≡ pasted o base stride (spaces (z .height) (z .width)) → Begins lines b z h v base stride (record { at = base; next = base }) o o₁
+  unfolding begunOf
+  begun-bare l o o₁ e = rw l (record { at-is = omega arith; next-is = λ y. let w : _≡_ {A = ℕ} 0 1 = cc in absurd (omega arith); out-is = e })
 
 module _ (lines : Bool) (b : Borders) (z : Size) (stride : ℕ) (p : Begun) (o : List ℕ) where
   pub ended-closed : lines ≡ true → b .bottom ≡ true → (o₁ o₂ : List ℕ) → o₁ ≡ pasted o (p .at + z .width) stride (rightOf b (z .height)) → o₂ ≡ sets o₁ (p .next) (bottomOf b (z .width)) → o₂ ≡ endedOf lines b z stride p o
@@ -123,10 +125,13 @@ module _ {s : Settings} {t : List ℕ} {n z : Size} {f : Flags} {h v : List ℕ}
       }
 
   -- the body has room with lines and without
+  pub bare-room : s .lines ≡ false → Room base stride (z .height) (z .width) len
+  bare-room l = rw (bare-tall s l z f, bare-wide s l z f) at (k .room)
+
   pub body-room : (lines : Bool) → s .lines ≡ lines → (at : ℕ) → at ≡ base + pick lines (stride + 1) 0 → {len′ : ℕ} → len′ ≡ len → Room at stride (z .height) (z .width) len′
   body-room true l at e q = let r = lined l .room in record { fits = omega (arith, r .fits); small = omega (arith, r .small) }
   body-room false l at e q =
-      let r : Room base stride (z .height) (z .width) len = rw (bare-tall s l z f, bare-wide s l z f) at (k .room) in
+      let r = bare-room l in
       record { fits = omega (arith, r .fits); small = omega (arith, r .small) }
 
   pub after-room : (lines : Bool) → s .lines ≡ lines → (p : Begun) (o o₁ : List ℕ) → Begins lines b z h v base stride p o o₁ → lines ≡ true → {len′ : ℕ} → len′ ≡ len → Rest b z p stride len′
@@ -155,12 +160,12 @@ module _ {s : Settings} {t : List ℕ} {n z : Size} {f : Flags} {h v : List ℕ}
     closed false e q m = middles m ∙ pasted-first (topLine s leaf) (middle s leaf) o _ base stride refl ∙ sym (whole false e ∙ rw append-nil)
 
   pub block-painted : (lines : Bool) → s .lines ≡ lines → (p : Begun) (o o₁ o₂ o₃ : List ℕ) → Begins lines b z h v base stride p o o₁
-      → o₂ ≡ pasted o₁ (p .at) stride (body s t z) → o₃ ≡ endedOf lines b z stride p o₂ → o₃ ≡ pasted o base stride (block s leaf)
-  unfolding endedOf
+      → o₂ ≡ pasted (begunOf lines b z h v base stride o) (p .at) stride (body s t z) → o₃ ≡ endedOf lines b z stride p o₂ → o₃ ≡ pasted o base stride (block s leaf)
+  unfolding begunOf endedOf
   block-painted true l p o o₁ o₂ o₃ g e₂ e₃ =
       let a : p .at ≡ base + stride + 1 = omega (arith, g .at-is) in
-      let m = middle-painted s t z b v (paintable-fits k) (sets o base (topOf b (z .width) h)) o₂ (pasted o₂ (base + stride + 1 + z .width) stride (rightOf b (z .height))) (base + stride) stride (lined l .apart) (e₂ ∙ rw (a, g .out-is)) refl in
+      let m = middle-painted s t z b v (paintable-fits k) (sets o base (topOf b (z .width) h)) o₂ (pasted o₂ (base + stride + 1 + z .width) stride (rightOf b (z .height))) (base + stride) stride (lined l .apart) (e₂ ∙ rw a) refl in
       e₃ ∙ rw a (closed l o _ p (b .bottom) refl (g .next-is refl) m)
   block-painted false l p o o₁ o₂ o₃ g e₂ e₃ =
       let a : p .at ≡ base = omega (arith, g .at-is) in
-      e₃ ∙ e₂ ∙ rw (a, g .out-is) (ap (pasted o base stride) (sym (block-bare s l leaf (paintable-fits k))))
+      e₃ ∙ e₂ ∙ rw a (ap (pasted o base stride) (sym (block-bare s l leaf (paintable-fits k))))

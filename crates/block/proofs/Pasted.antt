@@ -11,7 +11,7 @@ use Rattle.block.specs.Content.{paired}
 use Rattle.block.specs.Paint.{pasted}
 use Rattle.common.specs.Every.{Every}
 use Rattle.block.proofs.Every.{Dims, byteAt}
-use Rattle.block.proofs.Stores.{sets-sets, getD-before, getD-after, getD-in}
+use Rattle.block.proofs.Stores.{sets-sets, sets-over, getD-before, getD-after, getD-in}
 
 pub length-pasted : (x : List (List ℕ)) (o : List ℕ) (at stride : ℕ) → length (pasted o at stride x) ≡ length o
 unfolding pasted
@@ -48,6 +48,36 @@ pasted-paired (l ∷ x) (m ∷ y) o at w v stride e p q h =
 pub pasted-beside : {x y : List (List ℕ)} {h w v : ℕ} (o : List ℕ) (at stride : ℕ) → Dims x h w → Dims y h v → w + v ≤ stride
     → pasted (pasted o at stride x) (at + w) stride y ≡ pasted o at stride (paired x y)
 pasted-beside {x} {y} {w = w} {v} o at stride d e h = pasted-paired x y o at w v stride (d .lines ∙ sym (e .lines)) (d .columns) (e .columns) h
+
+-- first those on the left, or first those on the right
+pasted-swap : (x y : List (List ℕ)) (o : List ℕ) (at w v stride : ℕ) → length x ≡ length y → Every (λ l. length l ≡ w) x → Every (λ l. length l ≡ v) y → w + v ≤ stride
+    → pasted (pasted o (at + w) stride y) at stride x ≡ pasted (pasted o at stride x) (at + w) stride y
+unfolding pasted
+pasted-swap [] [] o at w v stride e p q h = refl
+pasted-swap [] (m ∷ y) o at w v stride e p q h = absurd (omega arith)
+pasted-swap (l ∷ x) [] o at w v stride e p q h = absurd (omega arith)
+pasted-swap (l ∷ x) (m ∷ y) o at w v stride e p q h =
+    let d : at + w + stride ≡ at + stride + w = omega arith in
+    rw (sets-pasted y l (sets o (at + w) m) at (at + w + stride) stride (omega (arith, p .0)), sets-pasted x m (sets o at l) (at + w) (at + stride) stride (omega (arith, q .0)), sets-sets l m o at (at + w) (omega (arith, p .0)), d)
+    (pasted-swap x y (sets (sets o at l) (at + w) m) (at + stride) w v stride (omega arith) (p .1) (q .1) h)
+
+pub pasted-aside : {x y : List (List ℕ)} {h w v : ℕ} (o : List ℕ) (at stride : ℕ) → Dims x h w → Dims y h v → w + v ≤ stride
+    → pasted (pasted o (at + w) stride y) at stride x ≡ pasted (pasted o at stride x) (at + w) stride y
+pasted-aside {x} {y} {w = w} {v} o at stride d e h = pasted-swap x y o at w v stride (d .lines ∙ sym (e .lines)) (d .columns) (e .columns) h
+
+-- one over another
+lines-over : (x y : List (List ℕ)) (o : List ℕ) (at w stride : ℕ) → length x ≡ length y → Every (λ l. length l ≡ w) x → Every (λ l. length l ≡ w) y → w ≤ stride
+    → pasted (pasted o at stride x) at stride y ≡ pasted o at stride y
+unfolding pasted
+lines-over [] [] o at w stride e p q h = refl
+lines-over [] (m ∷ y) o at w stride e p q h = absurd (omega arith)
+lines-over (l ∷ x) [] o at w stride e p q h = absurd (omega arith)
+lines-over (l ∷ x) (m ∷ y) o at w stride e p q h =
+    rw (sets-pasted x m (sets o at l) at (at + stride) stride (omega (arith, q .0)), sets-over l m o at (omega (arith, p .0, q .0)))
+    (lines-over x y (sets o at m) (at + stride) w stride (omega arith) (p .1) (q .1) h)
+
+pub pasted-over : {x y : List (List ℕ)} {h w : ℕ} (o : List ℕ) (at stride : ℕ) → Dims x h w → Dims y h w → w ≤ stride → pasted (pasted o at stride x) at stride y ≡ pasted o at stride y
+pasted-over {x} {y} {w = w} o at stride d e h = lines-over x y o at w stride (d .lines ∙ sym (e .lines)) (d .columns) (e .columns) h
 
 -- ---- what each place holds
 

@@ -19,7 +19,7 @@ sets-sets (a ∷ us) vs l i j h = rw (set-sets vs l i j a (omega arith)) (sets-s
 -- ---- twice at some places
 
 -- stores over no more others
-sets-over : (m l o : List ℕ) (at : ℕ) → length m ≤ length l → sets (sets o at m) at l ≡ sets o at l
+pub sets-over : (m l o : List ℕ) (at : ℕ) → length m ≤ length l → sets (sets o at m) at l ≡ sets o at l
 sets-over [] l o at h = refl
 sets-over (b ∷ m) [] o at h = absurd (omega arith)
 sets-over (b ∷ m) (a ∷ l) o at h = rw (set-sets m (set o at b) at (suc at) a (omega arith), set-set o at b a) (sets-over m l (set o at a) (suc at) (omega arith))

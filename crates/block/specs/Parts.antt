@@ -29,6 +29,10 @@ planOf s n z = record {
   widest = n .width - s .left - s .right;
 }
 
+-- n lines of w spaces
+abbrev pub spaces : ℕ → ℕ → List (List ℕ)
+spaces n w = replicate n (replicate w 32)
+
 -- a line of the body without its text
 unfoldable pub clear : Settings → ℕ → List ℕ
 clear s inner = replicate (s .left) (getD (s .fills) 0 0) ++ (replicate inner 32 ++ replicate (s .right) (getD (s .fills) 1 0))

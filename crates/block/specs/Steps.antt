@@ -10,7 +10,11 @@ use Rattle.sizes.specs.declared.Size.{Size}
 use Rattle.block.specs.declared.Begun.{Begun}
 use Rattle.block.specs.declared.borders.Borders.{Borders}
 use Rattle.block.specs.Paint.{pasted, Room}
-use Rattle.block.specs.Parts.{topOf, leftOf, rightOf, bottomOf}
+use Rattle.block.specs.Parts.{spaces, topOf, leftOf, rightOf, bottomOf}
+
+-- where the lines x stood, the lines y stand
+pub record Turned (x y : List (List ℕ)) (at stride : ℕ) (o o′ : List ℕ) : Type 0 where
+  pub done : (b : List ℕ) → o ≡ pasted b at stride x → o′ ≡ pasted b at stride y
 
 -- over lines g, whatever lines follow them, stand the lines ls as f makes them
 pub record Over (g : List ℕ) (f : List ℕ → List ℕ) (ls : List (List ℕ)) (at stride : ℕ) (o o′ : List ℕ) : Type 0 where
@@ -29,11 +33,16 @@ pub record Lined (b : Borders) (z : Size) (h v : List ℕ) (base stride len : �
   pub apart : columnsIn b z ≤ stride
   pub room : Room base stride (1 + (z .height + pick (b .bottom) 1 0)) (columnsIn b z) len
 
--- the top line and the left marks are written, and the body begins behind them
+-- the top line and the left marks
+unfoldable pub begunOf : Bool → Borders → Size → List ℕ → List ℕ → ℕ → ℕ → List ℕ → List ℕ
+unfolding pasted topOf leftOf
+begunOf lines b z h v base stride o = pick lines (pasted (sets o base (topOf b (z .width) h)) (base + stride) stride (leftOf b (z .height) v)) o
+
+-- these are written, and the body begins behind them, where spaces stand
 pub record Begins (lines : Bool) (b : Borders) (z : Size) (h v : List ℕ) (base stride : ℕ) (r : Begun) (o o′ : List ℕ) : Type 0 where
   pub at-is : r .at ≡ base + pick lines (stride + 1) 0
   pub next-is : lines ≡ true → r .next ≡ base + stride + z .height * stride
-  pub out-is : o′ ≡ pick lines (pasted (sets o base (topOf b (z .width) h)) (base + stride) stride (leftOf b (z .height) v)) o
+  pub out-is : o′ ≡ pasted (begunOf lines b z h v base stride o) (r .at) stride (spaces (z .height) (z .width))
 
 -- what the marks after the body ask for
 pub record Rest (b : Borders) (z : Size) (p : Begun) (stride len : ℕ) : Type 0 where

@@ -8,7 +8,8 @@ ghost use Rattle.sizes.specs.Sizes.{leafSize};
 ghost use Rattle.sizes.specs.Contracts.{Fits};
 ghost use Rattle.block.specs.Block.{body};
 ghost use Rattle.block.specs.Paint.{pasted, Room, Wrote};
-ghost use Rattle.block.specs.Parts.{planOf, clear, ground, groundLines, Blank};
+ghost use Rattle.block.specs.Parts.{planOf, spaces, clear, ground, groundLines, Blank};
+ghost use Rattle.block.specs.Steps.{Turned};
 use crate::bytes;
 use crate::text;
 use settings::Settings;
@@ -111,7 +112,7 @@ fn paint_padded(
     rows_twice(out, q, stride, w, s.bottom, s.fills[3], plan.below, 32);
 }
 
-// The same, all lines at once where every padding is of spaces.
+// The same over spaces: nothing where every padding is of spaces.
 fn paint_ground(
     out: &mut [u8],
     at: usize,
@@ -123,17 +124,16 @@ fn paint_ground(
 )
     requires { ⌜ (s .left + plan .inner + s .right ≡ size .width) × (size .width ≤ stride) × (groundLines s plan n ≡ size .height) ⌝ }
     requires { ⌜ Room at stride (size .height) (size .width) (length (now out)) ⌝ }
-    ensures { λ _. ⌜ now (out .exit) ≡ pasted (now (out .entry)) at stride (ground s plan n (size .width)) ⌝ }
+    ensures { λ _. ⌜ Turned (spaces (size .height) (size .width)) (ground s plan n (size .width)) at stride (now (out .entry)) (now (out .exit)) ⌝ }
 {
     let fills = s.fills;
     if is_blank(fills) {
-        bytes::rows(out, at, stride, size.height, size.width, 32);
         return;
     }
     paint_padded(out, at, stride, s, plan, n, size.width);
 }
 
-// Spaces and padding, and over them the text.
+// Over spaces the padding, and over both the text.
 pub fn paint_body(
     out: &mut [u8],
     at: usize,
@@ -145,7 +145,7 @@ pub fn paint_body(
 )
     requires { ⌜ (length (now text) < 65536) × (natural ≡ leafSize s (now text)) × Fits natural size × (size .width ≤ stride) ⌝ }
     requires { ⌜ Room at stride (size .height) (size .width) (length (now out)) ⌝ }
-    ensures { λ _. ⌜ now (out .exit) ≡ pasted (now (out .entry)) at stride (body s (now (text .entry)) size) ⌝ }
+    ensures { λ _. ⌜ Turned (spaces (size .height) (size .width)) (body s (now (text .entry)) size) at stride (now (out .entry)) (now (out .exit)) ⌝ }
 {
     let plan = plan_body(s, natural, size);
     let n = natural.height - s.top - s.bottom;

@@ -174,6 +174,22 @@ pub fn rows(out: &mut [u8], at: usize, stride: usize, n: usize, w: usize, byte: 
     p
 }
 
+// n lines of a mark and w spaces, laid as by `rows`.
+pub fn marked_rows(out: &mut [u8], at: usize, stride: usize, n: usize, w: usize, mark: u8) -> usize
+    requires { ⌜ Room at stride n (1 + w) (length (now out)) ⌝ }
+    ensures { λ r. ⌜ Wrote r (at + n * stride) (now (out .exit)) (pasted (now (out .entry)) at stride (replicate n (mark ∷ replicate w 32))) ⌝ }
+{
+    let mut p = at;
+    let mut i = 0;
+    while i < n {
+        out[p] = mark;
+        fill(out, p + 1, w, 32);
+        p += stride;
+        i += 1;
+    }
+    p
+}
+
 // n lines of one byte: as `rows` at width 1, with one store a line.
 pub fn stack(out: &mut [u8], at: usize, stride: usize, n: usize, byte: u8) -> usize
     requires { ⌜ Room at stride n 1 (length (now out)) ⌝ }

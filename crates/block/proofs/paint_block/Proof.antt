@@ -1,5 +1,5 @@
 use mathlib.Core.Path.{refl}
-use Rattle.block.proofs.Painted.{lined, body-apart, body-room, after-room, block-painted}
+use Rattle.block.proofs.Painted.{lined, bare-room, body-apart, body-room, after-room, block-painted}
 use borrow.Author.Needs.{needs}
 use Rattle.block.proofs.paint_block.Statement.{statement}
 use Rattle.block.proofs.paint_block.Tie as tie
@@ -8,7 +8,10 @@ config-borders-requires : tie.Need-config-borders-requires
 config-borders-requires c κs = search needs
 
 paint-before-requires : tie.Need-paint-before-requires
-paint-before-requires c κs = let b = c .before .config-borders .ensures in lined (c .before .before .before .before .before .before .before .before .before .pre) _ (b .0) (b .1)
+paint-before-requires c κs =
+    let b = c .before .config-borders .ensures in
+    let k = c .before .before .before .before .before .before .before .before .before .pre in
+    (lined k _ (b .0) (b .1), bare-room k _ (b .0) (b .1))
 
 paint-body-requires : tie.Need-paint-body-requires
 paint-body-requires c κs =
@@ -31,7 +34,7 @@ returns c =
     let d = c .before .before .before .before .before .before .before .before .before .before in
     let k = d .before .before .before .before .before .before .before .before .before .before .pre in
     let b = d .before .before .config-borders .ensures in
-    block-painted k _ (b .0) (b .1) _ refl _ _ _ _ _ (d .paint-before .ensures) (c .before .before .before .before .before .before .paint-body .ensures) (c .before .before .paint-after .ensures)
+    block-painted k _ (b .0) (b .1) _ refl _ _ _ _ _ (d .paint-before .ensures) (c .before .before .before .before .before .before .paint-body .ensures .done _ (d .paint-before .ensures .out-is)) (c .before .before .paint-after .ensures)
 
 pub paint-block-spec : {M : Type 1} → statement M
 paint-block-spec =

@@ -87,7 +87,9 @@ returns c =
     let e = c .before .before .before .before .before .before .before .before .before .before .before .before .before .plan-body .ensures in
     let h = planned (a .s) (a .text .now) (a .natural) (a .size) _ (start .pre .0 .1) (start .pre .0 .2) e in
     let n = text-lines (a .s) (a .text .now) (a .natural) (a .size) _ (start .pre .0 .1) (start .pre .0 .2) e _ _ _ (start .pre .1) in
-    body-over (a .s) (a .text .now) (a .size) _ h (a .out .now) _ _ (a .at) (a .stride) (rw n at (c .before .before .before .before .before .before .before .before .paint-ground .ensures)) (c .before .before .text-lines .ensures)
+    record {
+      done = λ b is. body-over (a .s) (a .text .now) (a .size) _ h b _ _ (a .at) (a .stride) (rw n at (c .before .before .before .before .before .before .before .before .paint-ground .ensures .done b is)) (c .before .before .text-lines .ensures);
+    }
 
 pub paint-body-spec : {M : Type 1} → statement M
 paint-body-spec =
