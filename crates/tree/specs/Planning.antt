@@ -1,6 +1,6 @@
 -- Reading planning trees: document 02, request 10. With `planning` no, the bytes are those of document 01 and tag 4 is 2, as any unknown tag.
 use mathlib.Core.Path.{_≡_}
-use Prim.Native.Nat.{ℕ, zero, suc, _+_, _≤_, max}
+use Prim.Native.Nat.{ℕ, zero, suc, _+_, _≤_, _<_, max}
 use mathlib.Core.List.{List, [], _∷_}
 use mathlib.Core.Bool.{Bool, true, false, not}
 use lib.ListN.{length, getD, take, drop}
@@ -11,6 +11,7 @@ use Rattle.tree.specs.Bytes.{lengthAt, contents, tagOf, axisOf}
 use Rattle.tree.specs.Reading.{isText}
 use Rattle.tree.specs.declared.Header.{Header}
 use Rattle.tree.specs.declared.Header.the-variants.{Fault, Element}
+use Rattle.tree.specs.declared.Begun.{Begun}
 use Rattle.tree.specs.declared.Step.{Step}
 use Rattle.tree.specs.declared.Sequence.{Sequence}
 use Rattle.tree.specs.declared.ReadTree.{ReadTree}
@@ -107,6 +108,12 @@ unfoldable mutual
 abbrev pub stepIn : PlanOne → Step
 stepIn (PlanOne.refused k) = Step.Fault k
 stepIn (PlanOne.one p size count) = Step.Whole size count
+
+-- what `read_cell` has read is what the element comes to
+abbrev pub begunFits : Bool → ℕ → ℕ → List ℕ → Begun → Type 0
+begunFits planning depth count s (Begun.Fault k) = (f : ℕ) → length s < f → Step.Fault k ≡ stepIn (elementIn planning f depth count s)
+begunFits planning depth count s (Begun.Cell size) = ((f : ℕ) → length s < f → Step.Whole size (count + 1) ≡ stepIn (elementIn planning f depth count s)) × ((3 ≤ size) × (size ≤ length s)) × (count < 512)
+begunFits planning depth count s Begun.Other = Unit
 
 abbrev pub sequenceFor : PlanAll → Sequence
 sequenceFor (PlanAll.refused k) = Sequence.Fault k

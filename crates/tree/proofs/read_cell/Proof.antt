@@ -1,0 +1,60 @@
+use mathlib.Core.Path.{_≡_, sym, _∙_}
+use Prim.Native.Nat.{ℕ, _+_, _≤_, _<_}
+use native.Mathlib.Omega.{arith}
+use lib.ListN.{length}
+use borrow.Author.Needs.{needs}
+use Rattle.tree.specs.Planning.{headerIn}
+use Rattle.tree.specs.declared.Header.the-variants.{Element}
+use Rattle.tree.proofs.Steps.{element-fault, element-cell, fuelled}
+use Rattle.tree.proofs.read_header.Reads as read-header-reads
+use Rattle.tree.proofs.is_text.Reads as is-text-reads
+use Rattle.tree.proofs.read_cell.Statement.{statement}
+use Rattle.tree.proofs.read_cell.Tie as tie
+use Rattle.tree.proofs.read_cell.Reads as reads
+use Rattle.tree.proofs.read_cell.Lts as lts
+
+-- what has been tested where the front is known
+abbrev Known : Type 0
+Known = lts.After-known-told2 (read-header-reads.Asked, read-header-reads.Learnt, is-text-reads.Asked, is-text-reads.Learnt) reads.Pre reads.Post
+
+fits : (c : Known) → let a = c .before .before .before .before .before .args in (3 + c .before .h2 .given .0 .1 .0 ≤ length (a .s .now)) × (a .depth ≤ 16) × (a .count < 512)
+fits c = rw (c .before .h2 .given .1) at (c .before .before .before .read-header .ensures .1 .0)
+
+front : (c : Known) → let a = c .before .before .before .before .before .args in headerIn (a .planning) (a .s .now) (a .depth) (a .count) ≡ Element (c .before .h2 .given .0 .0) (c .before .h2 .given .0 .1 .0)
+front c = sym (c .before .before .before .read-header .ensures .0) ∙ c .before .h2 .given .1
+
+add-end : tie.Need-add-end
+add-end c = omega (arith, fits c .0)
+
+part-is-text-end : tie.Need-part-is-text-end
+part-is-text-end c = omega (arith, fits (c .before) .0)
+
+returns : tie.Need-returns
+returns c = fuelled _ _ (λ g h. sym (element-fault _ g _ _ _ _ (sym (c .before .before .before .read-header .ensures .0) ∙ c .before .h .given .1)))
+
+returns-2 : tie.Need-returns-2
+returns-2 c =
+    let k = c .before .before .before .before in
+    (fuelled _ _ (λ g h. sym (element-cell _ g _ _ _ _ _ _ (front k) (c .before .before .before .if1 .taken) (sym (c .if2 .taken) ∙ c .before .is-text .ensures))), (omega arith, fits k .0), fits k .2)
+
+returns-3 : tie.Need-returns-3
+returns-3 c =
+    let k = c .before .before .before .before in
+    fuelled _ _ (λ g h. sym (element-cell _ g _ _ _ _ _ _ (front k) (c .before .before .before .if1 .taken) (sym (c .if2 .left) ∙ c .before .is-text .ensures)))
+
+pub read-cell-spec : {M : Type 1} → statement M
+read-cell-spec =
+    tie.close
+    (tie.spec
+    (λ c κs. search needs)
+    (λ c. search needs)
+    (λ c. search needs)
+    add-end
+    (λ c. search needs)
+    (λ c. search needs)
+    part-is-text-end
+    (λ c κs. search needs)
+    returns
+    returns-2
+    returns-3
+    (λ c. search needs))
