@@ -1,6 +1,5 @@
 // Ways to measure a text, as C functions for `bench/run feeds` alone. Each but the first answers the longest line times 65,536 and the line count.
-use sizes::text::line_end;
-ghost use Prim.Native.Nat.{_+_, _<_};
+ghost use Prim.Native.Nat.{_+_, _≤_, _<_};
 ghost use lib.ListN.{length};
 
 fn answer(longest: usize, lines: usize) -> u64 {
@@ -42,6 +41,49 @@ pub extern "C" fn leg_measure_plain(text: &[u8]) -> u64 {
         i += 1;
     }
     answer(longest, lines)
+}
+
+// Whether the 16 bytes from `from` on have no line feed. The loop has no way out before the end, so that they are taken together.
+fn is_plain(text: &[u8], from: usize) -> bool
+    requires { ⌜ from + 16 ≤ length (now text) ⌝ }
+{
+    let mut plain = true;
+    let mut i = 0;
+    while i < 16 {
+        plain = common::both(plain, text[from + i] != 10);
+        i += 1;
+    }
+    plain
+}
+
+// Past the bytes from `from` on that have no line feed, 16 at a time.
+fn skip_plain(text: &[u8], from: usize) -> usize
+    requires { ⌜ from ≤ length (now text) ⌝ }
+    ensures { λ r. ⌜ (from ≤ r) × (r ≤ length (now (text .entry))) ⌝ }
+{
+    let mut i = from;
+    while 16 <= text.len() - i {
+        if !is_plain(text, i) {
+            return i;
+        }
+        i += 16;
+    }
+    i
+}
+
+// Where the line that starts at `from` ends.
+fn line_end(text: &[u8], from: usize) -> usize
+    requires { ⌜ from ≤ length (now text) ⌝ }
+    ensures { λ r. ⌜ (from ≤ r) × (r ≤ length (now (text .entry))) ⌝ }
+{
+    let mut i = skip_plain(text, from);
+    while i < text.len() {
+        if text[i] == 10 {
+            return i;
+        }
+        i += 1;
+    }
+    i
 }
 
 // The measure as it was before request 3 of document 02: the end of one line sought after the other, 16 bytes at a time and then byte by byte.

@@ -2,7 +2,6 @@ use Prim.Native.Nat.{_+_, _-_, _≤_}
 use native.Mathlib.Omega.{arith}
 use lib.ListN.{length}
 use borrow.Author.Needs.{needs}
-use Rattle.sizes.proofs.Lines.{line-from, line-in}
 use Rattle.feeds_bench.proofs.search.Statement.{statement}
 use Rattle.feeds_bench.proofs.search.Tie as tie
 
@@ -20,11 +19,11 @@ search-spec =
     μ-loop
     (λ c. search needs)
     (λ c κs. search needs)
-    (λ c. line-from _ _ (c .before .loop-test .taken) _ (c .line-end .ensures))
+    (λ c. c .line-end .ensures .0)
     (λ c κs. search needs)
     (λ c κs. search needs)
-    (λ c. omega (arith, line-in _ _ (c .before .before .before .loop-test .taken) _ (c .before .before .line-end .ensures)))
-    (λ c. omega (arith, line-from _ _ (c .before .before .before .loop-test .taken) _ (c .before .before .line-end .ensures)))
-    (λ c. omega (arith, line-in _ _ (c .before .before .before .loop-test .taken) _ (c .before .before .line-end .ensures)))
+    (λ c. omega (arith, c .before .before .line-end .ensures .1))
+    (λ c. omega (arith, c .before .before .line-end .ensures .0))
+    (λ c. omega (arith, c .before .before .line-end .ensures .1))
     (λ c κs. search needs)
     (λ c. search needs))
