@@ -6,7 +6,9 @@
 #include "leg_sheet.h"
 
 // memset and memcpy for the library, by words and then by bytes: what is counted then depends neither on the C library and the processor nor on the C compiler.
-__asm__(".globl memset\n"
+__asm__(".globl memset, memcpy\n"
+        ".type memset, @function\n"
+        ".type memcpy, @function\n"
         "memset: mov %rdi, %r8\n"
         "movzbl %sil, %eax\n"
         "movabs $0x0101010101010101, %rcx\n"
@@ -19,7 +21,7 @@ __asm__(".globl memset\n"
         "rep stosb\n"
         "mov %r8, %rax\n"
         "ret\n"
-        ".globl memcpy\n"
+        ".size memset, . - memset\n"
         "memcpy: mov %rdi, %rax\n"
         "mov %rdx, %rcx\n"
         "shr $3, %rcx\n"
@@ -27,7 +29,8 @@ __asm__(".globl memset\n"
         "mov %edx, %ecx\n"
         "and $7, %ecx\n"
         "rep movsb\n"
-        "ret\n");
+        "ret\n"
+        ".size memcpy, . - memcpy\n");
 
 enum { CELL = 1, ROW = 2, COLUMN = 3, RANGE = 4 };
 

@@ -1,121 +1,124 @@
-//! The proved library's sheet printer against tabled's, on the same tables in one run, and against writing as many bytes line by line with
-//! memset. Times are the least of several runs, per sheet.
+//! The proved library's sheet printer against tabled's, and against two printers written for speed without proofs (crate `light`: A with split lists, B without), on
+//! the same tables in one run. First A and B are held to the original on random inputs; a table is timed after all four have printed the same sheet. Times are the
+//! least of many, by turns, per sheet.
 //!
-//! The library reads settings and tree bytes and writes into a lent output that is not cleared between runs; tabled is handed the tree as a
-//! value, builds its own from it, and answers a new text. All are built for release, without overflow checks.
+//! The library, A and B read settings and tree bytes and write into a lent output that is not cleared between runs; tabled is handed the tree as a value, builds its
+//! own from it, and answers a new text. All are built for release, without overflow checks.
 
+mod bars;
+mod hold;
 mod tables;
 
 use std::hint::black_box;
 use std::process::ExitCode;
 use std::time::{Duration, Instant};
 
+use bars::{Bar, Measured};
 use leg_sheet::calls::{self, print_sheet};
-use oracle::form::{encode_settings, encode_tree};
+use oracle::form::{encode_settings, encode_tree, Settings, Tree};
 use oracle::original;
 use tables::{families, Table};
 
-/// The least time of one run, of as many as fit in a tenth of a second.
-fn least(mut run: impl FnMut()) -> Duration {
-    let start = Instant::now();
-    let mut best = Duration::MAX;
-    while start.elapsed() < Duration::from_millis(100) {
-        let begun = Instant::now();
+/// How long a table is timed.
+const TIME: Duration = Duration::from_millis(500);
+
+/// A printer to be timed: one sheet a call.
+type Run<'a> = Box<dyn FnMut() + 'a>;
+
+/// Nanoseconds of one call, of so many.
+fn time(run: &mut Run, calls: u32) -> f64 {
+    let begun = Instant::now();
+    for _ in 0..calls {
         run();
-        best = best.min(begun.elapsed());
+    }
+    begun.elapsed().as_secs_f64() * 1e9 / f64::from(calls)
+}
+
+/// The least nanoseconds of a call of each printer, by turns; so many calls are timed together that the clock does not count.
+fn least<const N: usize>(mut runs: [Run; N]) -> [f64; N] {
+    let mut best = [f64::MAX; N];
+    let start = Instant::now();
+    while start.elapsed() < TIME {
+        for (run, best) in runs.iter_mut().zip(&mut best) {
+            let calls = (4000.0 / best.max(20.0)).clamp(1.0, 200.0) as u32;
+            for _ in 0..10 {
+                *best = best.min(time(run, calls));
+            }
+        }
     }
     best
 }
 
-/// Lines of so many bytes and a feed after each, but the last.
-fn lines(output: &mut [u8], width: usize) {
-    for line in output.chunks_mut(width + 1) {
-        let bytes = line.len().min(width);
-        line[..bytes].fill(b'x');
-        if let Some(feed) = line.get_mut(width) {
-            *feed = b'\n';
-        }
-    }
+/// Settings, tree, output: the bytes written, where nothing is refused.
+type Printer = fn(&[u8], &[u8], &mut [u8]) -> Option<usize>;
+
+fn shown(answer: light::Answer) -> Option<usize> {
+    (answer.number == 0).then_some(answer.count)
 }
 
-/// So many times faster than tabled is asked of every table of 100 nodes and more.
-const BAR: f64 = 3.0;
+const PRINTERS: [Printer; 3] = [
+    |settings, tree, output| print_sheet(settings, tree, output).ok(),
+    |settings, tree, output| shown(light::lists::print_sheet(settings, tree, output)),
+    |settings, tree, output| shown(light::stamps::print_sheet(settings, tree, output)),
+];
 
-/// What was measured of a table.
-struct Measured {
-    nodes: usize,
-    /// tabled's time by the library's.
-    faster: f64,
-    /// The library's time by memset's.
-    slower: f64,
-}
-
-fn measure(table: &Table, output: &mut [u8]) -> Measured {
-    let Table {
-        name,
-        settings,
-        tree,
-    } = table;
-    let (settings_bytes, tree_bytes) = (encode_settings(settings), encode_tree(tree));
-    let bytes = print_sheet(&settings_bytes, &tree_bytes, output)
-        .unwrap_or_else(|refusal| panic!("{name}: {refusal}"));
+/// Each printer prints what the original does; then they are timed.
+fn measure(name: String, settings: &Settings, tree: &Tree) -> Measured {
+    let (s, t) = (&encode_settings(settings), &encode_tree(tree));
     let sheet = original::sheet(settings, tree);
-    assert_eq!(output[..bytes], sheet, "{name}");
-    let width = sheet
-        .iter()
-        .position(|&byte| byte == b'\n')
-        .expect("a sheet has three lines");
-    let ours = least(|| {
-        let answer = print_sheet(&settings_bytes, &tree_bytes, black_box(output));
-        black_box(answer).expect("printed before");
+    let runs = PRINTERS.map(|print| -> Run {
+        let mut output = vec![0; calls::SHEET];
+        let count = print(s, t, &mut output);
+        assert!(
+            count == Some(sheet.len()) && output.starts_with(&sheet),
+            "{name}"
+        );
+        Box::new(move || {
+            black_box(print(black_box(s), black_box(t), black_box(&mut output)));
+        })
     });
-    let theirs = least(|| {
+    let [library, a, b] = runs;
+    let theirs = Box::new(|| {
         black_box(original::sheet(black_box(settings), black_box(tree)));
     });
-    let plain = least(|| lines(black_box(&mut output[..bytes]), width));
-    let nodes = tree.nodes();
-    let faster = theirs.as_secs_f64() / ours.as_secs_f64();
-    let slower = ours.as_secs_f64() / plain.as_secs_f64();
-    let (a_node, a_byte) = (
-        ours.as_nanos() / nodes as u128,
-        ours.as_secs_f64() * 1e9 / bytes as f64,
-    );
-    println!(
-        "{name:<22} {nodes:>5} {bytes:>6} {ours:>10.1?} {theirs:>10.1?} {plain:>10.1?} {faster:>8.2} {slower:>8.1} {a_node:>8} {a_byte:>8.2}"
-    );
+    let [library, a, b, original] = least([library, a, b, theirs]);
     Measured {
-        nodes,
-        faster,
-        slower,
+        nodes: tree.nodes(),
+        bytes: sheet.len(),
+        name,
+        library,
+        a,
+        b,
+        original,
     }
 }
 
 fn main() -> ExitCode {
-    let mut output = vec![0; calls::SHEET];
-    let mut all = Vec::new();
-    println!("times faster: tabled / library. by memset: library / memset.");
-    let heads = [
-        "library", "tabled", "memset", "faster", "by mem", "ns/node", "ns/byte",
-    ];
-    let [ours, theirs, plain, faster, slower, a_node, a_byte] = heads;
-    for (family, tables) in families() {
-        println!(
-            "\n{family:<22} {:>5} {:>6} {ours:>10} {theirs:>10} {plain:>10} {faster:>8} {slower:>8} {a_node:>8} {a_byte:>8}",
-            "nodes", "bytes"
-        );
-        all.extend(tables.iter().map(|table| measure(table, &mut output)));
-    }
-    let least_of =
-        |some: &mut dyn Iterator<Item = &Measured>| some.map(|m| m.faster).fold(f64::MAX, f64::min);
-    let large = least_of(&mut all.iter().filter(|m| m.nodes >= 100));
-    let slowest = all.iter().map(|m| m.slower).fold(0.0, f64::max);
     println!(
-        "\nleast of times faster: {:.2}; of 100 nodes and more: {large:.2} (bar {BAR}, goal 10)",
-        least_of(&mut all.iter())
+        "A and B print as the original on {} inputs.\n",
+        hold::hold()
     );
-    println!("most by memset: {slowest:.1} (goal 5)");
-    if large < BAR {
-        return ExitCode::FAILURE;
+    println!("{}", Measured::HEAD);
+    let mut all = Vec::new();
+    for (family, tables) in families() {
+        for Table {
+            name,
+            settings,
+            tree,
+        } in tables
+        {
+            let measured = measure(format!("{family}, {name}"), &settings, &tree);
+            println!("{measured}");
+            all.push(measured);
+        }
     }
-    ExitCode::SUCCESS
+    println!();
+    let bars = bars::bars(&all);
+    for bar in &bars {
+        println!("{bar}");
+    }
+    if bars.iter().all(Bar::is_met) {
+        return ExitCode::SUCCESS;
+    }
+    ExitCode::FAILURE
 }
