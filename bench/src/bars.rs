@@ -61,7 +61,7 @@ impl fmt::Display for Measured {
 
 /// A number that may not be passed: from below, or from above.
 pub struct Bar {
-    what: &'static str,
+    what: String,
     found: f64,
     least: f64,
     most: f64,
@@ -92,39 +92,31 @@ impl fmt::Display for Bar {
 
 pub fn bars(all: &[Measured]) -> [Bar; 4] {
     let large = || all.iter().filter(|m| m.nodes >= 100);
-    let named = |name: &str| all.iter().find(|m| m.name == name).expect("a table's name");
-    let least = |what, found, least| Bar {
-        what,
-        found,
-        least,
-        most: f64::MAX,
-    };
-    let most = |what, found, most| Bar {
-        what,
-        found,
+    let slowest = large().min_by(|m, n| m.faster().total_cmp(&n.faster()));
+    let farthest = large().max_by(|m, n| m.by_a().total_cmp(&n.by_a()));
+    let (slowest, farthest) = (slowest.expect("a table"), farthest.expect("a table"));
+    let by_a = |m: &Measured, most| Bar {
+        what: format!("{}, by A", m.name),
+        found: m.by_a(),
         least: 0.0,
         most,
     };
+    let named = |name: &str| all.iter().find(|m| m.name == name).expect("a table's name");
     [
-        least(
-            "faster than the original, 100 nodes and more (goal 20)",
-            large().map(Measured::faster).fold(f64::MAX, f64::min),
-            11.0,
-        ),
-        most(
-            "by A, 100 nodes and more",
-            large().map(Measured::by_a).fold(0.0, f64::max),
-            1.6,
-        ),
-        most(
-            "by A, a text of 396 by 80",
-            named("text, 396 by 80").by_a(),
-            1.25,
-        ),
-        most(
-            "by A, a Row of 10 Cells",
-            named("Row, 10 Cells").by_a(),
-            1.4,
-        ),
+        Bar {
+            what: format!(
+                "least of 100 nodes and more, {}, faster than the original (goal 20)",
+                slowest.name
+            ),
+            found: slowest.faster(),
+            least: 11.0,
+            most: f64::MAX,
+        },
+        Bar {
+            what: format!("most of 100 nodes and more, {}, by A", farthest.name),
+            ..by_a(farthest, 1.6)
+        },
+        by_a(named("text, 396 by 80"), 1.25),
+        by_a(named("Row, 10 Cells"), 1.4),
     ]
 }
