@@ -1,19 +1,26 @@
 // Standard input: the settings (the first 31 bytes, with a hex 11 behind them 42, or all if there are fewer), then the tree.
 // Standard output: what `program::answer` says, the sheet and 0A, or `refused `, the number and 0A.
 // Where reading or writing fails, a line on standard error says so: a Rattle program has no exit status.
-use libc::STDOUT_FILENO;
+use libc::STDERR_FILENO;
 use reading::Input;
+use writing::Output;
 
 fn fail() {
     os::fail(b"leg_sheet");
+}
+
+fn fail_stuck() {
+    io::write_all(STDERR_FILENO, b"leg_sheet: nothing more can be written\n");
 }
 
 // The whole answer in one go.
 fn print(input: &[u8]) {
     let mut out = [0u8; program::ANSWER_BYTES];
     let n = program::answer(input, &mut out);
-    if !io::write_all(STDOUT_FILENO, &out[..n]) {
-        fail();
+    match writing::write_output(&out[..n]) {
+        Output::Whole => {}
+        Output::Failed => fail(),
+        Output::Stuck => fail_stuck(),
     }
 }
 

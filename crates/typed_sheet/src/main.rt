@@ -1,19 +1,26 @@
 // Standard input: a typed list.
 // Standard output: what `typed_program::answer_typed` says, the sheet under the default settings and 0A, or what is wrong and 0A.
 // Where reading or writing fails, a line on standard error says so: a Rattle program has no exit status.
-use libc::STDOUT_FILENO;
+use libc::STDERR_FILENO;
 use reading::Input;
+use writing::Output;
 
 fn fail() {
     os::fail(b"typed_sheet");
+}
+
+fn fail_stuck() {
+    io::write_all(STDERR_FILENO, b"typed_sheet: nothing more can be written\n");
 }
 
 // The whole answer in one go.
 fn print(text: &[u8]) {
     let mut out = [0u8; typed_program::ANSWER_BYTES];
     let n = typed_program::answer_typed(text, &mut out);
-    if !io::write_all(STDOUT_FILENO, &out[..n]) {
-        fail();
+    match writing::write_output(&out[..n]) {
+        Output::Whole => {}
+        Output::Failed => fail(),
+        Output::Stuck => fail_stuck(),
     }
 }
 
