@@ -2,15 +2,12 @@
 //!
 //!     compare [SEED [ROUNDS]]      by default seed 1 and 20 rounds of the random inputs
 
-mod lent;
-mod side;
-
 use std::process::ExitCode;
 
+use compare::side::Library;
 use oracle::compare::{parts, Comparison, Counts, NUMBERS};
 use oracle::gen::Rng;
 use oracle::sides::Original;
-use side::Library;
 
 /// Whether the calls gave all of their numbers: what was compared is not too little.
 fn is_enough(counts: &Counts) -> bool {
@@ -24,7 +21,7 @@ fn is_enough(counts: &Counts) -> bool {
 }
 
 /// Runs every part, one whether or not another finds a difference; answers how many agreed and how many did not. Last comes whether they were enough.
-fn compare(seed: u64, rounds: usize) -> (usize, usize) {
+fn compare_all(seed: u64, rounds: usize) -> (usize, usize) {
     let (mut agreed, mut parted) = (0, 0);
     let mut counts = Counts::default();
     let mut original = Original::default();
@@ -69,7 +66,7 @@ fn main() -> ExitCode {
             return ExitCode::FAILURE;
         }
     };
-    let (agreed, parted) = compare(seed, rounds);
+    let (agreed, parted) = compare_all(seed, rounds);
     println!("{agreed} passed, {parted} failed");
     if parted == 0 {
         ExitCode::SUCCESS

@@ -1,6 +1,7 @@
 //! Two sides on the same inputs: every number, every field, and every lent entry, written or not.
 
 mod alike;
+mod asked;
 mod bare;
 mod blanks;
 mod drafts;
@@ -789,17 +790,21 @@ impl<'a> Comparison<'a> {
     pub fn any_folds(&mut self, rng: &mut Rng, rounds: usize) -> Result<(), Difference> {
         for _ in 0..rounds {
             let (settings, tree) = gen::any_list(rng);
-            let ((width, budget), needed) = match folds_of(&settings, &tree) {
-                Some(folds) => {
-                    let (width, budget) = gen::question(rng, &folds);
-                    ((width, budget), needed(&folds, width, budget))
-                }
-                None => (rng.pick(&[(0, 0), (9, 0), (usize::MAX, usize::MAX)]), 1),
-            };
-            let length = gen::around(rng, needed);
-            self.fold(&settings, &tree, (width, budget), length)?;
+            self.any_fold(rng, &settings, &tree)?;
         }
         Ok(())
+    }
+
+    /// The fold of a list of any kind, for a random width and budget.
+    fn any_fold(&mut self, rng: &mut Rng, settings: &[u8], tree: &[u8]) -> Result<(), Difference> {
+        let (asked, needed) = match folds_of(settings, tree) {
+            Some(folds) => {
+                let (width, budget) = gen::question(rng, &folds);
+                ((width, budget), needed(&folds, width, budget))
+            }
+            None => (rng.pick(&[(0, 0), (9, 0), (usize::MAX, usize::MAX)]), 1),
+        };
+        self.fold(settings, tree, asked, gen::around(rng, needed))
     }
 
     /// All bytes of up to `most` that look like a planning tree; elements with several faults, ranges of every byte; trees too long.
@@ -873,11 +878,16 @@ impl<'a> Comparison<'a> {
         }
         for _ in 0..rounds {
             let (settings, tree) = gen::any_wide(rng);
-            let cells = judge::read_tree(&tree).map_or(1, |tree| widening::cells(&tree).len());
-            let lent = (gen::around(rng, cells), gen::around(rng, cells));
-            self.widen(&settings, &tree, lent)?;
+            self.any_need(rng, &settings, &tree)?;
         }
         Ok(())
+    }
+
+    /// The letters of a tree of any kind, with lists of random lengths.
+    fn any_need(&mut self, rng: &mut Rng, settings: &[u8], tree: &[u8]) -> Result<(), Difference> {
+        let cells = judge::read_tree(tree).map_or(1, |tree| widening::cells(&tree).len());
+        let lent = (gen::around(rng, cells), gen::around(rng, cells));
+        self.widen(settings, tree, lent)
     }
 
     /// Each tree under each of the settings.
@@ -979,19 +989,24 @@ impl<'a> Comparison<'a> {
             }
         }
         for _ in 0..rounds {
-            let (list, width) = gen::list(rng);
-            let mut list = SplitList::new(&list);
-            // What stands past the count is the caller's.
-            if rng.one_in(2) {
-                for place in &mut list.pieces[list.count..] {
-                    *place = rng.below(65_536) as u16;
-                }
-            }
-            self.list(&list, width)?;
-            list.count = rng.pick(&[513, 514, 1024, 65_536]);
-            self.list(&list, width)?;
+            self.any_list(rng)?;
         }
         Ok(())
+    }
+
+    /// A random list, then with a count past the limit.
+    fn any_list(&mut self, rng: &mut Rng) -> Result<(), Difference> {
+        let (list, width) = gen::list(rng);
+        let mut list = SplitList::new(&list);
+        // What stands past the count is the caller's.
+        if rng.one_in(2) {
+            for place in &mut list.pieces[list.count..] {
+                *place = rng.below(65_536) as u16;
+            }
+        }
+        self.list(&list, width)?;
+        list.count = rng.pick(&[513, 514, 1024, 65_536]);
+        self.list(&list, width)
     }
 
     /// Every share of up to `most` among up to `most` children, the refusals included, then large ones; under each priority, and numbers over those that settings have.
@@ -1006,16 +1021,21 @@ impl<'a> Comparison<'a> {
             }
         }
         for _ in 0..most {
-            let n = rng.between(1, judge::NODES);
-            let spare = rng.between(0, 65_535);
-            let priority = rng.below(5) as u8;
-            let index = rng.below(n + 1);
-            self.share(spare, n, priority, index)?;
+            self.any_share(rng)?;
         }
         self.share(usize::MAX, usize::MAX, 2, usize::MAX - 1)?;
         self.share(usize::MAX, usize::MAX, 2, usize::MAX)?;
         self.share(usize::MAX, 1, 2, 0)?;
         self.share(usize::MAX, 2, 2, 0)
+    }
+
+    /// A random share, at times of a child past the last.
+    fn any_share(&mut self, rng: &mut Rng) -> Result<(), Difference> {
+        let n = rng.between(1, judge::NODES);
+        let spare = rng.between(0, 65_535);
+        let priority = rng.below(5) as u8;
+        let index = rng.below(n + 1);
+        self.share(spare, n, priority, index)
     }
 
     /// Every part, each with the seed anew.

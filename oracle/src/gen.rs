@@ -12,10 +12,12 @@ use crate::form::{
 use crate::judge;
 use crate::paper;
 
-/// A small seeded generator (splitmix64).
+/// A small seeded generator (splitmix64), or bytes that choose.
 #[derive(Debug, Clone)]
 pub struct Rng {
     state: u64,
+    /// Bytes that choose, the next one last; when they are used up the generator does.
+    bytes: Vec<u8>,
     /// Whether the settings made with it have lines.
     has_lines: bool,
 }
@@ -24,7 +26,16 @@ impl Rng {
     pub fn new(seed: u64) -> Rng {
         Rng {
             state: seed,
+            bytes: Vec::new(),
             has_lines: true,
+        }
+    }
+
+    /// Choices by these bytes, as a fuzzer makes them, and then by seed 0.
+    pub fn of(bytes: &[u8]) -> Rng {
+        Rng {
+            bytes: bytes.iter().rev().copied().collect(),
+            ..Rng::new(0)
         }
     }
 
@@ -45,7 +56,7 @@ impl Rng {
         }
     }
 
-    pub fn number(&mut self) -> u64 {
+    fn number(&mut self) -> u64 {
         self.state = self.state.wrapping_add(0x9E37_79B9_7F4A_7C15);
         let mut z = self.state;
         z = (z ^ (z >> 30)).wrapping_mul(0xBF58_476D_1CE4_E5B9);
@@ -53,9 +64,25 @@ impl Rng {
         z ^ (z >> 31)
     }
 
+    /// As many of the bytes as n choices need, as one number.
+    fn chosen(&mut self, n: usize) -> u64 {
+        let (mut number, mut choices) = (0, 1);
+        while choices < n as u64 {
+            let Some(byte) = self.bytes.pop() else { break };
+            number = number << 8 | u64::from(byte);
+            choices = choices.saturating_mul(256);
+        }
+        number
+    }
+
     /// 0 to n − 1.
     pub fn below(&mut self, n: usize) -> usize {
-        (self.number() % n as u64) as usize
+        let number = if self.bytes.is_empty() {
+            self.number()
+        } else {
+            self.chosen(n)
+        };
+        (number % n as u64) as usize
     }
 
     /// Both ends included.
@@ -72,7 +99,7 @@ impl Rng {
     }
 
     fn byte(&mut self) -> u8 {
-        self.number() as u8
+        self.below(256) as u8
     }
 }
 

@@ -70,8 +70,7 @@ impl Comparison<'_> {
             let tree = encode_tree(&tree);
             self.every_length(&tree, &[])?;
             for _ in 0..4 {
-                let nodes = alike::cells(rng, &tree);
-                self.blank(&tree, &nodes, gen::around(rng, tree.len()))?;
+                self.any_blank(rng, &tree)?;
             }
         }
         Ok(())
@@ -88,9 +87,14 @@ impl Comparison<'_> {
         }
         for _ in 0..rounds {
             let tree = alike::any_tree(rng);
-            let nodes = alike::cells(rng, &tree);
-            self.blank(&tree, &nodes, gen::around(rng, tree.len()))?;
+            self.any_blank(rng, &tree)?;
         }
         Ok(())
+    }
+
+    /// A tree of any kind, with random numbers and a random length.
+    pub(super) fn any_blank(&mut self, rng: &mut Rng, tree: &[u8]) -> Result<(), Difference> {
+        let nodes = alike::cells(rng, tree);
+        self.blank(tree, &nodes, gen::around(rng, tree.len()))
     }
 }

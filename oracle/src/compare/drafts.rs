@@ -168,17 +168,20 @@ impl Comparison<'_> {
             self.save(b"\x20\x00\x00", rng.pick(b"AB"), &tree)?;
         }
         for _ in 0..rounds {
-            let store = match rng.below(3) {
-                0 => stores::store(rng),
-                _ => stores::damaged_store(rng),
-            };
-            let name = stores::name(rng);
-            let tree = stores::tree_bytes(rng);
-            self.save(&store, name, &tree)?;
-            self.forget(&store, name)?;
-            let needed = drafting::returned(&store, name, usize::MAX).map_or(1, |tree| tree.len());
-            self.return_to(&store, name, gen::around(rng, needed))?;
+            let store = stores::any_store(rng);
+            self.any_store(rng, &store)?;
         }
+        Ok(())
+    }
+
+    /// A store of any kind, with a random name, tree and length.
+    pub(super) fn any_store(&mut self, rng: &mut Rng, store: &[u8]) -> Result<(), Difference> {
+        let name = stores::name(rng);
+        let tree = stores::tree_bytes(rng);
+        self.save(store, name, &tree)?;
+        self.forget(store, name)?;
+        let needed = drafting::returned(store, name, usize::MAX).map_or(1, |tree| tree.len());
+        self.return_to(store, name, gen::around(rng, needed))?;
         Ok(())
     }
 }

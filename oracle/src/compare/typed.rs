@@ -111,10 +111,16 @@ impl Comparison<'_> {
     pub fn any_typed(&mut self, rng: &mut Rng, rounds: usize) -> Result<(), Difference> {
         for _ in 0..rounds {
             let list = typed::any_list(rng);
-            let needed = needed(&list);
-            for _ in 0..2 {
-                self.typed(&list, gen::around(rng, needed))?;
-            }
+            self.any_room(rng, &list)?;
+        }
+        Ok(())
+    }
+
+    /// A list of any kind, with two random lengths.
+    pub(super) fn any_room(&mut self, rng: &mut Rng, list: &[u8]) -> Result<(), Difference> {
+        let needed = needed(list);
+        for _ in 0..2 {
+            self.typed(list, gen::around(rng, needed))?;
         }
         Ok(())
     }

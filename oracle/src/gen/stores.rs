@@ -149,6 +149,14 @@ pub fn damaged_store(rng: &mut Rng) -> Vec<u8> {
     store
 }
 
+/// A store of the form, or damaged.
+pub fn any_store(rng: &mut Rng) -> Vec<u8> {
+    match rng.below(3) {
+        0 => store(rng),
+        _ => damaged_store(rng),
+    }
+}
+
 /// A tree of exactly so many bytes: a Cell.
 fn tree_of(bytes: usize) -> Vec<u8> {
     encode_tree(&Tree::Cell(vec![b'w'; bytes - FRONT]))

@@ -1,0 +1,4 @@
+//! The proved library as a side of the oracle's comparison.
+
+mod lent;
+pub mod side;
