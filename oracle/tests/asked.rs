@@ -19,12 +19,11 @@ fn asked<'a>(list: impl IntoIterator<Item = &'a Vec<u8>>) -> Counts {
 
 /// A first byte, and up to 200 others.
 fn random(rng: &mut Rng) -> Vec<u8> {
-    let length = rng.below(200);
-    let rest = (0..length).map(|_| rng.below(256) as u8);
-    [rng.below(27) as u8]
-        .into_iter()
-        .chain(rest.collect::<Vec<u8>>())
-        .collect()
+    let mut bytes = vec![rng.below(27) as u8];
+    for _ in 0..rng.below(200) {
+        bytes.push(rng.below(256) as u8);
+    }
+    bytes
 }
 
 /// Every call accepts some of it and refuses some.
