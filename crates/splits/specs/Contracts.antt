@@ -1,10 +1,9 @@
 -- What the functions of this crate ask and give, beyond the definitions; no theorem speaks of it.
-use Prim.Native.Nat.{ℕ, _+_, _≤_, _<_, suc}
+use Prim.Native.Nat.{ℕ, _+_, _≤_, _<_}
 use mathlib.Core.Path.{_≡_}
-use mathlib.Core.List.{List, [], _∷_}
+use mathlib.Core.List.{List}
 use lib.ListN.{length, take, drop, getD}
 use Rattle.splits.specs.declared.SplitList.{SplitList}
-use Rattle.splits.specs.declared.Positions.{Positions}
 use Rattle.splits.specs.declared.cut.CutAt.{CutAt}
 use Rattle.splits.specs.declared.short.Listed.{Listed}
 use Rattle.splits.specs.Splits.{reach, shortSplits3, pairOf}
@@ -32,17 +31,3 @@ pub record CutsIn (w : ℕ) (r : CutAt) (s₀ s : List ℕ) : Type 0 where
 pub record Told (w : ℕ) (list : SplitList) (r : Listed) : Type 0 where
   pub stops : Stops 0 w (list .count) (list .pieces) (r .positions .count) (r .pos)
   pub listed : r .positions ≡ positionList (reach 0 w (listOf list) 0 .positions)
-
--- positions to which an index below 512 can be added
-pub record Small (p : Positions) : Type 0 where
-  pub few : p .count ≤ 512
-  pub each : (i : ℕ) → i < p .count → getD (p .entries) i 0 < 65536
-
--- the same for positions
-abbrev pub positionsOf : Positions → List ℕ
-positionsOf p = take (p .count) (p .entries)
-
--- each place is greater than the one before it, and none is less than b
-unfoldable pub Rises : ℕ → List ℕ → Type 0
-Rises b [] = Unit {0}
-Rises b (m ∷ ms) = (b ≤ m) × Rises (suc m) ms

@@ -121,20 +121,11 @@ fn answers(kind: u8, s: &[u8]) -> bool {
     same(got, wanted(s))
 }
 
-// Whether the place in field 2 is named where field 3 says so.
-fn named(s: &[u8]) -> bool {
-    let list = fields::list(s, 0);
-    let w = fields::number(s, 1) % 65536;
-    let place = fields::number(s, 2) % 4294967296;
-    splits::is_named(list, w as u16, place as u32) == fields::yes(s, 3)
-}
-
 // Whether the case in this line has the answer that the line says; a line of no kind has none.
 pub fn holds(kind: u8, s: &[u8]) -> bool {
     match kind {
         b'c' => answers(b'v', s) && answers(b'l', s),
         b'v' | b'l' | b's' | b'j' => answers(kind, s),
-        b'n' => named(s),
         _ => false,
     }
 }

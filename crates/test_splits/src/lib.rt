@@ -2,7 +2,6 @@
 //   c LIST, at W, took LIST, left LIST, yes or no, pair TAKEN REST     `short_splits3`, by value and in place
 //   v .., l ..                                      the same by value alone, in place alone, with `refused N` for yes or no
 //   s LIST, at W, positions LIST, left LIST         `short_splits`; after a refusal with `refused N`
-//   n LIST, at W, place P, yes or no                whether the squashed positions have the place
 //   j PIECE, and LIST, gives LIST                   pieces copied behind one in lent memory
 mod cases;
 mod fields;
@@ -17,7 +16,6 @@ fn name(kind: u8) {
         b'v' => tell::text(b"value "),
         b'l' => tell::text(b"lent "),
         b's' => tell::text(b"short "),
-        b'n' => tell::text(b"named "),
         b'j' => tell::text(b"join "),
         _ => tell::text(b"unknown kind of line: "),
     }
