@@ -1,17 +1,17 @@
 -- Words, numbers and places of faults, put one after the other. Assumes nothing.
 use mathlib.Core.Path.{_≡_, refl, sym, _∙_}
-use Prim.Native.Nat.{ℕ, zero, suc, _+_, _-_, _/_, _%_, _≤_, _<_}
+use Prim.Native.Nat.{ℕ, zero, suc, _+_, _-_, _/_, _%_, _≤_, _<_, min}
 use native.Mathlib.Omega.{arith}
 use mathlib.Core.Bool.{Bool, true, false}
 use mathlib.Core.List.{List, [], _∷_, _++_, append-assoc}
-use lib.ListN.{length, set, length-append}
+use lib.ListN.{length, take, drop, getD, set, length-append}
 use lib.Seq.{sets}
-use lib.Dec.{ltb}
+use lib.Dec.{eqb, ltb}
 use borrow.Author.Tests.{ne-eqb, lt-ltb, le-ltb}
 use Rattle.common.specs.Choice.{pick}
 use Rattle.sizes.proofs.Stores.{sets-append}
 use Rattle.block.specs.Paint.{Wrote}
-use Rattle.typed_program.specs.Words.{digits, decimal, faultWords, lineText, columnText, colonText, wordsLarge, placeText, faultText}
+use Rattle.typed_program.specs.Words.{digits, decimal, words30, words31, words32, words33, words34, words35, words36, words37, words38, words39, wordsLarge, faultWords, lineText, columnText, colonText, placeText, faultText}
 
 -- ---- digits
 
@@ -48,22 +48,57 @@ module _ (o : List ℕ) (at : ℕ) where
 
 -- ---- words
 
+-- f at 0 to n - 1
+unfoldable values : {A : Type 0} → (ℕ → A) → ℕ → List A
+values f zero = []
+values f (suc n) = f 0 ∷ values (λ i. f (suc i)) n
+
+same-values : {A : Type 0} (f g : ℕ → A) (n : ℕ) → values f n ≡ values g n → (i : ℕ) → i < n → f i ≡ g i
+unfolding values
+same-values f g zero e i h = absurd (omega arith)
+same-values f g (suc n) e zero h = cc
+same-values f g (suc n) e (suc i) h = same-values (λ i. f (suc i)) (λ i. g (suc i)) n (cc) i (omega arith)
+
+-- the words of the faults 30 to 39, one after the other
+abbrev table : List ℕ
+table = words30 ++ (words31 ++ (words32 ++ (words33 ++ (words34 ++ (words35 ++ (words36 ++ (words37 ++ (words38 ++ words39))))))))
+
+-- where each of them begins, and where the last ends
+abbrev start : ℕ → ℕ
+start i = getD (0 ∷ 31 ∷ 103 ∷ 152 ∷ 222 ∷ 275 ∷ 361 ∷ 375 ∷ 407 ∷ 474 ∷ 530 ∷ []) i 0
+
+-- the words of fault k are a part of the table, 100 bytes at the most
+pub record Row (k : ℕ) : Type 0 where
+  pub rises : start (k - 30) ≤ start (k - 30 + 1)
+  pub within : start (k - 30 + 1) ≤ 530
+  pub short : start (k - 30 + 1) ≤ start (k - 30) + 100
+  pub words : take (start (k - 30 + 1) - start (k - 30)) (drop (start (k - 30)) table) ≡ faultWords k
+
+-- all ten, computed
+row-at : (i : ℕ) → i < 10 → Row (30 + i)
+unfolding values faultWords
+row-at i h =
+    let f = same-values (λ i. min (start i) (start (i + 1))) (λ i. start i) 10 refl i h in
+    let g = same-values (λ i. min (start (i + 1)) (min 530 (start i + 100))) (λ i. start (i + 1)) 10 refl i h in
+    let w = same-values (λ i. take (start (i + 1) - start i) (drop (start i) table)) (λ i. faultWords (30 + i)) 10 refl i h in
+    let e : 30 + i - 30 ≡ i = omega arith in
+    record { rises = rw e (omega arith); within = rw e (omega arith); short = rw e (omega arith); words = rw e w }
+
+pub row : (k : ℕ) → 30 ≤ k → k ≤ 39 → Row k
+row k low high = let e : 30 + (k - 30) ≡ k = omega arith in rw e at (row-at (k - 30) (omega arith))
+
 -- the number is none of 30 to 39
-pub words-left : (k : ℕ) → ((((((((((Unit {0} × (k ≡ 30 → ⊥)) × (k ≡ 31 → ⊥)) × (k ≡ 32 → ⊥)) × (k ≡ 33 → ⊥)) × (k ≡ 34 → ⊥)) × (k ≡ 35 → ⊥)) × (k ≡ 36 → ⊥)) × (k ≡ 37 → ⊥)) × (k ≡ 38 → ⊥)) × (k ≡ 39 → ⊥)) → faultWords k ≡ wordsLarge
+words-left : (k : ℕ) → ((i : ℕ) → i < 10 → k ≡ 30 + i → ⊥) → faultWords k ≡ wordsLarge
 unfolding faultWords
-words-left k n =
-    rw (
-      ne-eqb k 30 (n .0 .0 .0 .0 .0 .0 .0 .0 .0 .1),
-      ne-eqb k 31 (n .0 .0 .0 .0 .0 .0 .0 .0 .1),
-      ne-eqb k 32 (n .0 .0 .0 .0 .0 .0 .0 .1),
-      ne-eqb k 33 (n .0 .0 .0 .0 .0 .0 .1),
-      ne-eqb k 34 (n .0 .0 .0 .0 .0 .1),
-      ne-eqb k 35 (n .0 .0 .0 .0 .1),
-      ne-eqb k 36 (n .0 .0 .0 .1),
-      ne-eqb k 37 (n .0 .0 .1),
-      ne-eqb k 38 (n .0 .1),
-      ne-eqb k 39 (n .1),
-    )
+words-left k other =
+    let f : (i : ℕ) → i < 10 → eqb k (30 + i) ≡ false = λ i h. ne-eqb k (30 + i) (other i h) in
+    rw (f 0 (omega arith), f 1 (omega arith), f 2 (omega arith), f 3 (omega arith), f 4 (omega arith), f 5 (omega arith), f 6 (omega arith), f 7 (omega arith), f 8 (omega arith), f 9 (omega arith))
+
+pub words-below : (k : ℕ) → k < 30 → faultWords k ≡ wordsLarge
+words-below k h = words-left k (λ i b e. omega arith)
+
+pub words-above : (k : ℕ) → 39 < k → faultWords k ≡ wordsLarge
+words-above k h = words-left k (λ i b e. omega arith)
 
 -- ---- one text after another
 

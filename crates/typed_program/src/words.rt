@@ -25,53 +25,32 @@ fn put_digits(n: usize, places: usize, out: &mut [u8], at: usize) -> usize
     end + 1
 }
 
+// The words of the faults 30 to 39, one after the other.
+const WORDS: [u8; 530] = *b"the list has over 131,072 bytes\
+    only letters, digits, signs and spaces may stand here: no tab, no accent\
+    after a backslash only n or a backslash may stand\
+    a level is two spaces, and this line begins with an odd number of them\
+    a second root: every line after the first is indented\
+    too deep: a line stands at most one level below a row or column, and none below a text\
+    over 16 levels\
+    over 512 rows, columns and texts\
+    the list is too long: with this line its tree has over 32,768 bytes\
+    the list is empty: no line has a row, a column or a text";
+
+// Where each of them begins, and where the last ends.
+const ENDS: [usize; 11] = [0, 31, 103, 152, 222, 275, 361, 375, 407, 474, 530];
+
 // The words of a fault from `at` on; the answer is where they end.
 fn put_words(number: u8, out: &mut [u8], at: usize) -> usize
     requires { ⌜ at + 100 ≤ length (now out) ⌝ }
     ensures { λ r. ⌜ Wrote r (at + length (faultWords number)) (now (out .exit)) (sets (now (out .entry)) at (faultWords number)) ⌝ }
     ensures few { λ r. ⌜ r ≤ at + 100 ⌝ }
 {
-    match number {
-        30 => copy(out, at, b"the list has over 131,072 bytes"),
-        31 => copy(
-            out,
-            at,
-            b"only letters, digits, signs and spaces may stand here: no tab, no accent",
-        ),
-        32 => copy(
-            out,
-            at,
-            b"after a backslash only n or a backslash may stand",
-        ),
-        33 => copy(
-            out,
-            at,
-            b"a level is two spaces, and this line begins with an odd number of them",
-        ),
-        34 => copy(
-            out,
-            at,
-            b"a second root: every line after the first is indented",
-        ),
-        35 => copy(
-            out,
-            at,
-            b"too deep: a line stands at most one level below a row or column, and none below a text",
-        ),
-        36 => copy(out, at, b"over 16 levels"),
-        37 => copy(out, at, b"over 512 rows, columns and texts"),
-        38 => copy(
-            out,
-            at,
-            b"the list is too long: with this line its tree has over 32,768 bytes",
-        ),
-        39 => copy(
-            out,
-            at,
-            b"the list is empty: no line has a row, a column or a text",
-        ),
-        _ => copy(out, at, b"the sheet has over 400 columns or over 160 lines"),
+    if number < 30 || 39 < number {
+        return copy(out, at, b"the sheet has over 400 columns or over 160 lines");
     }
+    let k = number as usize - 30;
+    copy(out, at, &WORDS[ENDS[k]..ENDS[k + 1]])
 }
 
 // Where the fault is, at the front; the answer is where this ends.
