@@ -12,12 +12,13 @@ use Rattle.tree.specs.declared.front.Front.{Front}
 use Rattle.tree.specs.Planning.{Plan, Plans, PlanIs, PlanAre}
 use Rattle.tree.proofs.PlanSound.{plan-whole}
 use Rattle.sizes.specs.declared.Size.{Size}
+use Rattle.sizes.specs.declared.natural.Span.{Span}
 use Rattle.sizes.specs.Text.{total, greatest}
 use Rattle.sizes.specs.Sizes.{along, beside, sized, sep, spanned, leafSize}
+use Rattle.sizes.specs.Contracts.{withChild, spanOf, WideChild, WideSpan}
 use Rattle.sizes.proofs.Fill.{along-sized, beside-sized}
-use Rattle.plan.specs.declared.ends.Span.{Span}
 use Rattle.plan.specs.Ends.{noPlans?, endSize, endSizes}
-use Rattle.plan.specs.Measuring.{Short, endOf, withChild, spanOf, ShortChild, ShortSpan, ReadyPlan, ReadyPlans}
+use Rattle.plan.specs.Measuring.{Short, endOf, ReadyPlan, ReadyPlans}
 use Rattle.plan.proofs.Fronts.{RangeIs, PlanGroupIs, inside-shorter, range-at, leaf-at, group-at}
 use Rattle.plan.proofs.Passing.{PassingPlans, begin, SomePlans, next-is, passed}
 
@@ -100,8 +101,8 @@ module _ (S : Settings) (m a : Bool) (s : List ℕ) (q : ReadyPlans S m a s) whe
       unfolding kid-ready
       size-is = k
 
-      pub child-asks : length s < 18446744073709551616 → ShortChild g a z
-      child-asks h = rw size-is (record { along = kid-short .0; few = omega (arith, kid-few) })
+      pub child-asks : length s < 18446744073709551616 → WideChild g a z
+      child-asks h = rw size-is (record { along = omega (arith, kid-short .0); few = omega (arith, kid-few) })
 
       pub next : SomePlans (Turn (at + (3 + lengthAt b)) (withChild g a z))
       unfolding endSizes total greatest
@@ -121,11 +122,12 @@ module _ (S : Settings) (m a : Bool) (s : List ℕ) (q : ReadyPlans S m a s) whe
     unfolding endSizes total greatest
     sums = (omega (arith, l .along-is), omega (arith, l .beside-is), omega (arith, l .children))
 
-    pub span-asks : ShortSpan S g
-    span-asks = record { some = omega (arith, sums .2, some-sizes S m all (q .some)); along = rw (sums .0, sums .2) (short .0) }
+    module _ (gap : ℕ) (gap-is : gap ≡ sep S) where
+      pub span-asks : WideSpan gap g
+      span-asks = record { some = omega (arith, sums .2, some-sizes S m all (q .some)); along = rw (gap-is, sums .0, sums .2) (omega (arith, short .0)) }
 
-    pub ends : (z : Size) → z ≡ spanOf S a g → z ≡ endSize S m (Plan.group A all)
-    ends z e = e ∙ rw (sums .0, sums .1, sums .2) (sym (group-size S m A all (q .some)))
+      pub ends : (z : Size) → z ≡ spanOf gap a g → z ≡ endSize S m (Plan.group A all)
+      ends z e = e ∙ rw (gap-is, sums .0, sums .1, sums .2) (sym (group-size S m A all (q .some)))
 
 -- ---- a plan by its front
 

@@ -1,6 +1,6 @@
 -- What the measuring of a planning tree's ends asks and gives.
 use mathlib.Core.Path.{_≡_}
-use Prim.Native.Nat.{ℕ, _+_, _-_, _*_, _≤_, _<_, max}
+use Prim.Native.Nat.{ℕ, _<_}
 use mathlib.Core.Bool.{Bool, false}
 use mathlib.Core.List.{List}
 use lib.ListN.{getD}
@@ -9,8 +9,6 @@ use Rattle.settings.specs.declared.Settings.{Settings}
 use Rattle.tree.specs.Bytes.{axisOf}
 use Rattle.tree.specs.Planning.{Plan, Plans, PlanIs, PlanAre}
 use Rattle.sizes.specs.declared.Size.{Size}
-use Rattle.sizes.specs.Sizes.{along, beside, sized, sep}
-use Rattle.plan.specs.declared.ends.Span.{Span}
 use Rattle.plan.specs.Ends.{noPlans?, rangeSize, endSize}
 
 -- a size of at most 18 bits: what document 01's limits leave of it
@@ -26,22 +24,6 @@ pub record Wide (z : Size) : Type 0 where
 -- the end of a range with these four bytes
 abbrev pub endOf : Settings → Bool → List ℕ → Size
 endOf s most r = rangeSize s (pick most (getD r 1 0) (getD r 0 0)) (pick most (getD r 3 0) (getD r 2 0))
-
--- the children with one more after them, and the size of a group of them
-abbrev pub withChild : Span → Bool → Size → Span
-withChild g a z = record { along = g .along + along (axisOf a) z; beside = max (g .beside) (beside (axisOf a) z); children = g .children + 1 }
-
-abbrev pub spanOf : Settings → Bool → Span → Size
-spanOf s a g = sized (axisOf a) (g .along + (g .children - 1) * sep s) (g .beside)
-
--- the sums fit
-pub record ShortChild (g : Span) (a : Bool) (z : Size) : Type 0 where
-  pub along : g .along + along (axisOf a) z < 262144
-  pub few : g .children + 1 < 18446744073709551616
-
-pub record ShortSpan (s : Settings) (g : Span) : Type 0 where
-  pub some : 1 ≤ g .children
-  pub along : g .along + (g .children - 1) * sep s < 262144
 
 -- the bytes begin with a plan whose size at that end is short
 pub record ReadyPlan (s : Settings) (most : Bool) (bytes : List ℕ) : Type 0 where

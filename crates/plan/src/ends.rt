@@ -1,10 +1,10 @@
 // The size of a planning tree at one end: every range at its least, or every range at its greatest.
 use settings::Settings;
 use sizes::Size;
-use sizes::axis::along;
-use sizes::axis::beside;
 use sizes::axis::separator;
-use sizes::axis::sized;
+use sizes::natural::Span;
+use sizes::natural::span_size;
+use sizes::natural::with_child;
 use sizes::text::text_size;
 ghost use mathlib.Core.Path.{_≡_};
 ghost use Prim.Native.Nat.{_+_, _<_};
@@ -13,18 +13,11 @@ ghost use Rattle.tree.specs.Planning.{Plan};
 ghost use Rattle.tree.specs.Bytes.{axisOf};
 ghost use Rattle.sizes.specs.Sizes.{leafSize};
 ghost use Rattle.plan.specs.Ends.{rangeSize, endSize, outer};
-ghost use Rattle.plan.specs.Measuring.{Short, Wide, endOf, withChild, spanOf, ShortChild, ShortSpan, ReadyPlan, ReadyPlans};
-
-// The children of a group that were met: the sum of their extents along it, the greatest beside it, and how many they are.
-pub struct Span {
-    pub along: usize,
-    pub beside: usize,
-    pub children: usize,
-}
+ghost use Rattle.plan.specs.Measuring.{Short, Wide, endOf, ReadyPlan, ReadyPlans};
 
 // A text of that width and line count, with the padding around it.
 fn padded(settings: Settings, width: usize, height: usize) -> Size
-    requires { ⌜ Short (rangeSize settings width height) ⌝ }
+    requires { ⌜ (width + settings .left + settings .right < 4294967296) × (height + settings .top + settings .bottom < 4294967296) ⌝ }
     ensures { λ r. ⌜ r ≡ rangeSize settings width height ⌝ }
 {
     Size {
@@ -49,28 +42,6 @@ fn range_end(settings: Settings, s: &[u8], most: bool) -> Size
     let w = common::wide(common::pick_byte(most, s[1], s[0]));
     let h = common::wide(common::pick_byte(most, s[3], s[2]));
     padded(settings, w, h)
-}
-
-// The children with one more after them.
-fn with_child(g: Span, across: bool, z: Size) -> Span
-    requires { ⌜ ShortChild g across z ⌝ }
-    ensures { λ r. ⌜ r ≡ withChild g across z ⌝ }
-{
-    let widest = common::greater(g.beside, beside(across, z));
-    Span {
-        along: g.along + along(across, z),
-        beside: widest,
-        children: g.children + 1,
-    }
-}
-
-// The size of a group of these children, with a line between neighbours.
-fn span_end(settings: Settings, across: bool, g: Span) -> Size
-    requires { ⌜ ShortSpan settings g ⌝ }
-    ensures { λ r. ⌜ r ≡ spanOf settings across g ⌝ }
-{
-    let lines = (g.children - 1) * separator(settings);
-    sized(across, g.along + lines, g.beside)
 }
 
 // What stands around a root of the size z is added: W and H.
@@ -125,7 +96,8 @@ fn end_group(s: &[u8], settings: Settings, most: bool, across: bool) -> Size
         g = with_child(g, across, z);
         at = at + used;
     }
-    span_end(settings, across, g)
+    let gap = separator(settings);
+    span_size(gap, across, g)
 }
 
 // W and H at that end of the plan whose bytes are `s`.

@@ -20,9 +20,10 @@ use Rattle.plan.proofs.ends.end_node.Reads as end-node
 use Rattle.plan.proofs.ends.end_node.Kinds as end-node-kinds
 use Rattle.plan.proofs.ends.+end_group+end_node.Lts-end_node as end-node-lts
 use Rattle.plan.proofs.ends.range_end.Reads as range-end-reads
-use Rattle.plan.proofs.ends.span_end.Reads as span-end-reads
 use Rattle.plan.proofs.ends.text_end.Reads as text-end-reads
-use Rattle.plan.proofs.ends.with_child.Reads as with-child-reads
+use Rattle.sizes.proofs.axis.separator.Reads as separator-reads
+use Rattle.sizes.proofs.natural.span_size.Reads as span-size-reads
+use Rattle.sizes.proofs.natural.with_child.Reads as with-child-reads
 use Rattle.tree.proofs.front.length_at.Reads as length-at-reads
 use Rattle.tree.proofs.front.read_front.Reads as read-front-reads
 use Rattle.plan.proofs.ends.+end_group+end_node.{statement}
@@ -55,7 +56,7 @@ abbrev μ : end-group-lts.MeasureT-loop
 
 -- the claims of the functions that each calls
 abbrev G : ℕ → end-group-lts.Claims
-G t = (length-at-reads.Asked, length-at-reads.Learnt, node-below t, end-node.Post, with-child-reads.Asked, with-child-reads.Learnt, span-end-reads.Asked, span-end-reads.Learnt)
+G t = (length-at-reads.Asked, length-at-reads.Learnt, node-below t, end-node.Post, with-child-reads.Asked, with-child-reads.Learnt, separator-reads.Asked, separator-reads.Learnt, span-size-reads.Asked, span-size-reads.Learnt)
 
 abbrev N : ℕ → end-node-lts.Claims
 N t = (read-front-reads.Asked, read-front-reads.Learnt, range-end-reads.Asked, range-end-reads.Learnt, text-end-reads.Asked, text-end-reads.Learnt, group-below t, end-group.Post)
@@ -117,18 +118,18 @@ group-loop-again t c =
     let k = c .before .before .before .before in
     λ q. rw (c .before .before .length-at .ensures .0, c .with-child .ensures) (next _ _ _ _ q _ _ _ _ (turn-at t k q .holds) _ (part-to-end (entry t k .args .s .now) (k .before .loop .at)) _ (c .before .end-node .ensures (kid-at t k q)))
 
-group-span-end-requires : (t : ℕ) → end-group-lts.Need-span-end-requires (G t) (group-at t) end-group.Post Inv μ
-group-span-end-requires t c κs =
-    let u = c .before .before .before in
-    let m = c .before .loop in
+group-span-size-requires : (t : ℕ) → end-group-lts.Need-span-size-requires (G t) (group-at t) end-group.Post Inv μ
+group-span-size-requires t c κs =
+    let u = c .before .before .before .before in
+    let m = c .before .before .loop in
     let q = u .pre .1 in
-    span-asks _ _ _ _ q (m .at) (m .g) (over (u .args .s .now) (m .at) _ (λ rest l. l .passing) (m .inv q) (c .loop-test .left))
+    span-asks _ _ _ _ q (m .at) (m .g) (over (u .args .s .now) (m .at) _ (λ rest l. l .passing) (m .inv q) (c .before .loop-test .left)) _ (c .separator .ensures .0)
 
 group-returns : (t : ℕ) → end-group-lts.Need-returns (G t) (group-at t) end-group.Post Inv μ
 group-returns t c = λ q.
-    let u = c .before .before .before .before in
-    let m = c .before .before .loop in
-    ends _ _ _ _ q (m .at) (m .g) (over (u .args .s .now) (m .at) _ (λ rest l. l .passing) (m .inv q) (c .before .loop-test .left)) _ (c .span-end .ensures)
+    let u = c .before .before .before .before .before in
+    let m = c .before .before .before .loop in
+    ends _ _ _ _ q (m .at) (m .g) (over (u .args .s .now) (m .at) _ (λ rest l. l .passing) (m .inv q) (c .before .before .loop-test .left)) _ (c .before .separator .ensures .0) _ (c .span-size .ensures)
 
 -- ---- the node
 
@@ -184,7 +185,8 @@ pub +end-group+end-node-spec : {M : Type 1} → statement M
     (group-add-at t)
     (group-loop-less t)
     (group-loop-again t)
-    (group-span-end-requires t)
+    (λ c κs. search needs)
+    (group-span-size-requires t)
     (group-returns t))
     (λ t. end-node-lts.spec (N t) (node-at t) end-node.Post
     (node-read-front-requires t)
