@@ -6,8 +6,7 @@ use native.Mathlib.Omega.{arith}
 use native.Mathlib.Nat.{add-sub-cancel-left}
 use mathlib.Core.Bool.{Bool, true, false}
 use mathlib.Core.Logic.{_⊎_, inl, inr}
-use lib.ListN.{length, getD, take, drop, length-drop}
-use lib.Seq.{length-take-le}
+use lib.ListN.{length, getD, take, drop}
 use lib.Dec.{eqb}
 use borrow.Author.Tests.{eqb-true, eqb-false}
 use Rattle.settings.specs.declared.Settings.{Settings}
@@ -15,14 +14,11 @@ use Rattle.tree.specs.declared.front.Front.{Front}
 use Rattle.tree.specs.Tree.{Axis, across}
 use Rattle.tree.specs.Bytes.{lengthAt, contents, axisOf, frontOf}
 use Rattle.tree.specs.Planning.{Plan, Plans, PlanIs, PlanAre}
-use Rattle.tree.proofs.Fronts.{no-contents, tag-low, tag-high, axis-of, front-leaf, front-group, front-end}
+use Rattle.tree.proofs.Fronts.{contents-length, no-contents, tag-low, tag-high, axis-of, front-leaf, front-group, front-end}
 use Rattle.tree.proofs.PlanSound.{plan-whole}
 use Rattle.sizes.specs.Sizes.{leafSize}
 use Rattle.plan.specs.Ends.{noPlans?, endSize}
 use Rattle.plan.specs.Measuring.{endOf}
-
-contents-long : (p : Plan) (s : List ℕ) → PlanIs p s → length (contents s) ≡ lengthAt s
-contents-long p s k = length-take-le (lengthAt s) (drop 3 s) (rw length-drop (omega (arith, plan-whole p s k)))
 
 -- ---- a range
 
@@ -71,7 +67,7 @@ plan-group-is (Plan.group x ps) s k n h z = record {
   plans = ps;
   is = ap (λ (b : Axis). Plan.group b ps) (axis-of x (getD s 0 0) (k .1));
   are = k .2;
-  some = some-plans ps (contents s) (k .2) (λ e. eqb-false (lengthAt s) 0 z (sym (length-take-le (lengthAt s) (drop 3 s) (rw length-drop (omega (arith, k .0)))) ∙ e));
+  some = some-plans ps (contents s) (k .2) (λ e. eqb-false (lengthAt s) 0 z (sym (contents-length s (k .0)) ∙ e));
 }
 
 -- ---- as the code has them: the front, and the part with the contents
@@ -94,7 +90,7 @@ module _ (p : Plan) (s : List ℕ) (k : PlanIs p s) where
     inside-is = rw (end-is, add-sub-cancel-left 3 (lengthAt s))
 
     pub inside-shorter : length inside + 1 < length s
-    inside-shorter = rw (inside-is, contents-long p s k) (omega (arith, plan-whole p s k))
+    inside-shorter = rw (inside-is, contents-length s (plan-whole p s k)) (omega (arith, plan-whole p s k))
 
     pub range-at : (S : Settings) (most : Bool) → getD s 0 0 ≡ 4 → RangeIs S most p inside
     range-at S most h = rw inside-is (range-is S most p s k h)

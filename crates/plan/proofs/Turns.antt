@@ -24,12 +24,12 @@ use Rattle.plan.proofs.Passing.{PassingPlans, begin, SomePlans, next-is
 
 -- ---- short sizes by their axis
 
-short-sides : (a : Axis) (z : Size) → along a z < 262144 → beside a z < 262144 → Short z
+short-sides : (a : Axis) (z : Size) → along a z < 2097152 → beside a z < 2097152 → Short z
 unfolding along beside
 short-sides across z h k = record { wide = h; tall = k }
 short-sides down z h k = record { wide = k; tall = h }
 
-sides-short : (a : Axis) (z : Size) → Short z → (along a z < 262144) × (beside a z < 262144)
+sides-short : (a : Axis) (z : Size) → Short z → (along a z < 2097152) × (beside a z < 2097152)
 unfolding along beside
 sides-short across z k = (k .wide, k .tall)
 sides-short down z k = (k .tall, k .wide)
@@ -74,14 +74,14 @@ module _ (S : Settings) (m a : Bool) (s : List ℕ) (q : ReadyPlans S m a s) whe
     holds = rw e (record { passing = begin s all (q .are); along-is = omega arith; beside-is = omega arith; children = omega arith });
   }
 
-  short : (total (map (along A) (endSizes S m all)) + (length (endSizes S m all) - 1) * sep S < 262144) × (greatest (map (beside A) (endSizes S m all)) < 262144)
+  short : (total (map (along A) (endSizes S m all)) + (length (endSizes S m all) - 1) * sep S < 2097152) × (greatest (map (beside A) (endSizes S m all)) < 2097152)
   short =
       let k = sides-short A (endSize S m (Plan.group A all)) (q .short) in
       let e = group-size S m A all (q .some) in
       (omega (arith, k .0, ap (along A) e ∙ along-sized A _ _), omega (arith, k .1, ap (beside A) e ∙ beside-sized A _ _))
 
   module _ (at : ℕ) (g : Span) (p : Plan) (ps : Plans) (l : Turn at g (Plans.more p ps)) (b : List ℕ) (be : b ≡ drop at s) where
-    kid-short : (g .along + along A (endSize S m p) < 262144) × (beside A (endSize S m p) < 262144)
+    kid-short : (g .along + along A (endSize S m p) < 2097152) × (beside A (endSize S m p) < 2097152)
     unfolding endSizes total greatest
     kid-short = (omega (arith, l .along-is, short .0), omega (arith, l .beside-is, short .1))
 

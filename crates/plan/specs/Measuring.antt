@@ -11,10 +11,10 @@ use Rattle.tree.specs.Planning.{Plan, Plans, PlanIs, PlanAre}
 use Rattle.sizes.specs.declared.Size.{Size}
 use Rattle.plan.specs.Ends.{noPlans?, rangeSize, endSize}
 
--- a size of at most 18 bits: what document 01's limits leave of it
+-- a size of at most 21 bits: 42 for each byte of a planning tree
 pub record Short (z : Size) : Type 0 where
-  pub wide : z .width < 262144
-  pub tall : z .height < 262144
+  pub wide : z .width < 2097152
+  pub tall : z .height < 2097152
 
 -- and with what stands around the root: it has 32 bits
 pub record Wide (z : Size) : Type 0 where
