@@ -4,7 +4,7 @@ use Prim.Native.Nat.{ℕ, zero, suc, _+_, _*_, _≤_, _<_}
 use native.Mathlib.Omega.{arith}
 use mathlib.Core.Bool.{Bool, true, false}
 use mathlib.Core.List.{List, [], _∷_, map}
-use lib.ListN.{length, getD, take, drop, length-take, length-drop}
+use lib.ListN.{length, getD, take, drop, length-drop}
 use lib.Seq.{getD-drop}
 use Rattle.common.specs.Choice.{pick}
 use Rattle.settings.specs.declared.Settings.{Settings}
@@ -16,7 +16,7 @@ use Rattle.tree.proofs.PlanSound.{plan-whole}
 use Rattle.sizes.specs.Text.{total}
 use Rattle.sizes.specs.Sizes.{along, sep}
 use Rattle.sizes.proofs.Bounds.{each, leaf-le, sep-le, span-le}
-use Rattle.sizes.proofs.Limits.{each-small}
+use Rattle.sizes.proofs.Limits.{contents-le, each-small}
 use Rattle.plan.specs.Ends.{noPlans?, rangeSize, endSize, endSizes}
 use Rattle.plan.specs.Measuring.{Short}
 
@@ -36,9 +36,6 @@ drop-low n s h i = rw (getD-drop n s i 0) (h (n + i))
 
 contents-low : (s : List ℕ) → LowBytes s → LowBytes (contents s)
 contents-low s h = take-low (lengthAt s) (drop 3 s) (drop-low 3 s h)
-
-contents-le : (b : List ℕ) → length (contents b) ≤ lengthAt b
-contents-le b = rw length-take (omega arith)
 
 -- ---- sizes
 
