@@ -67,31 +67,9 @@ text-allowed w h = letters-text w (h - 1)
 
 -- ---- the choice at an end
 
-unfoldable mutual
-  pub chosen : Bool → Plan → Tree
-  chosen most (Plan.cell t) = tree.cell t
-  chosen most (Plan.range a b c d) = tree.cell (textOf (pick most b a) (pick most d c))
-  chosen most (Plan.group x ps) = tree.group x (chosen* most ps)
-
-  pub chosen* : Bool → Plans → Trees
-  chosen* most Plans.none = tree.none
-  chosen* most (Plans.more p ps) = tree.more (chosen most p) (chosen* most ps)
-
 within-case : (most : Bool) (a b c d : ℕ) → GoodRange a b c d → WithinRange a b c d (textOf (pick most b a) (pick most d c))
 within-case true a b c d g = record { least-width = omega (arith, text-width b d, g .widths); greatest-width = omega (arith, text-width b d); least-lines = omega (arith, text-height b d (omega (arith, g .some, g .lines)), g .lines); greatest-lines = omega (arith, text-height b d (omega (arith, g .some, g .lines))) }
 within-case false a b c d g = record { least-width = omega (arith, text-width a c); greatest-width = omega (arith, text-width a c, g .widths); least-lines = omega (arith, text-height a c (g .some)); greatest-lines = omega (arith, text-height a c (g .some), g .lines) }
-
-mutual
-  unfolding chosen Chooses Allowed
-
-  pub chosen-chooses : (most : Bool) (p : Plan) → Allowed true p → Chooses p (chosen most p)
-  chosen-chooses most (Plan.cell t) k = refl
-  chosen-chooses most (Plan.range a b c d) k = within-case most a b c d (k .1)
-  chosen-chooses most (Plan.group x ps) k = (refl, chosen*-chooses most ps k)
-
-  chosen*-chooses : (most : Bool) (ps : Plans) → Allowed* true ps → Chooses* ps (chosen* most ps)
-  chosen*-chooses most Plans.none k = tt
-  chosen*-chooses most (Plans.more p ps) k = (chosen-chooses most p (k .0), chosen*-chooses most ps (k .1))
 
 lines-low : (most : Bool) (a b c d : ℕ) → GoodRange a b c d → 1 ≤ pick most d c
 lines-low true a b c d g = omega (arith, g .some, g .lines)
@@ -101,37 +79,6 @@ range-size : (s : Settings) (w h : ℕ) → 1 ≤ h → leafSize s (textOf w h) 
 unfolding leafSize rangeSize
 range-size s w h k = rw (text-width w h, text-height w h k)
 
-group-size : (s : Settings) (most : Bool) (ps : Plans) → tree.empty? (chosen* most ps) ≡ noPlans? ps
-unfolding chosen noPlans? tree.empty?
-group-size s most Plans.none = refl
-group-size s most (Plans.more p ps) = refl
-
-mutual
-  unfolding chosen endSize natural Allowed
-
-  chosen-size : (s : Settings) (most : Bool) (p : Plan) → Allowed true p → natural s (chosen most p) ≡ endSize s most p
-  chosen-size s most (Plan.cell t) k = refl
-  chosen-size s most (Plan.range a b c d) k = range-size s (pick most b a) (pick most d c) (lines-low most a b c d (k .1))
-  chosen-size s most (Plan.group x ps) k = rw (group-size s most ps, chosen*-size s most ps k)
-
-  chosen*-size : (s : Settings) (most : Bool) (ps : Plans) → Allowed* true ps → naturals s (chosen* most ps) ≡ endSizes s most ps
-  chosen*-size s most Plans.none k = refl
-  chosen*-size s most (Plans.more p ps) k = rw (chosen-size s most p (k .0), chosen*-size s most ps (k .1))
-
--- ---- the theorem
-
-mutual
-  unfolding chosen Allowed Texts
-
-  chosen-texts : (most : Bool) (p : Plan) → Allowed true p → Texts (chosen most p)
-  chosen-texts most (Plan.cell t) k = k
-  chosen-texts most (Plan.range a b c d) k = text-allowed (pick most b a) (pick most d c)
-  chosen-texts most (Plan.group x ps) k = chosen*-texts most ps k
-
-  chosen*-texts : (most : Bool) (ps : Plans) → Allowed* true ps → Texts* (chosen* most ps)
-  chosen*-texts most Plans.none k = tt
-  chosen*-texts most (Plans.more p ps) k = (chosen-texts most p (k .0), chosen*-texts most ps (k .1))
-
 -- a choice of allowed texts whose size is that end, in both directions
 pub record EndReached (s : Settings) (most : Bool) (p : Plan) : Type 0 where
   pub tree : Tree
@@ -139,5 +86,29 @@ pub record EndReached (s : Settings) (most : Bool) (p : Plan) : Type 0 where
   pub texts : Texts tree
   pub size : natural s tree ≡ endSize s most p
 
-pub plan-reached : (s : Settings) (most : Bool) (p : Plan) → Allowed true p → EndReached s most p
-plan-reached s most p k = record { tree = chosen most p; chooses = chosen-chooses most p k; texts = chosen-texts most p k; size = chosen-size s most p k }
+record EndsReached (s : Settings) (most : Bool) (ps : Plans) : Type 0 where
+  trees : Trees
+  chooses : Chooses* ps trees
+  texts : Texts* trees
+  sizes : naturals s trees ≡ endSizes s most ps
+  empty : tree.empty? trees ≡ noPlans? ps
+
+mutual
+  unfolding Chooses Texts Allowed natural endSize noPlans? tree.empty?
+
+  pub plan-reached : (s : Settings) (most : Bool) (p : Plan) → Allowed true p → EndReached s most p
+  plan-reached s most (Plan.cell t) k = record { tree = tree.cell t; chooses = refl; texts = k; size = refl }
+  plan-reached s most (Plan.range a b c d) k =
+      let w = pick most b a in
+      let h = pick most d c in
+      record { tree = tree.cell (textOf w h); chooses = within-case most a b c d (k .1); texts = text-allowed w h; size = range-size s w h (lines-low most a b c d (k .1)) }
+  plan-reached s most (Plan.group x ps) k =
+      let r = ends-reached s most ps k in
+      record { tree = tree.group x (r .trees); chooses = (refl, r .chooses); texts = r .texts; size = rw (r .empty, r .sizes) }
+
+  ends-reached : (s : Settings) (most : Bool) (ps : Plans) → Allowed* true ps → EndsReached s most ps
+  ends-reached s most Plans.none k = record { trees = tree.none; chooses = tt; texts = tt; sizes = refl; empty = refl }
+  ends-reached s most (Plans.more p ps) k =
+      let r = plan-reached s most p (k .0) in
+      let q = ends-reached s most ps (k .1) in
+      record { trees = tree.more (r .tree) (q .trees); chooses = (r .chooses, q .chooses); texts = (r .texts, q .texts); sizes = rw (r .size, q .sizes); empty = refl }
