@@ -13,10 +13,10 @@ use Rattle.sizes.specs.Listed.{allottedAt}
 use Rattle.block.specs.declared.Flags.{Flags}
 use Rattle.block.specs.Content.{feeds}
 use Rattle.block.specs.Block.{block, tall, wide}
-use Rattle.block.specs.Paint.{Room}
+use Rattle.paint.specs.Paint.{Room}
 use Rattle.block.proofs.Every.{Dims}
 use Rattle.block.proofs.Dims.{block-dims}
-use Rattle.block.proofs.Feeds.{fed-pasted}
+use Rattle.paint.proofs.Feeds.{fed-pasted}
 use Rattle.layout.specs.Walk.{Placed, leafOf}
 use Rattle.layout.specs.Contracts.{flagsAt}
 use Rattle.entries.specs.declared.entry.Entry.{Entry}

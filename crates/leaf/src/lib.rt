@@ -176,7 +176,7 @@ fn print_block(tree: &[u8], list: &[u16], leaf: &mut [u16], s: Settings, out: &m
     if out.len() < n {
         return frame::refused(8);
     }
-    block::bytes::fill(out, 0, n, 10);
+    paint::bytes::fill(out, 0, n, 10);
     leaf[BASE] = 0;
     paint_leaves(tree, list, &leaf[..end], s, stride, out);
     Written {

@@ -8,7 +8,7 @@ use lib.Seq.{getD-append-add}
 use Rattle.sizes.proofs.Either.{either}
 use Rattle.block.specs.Content.{paired, feeds}
 use Rattle.block.proofs.Every.{Dims, dims-paired, every-at, byteAt, byte-left, byte-right, byte-above, byte-below}
-use Rattle.block.proofs.Feeds.{feeds-at}
+use Rattle.paint.proofs.Feeds.{feeds-at}
 
 -- ---- one line
 

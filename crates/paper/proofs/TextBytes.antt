@@ -15,7 +15,7 @@ use Rattle.sizes.specs.Contracts.{Fits}
 use Rattle.block.specs.Block.{Leaf, before, indent, textLine, body, topLine, middle, block, tall, wide}
 use Rattle.block.proofs.Every.{every-at, every-elem, byteAt, byte-left, byte-right}
 use Rattle.block.proofs.TextLine.{before-le, mode-le, lines-width, lines-height}
-use Rattle.block.proofs.Feeds.{feeds-at}
+use Rattle.paint.proofs.Feeds.{feeds-at}
 use Rattle.block.proofs.Dims.{body-dims, left-dims, middle-dims, block-dims}
 use Rattle.layout.specs.Walk.{leafOf, leaves}
 use Rattle.layout.proofs.Laid.{tallAt, wideAt}

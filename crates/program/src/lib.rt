@@ -1,11 +1,11 @@
 // The sheet program without its reading and writing: what it prints of what it was given (document 01, figure F1).
-use block::bytes::copy;
+use paint::bytes::copy;
 ghost use mathlib.Core.Path.{_≡_};
 ghost use Prim.Native.Nat.{ℕ, _≤_, _<_};
 ghost use mathlib.Core.List.{List};
 ghost use lib.ListN.{length, take, drop};
 ghost use lib.Seq.{sets};
-ghost use Rattle.block.specs.Paint.{Wrote};
+ghost use Rattle.paint.specs.Paint.{Wrote};
 ghost use Rattle.program.specs.Program.{refusedText, programOf};
 
 // The largest sheet, 160 lines of 400 columns, each with its 0A.

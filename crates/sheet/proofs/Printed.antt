@@ -2,7 +2,7 @@
 use mathlib.Core.Path.{_≡_, refl, sym, _∙_}
 use Prim.Native.Nat.{ℕ, suc, _+_, _-_, _*_, _≤_}
 use native.Mathlib.Omega.{arith}
-use native.Mathlib.Nat.{mul-le-mul}
+use native.Mathlib.Nat.{mul-le-mul, mul-le-mul-right}
 use mathlib.Core.Bool.{false}
 use mathlib.Core.List.{List, [], _∷_, _++_}
 use lib.ListN.{length, take, drop, replicate, length-replicate}
@@ -16,7 +16,7 @@ use Rattle.sizes.specs.declared.Measured.{Measured}
 use Rattle.sizes.specs.Input.{inputOf}
 use Rattle.sizes.specs.declared.Size.{Size}
 use Rattle.sizes.specs.Contracts.{measuredOf, naturalAt}
-use Rattle.block.specs.Paint.{Room, pasted}
+use Rattle.paint.specs.Paint.{Room, pasted}
 use Rattle.common.specs.Every.{Every}
 use Rattle.block.proofs.Every.{every-map, every-and}
 use Rattle.frame.specs.declared.Frame.{Frame}
@@ -27,9 +27,9 @@ use Rattle.frame.specs.Printer.{Prints, noPrint}
 use Rattle.frame.proofs.Printers.{Answers}
 use Rattle.frame.proofs.Sheets.{sheetFrame, large-no}
 use Rattle.entries.specs.Contracts.{Listing, Asks, PaintsAll, paintAll}
-use Rattle.layout.proofs.Laid.{root-laid}
+use Rattle.layout.proofs.Laid.{tallAt, wideAt, root-laid}
 use Rattle.layout.proofs.Fit.{LeafFits, leaves-fit}
-use Rattle.layout.proofs.Inside.{Inside, laid-inside, room-inside}
+use Rattle.layout.proofs.Inside.{Inside, laid-inside}
 use Rattle.sizes.proofs.Heights.{natural-height}
 use Rattle.sizes.proofs.Given.{refuses}
 use Rattle.leaf.proofs.Calls.{Taken, call-takes, call-large, call-frame, call-stride, Fitting}
@@ -48,6 +48,13 @@ paint-painted s stride o [] = refl
 paint-painted s stride o (l ∷ ls) = paint-painted s stride _ ls
 
 -- ---- each block lies in the sheet's bytes
+
+-- where a rectangle has room, each block inside it has
+room-inside : {s : Settings} {l k h w : ℕ} {f : Placed} (stride len : ℕ) → Inside s l k h w f → Room (l * stride + k) stride h w len
+    → Room (f .at .line * stride + f .at .column) stride (tallAt s (f .at)) (wideAt s (f .at)) len
+room-inside {s} {l} {k} {h} {w} {f} stride len i r =
+    let m = mul-le-mul-right stride (i .below) in
+    record { fits = omega (arith, r .fits, i .right); small = omega (arith, r .small, i .right) }
 
 wide-within : (s : Settings) (t : Tree) → s .margin .left + insideW s t + s .margin .right ≤ W s t + 1
 unfolding W

@@ -1,13 +1,13 @@
 // The sheet printer: one walk that pastes every leaf's block at its start.
-use block::bytes::rows;
 use frame::Frame;
 use frame::Written;
+use paint::bytes::rows;
 use settings::Margin;
 use sizes::axis::separator;
 use sizes::lists::natural_at;
 ghost use mathlib.Core.Path.{_≡_};
 ghost use lib.ListN.{length};
-ghost use Rattle.block.specs.Paint.{Wrote};
+ghost use Rattle.paint.specs.Paint.{Wrote};
 ghost use Rattle.sizes.specs.Input.{inputOf};
 ghost use Rattle.sheet.specs.Answers.{sheetOf};
 ghost use Rattle.sheet.specs.Contracts.{refusalOf, Framed, insideAt, beforeOf, afterOf};
@@ -74,7 +74,7 @@ pub fn print_sheet(settings: &[u8], tree: &[u8], out: &mut [u8]) -> Written
     if number != 0 {
         return frame::refused(number);
     }
-    block::bytes::fill(out, 0, f.bytes, 10);
+    paint::bytes::fill(out, 0, f.bytes, 10);
     let margin = s.margin;
     let base = margin_before(out, margin, f);
     let mut leaves = [0u16; 5120];

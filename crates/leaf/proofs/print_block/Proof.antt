@@ -11,7 +11,7 @@ use Rattle.leaf.proofs.print_block.Statement.{statement}
 use Rattle.leaf.proofs.print_block.Tie as tie
 use Rattle.block.proofs.block_tall.Reads as block-tall-reads
 use Rattle.block.proofs.block_wide.Reads as block-wide-reads
-use Rattle.block.proofs.bytes.fill.Reads as fill-reads
+use Rattle.paint.proofs.bytes.fill.Reads as fill-reads
 use Rattle.common.proofs.less_one.Reads as less-one-reads
 use Rattle.entries.proofs.entry.entry_at.Reads as entry-at-reads
 use Rattle.entries.proofs.paint_leaves.Reads as paint-leaves-reads

@@ -1,0 +1,12 @@
+-- What the proofs of several functions, and the layers above, use.
+pub mod Pasted
+pub mod Feeds
+pub mod Cases
+pub mod Places
+pub mod Room
+pub mod Left
+pub mod Crossed
+pub mod Planned
+pub mod Ground
+pub mod Corners
+pub mod Painted

@@ -1,0 +1,46 @@
+-- Room for lines: of one line, of the lines after it, of some of the columns. Assumes nothing.
+use mathlib.Core.Path.{_≡_}
+use Prim.Native.Nat.{ℕ, suc, _+_, _-_, _*_, _≤_, _<_}
+use native.Mathlib.Omega.{arith}
+use Rattle.paint.specs.Paint.{Room}
+
+-- ---- the first line, and the lines after it
+
+module _ {at stride n w len : ℕ} (r : Room at stride (suc n) w len) where
+  pub room-head : at + w ≤ len
+  room-head = omega (arith, r .fits)
+
+  pub room-next : at + stride < 18446744073709551616
+  room-next = omega (arith, r .small)
+
+  pub room-tail : Room (at + stride) stride n w len
+  room-tail = record { fits = omega (arith, r .fits); small = omega (arith, r .small) }
+
+-- ---- the first a lines, and the m lines after them
+
+module _ {at stride w len : ℕ} (a m : ℕ) (r : Room at stride (a + m) w len) where
+  pub room-first : Room at stride a w len
+  room-first = record { fits = omega (arith, r .fits); small = omega (arith, r .small) }
+
+  pub room-then : {p len′ : ℕ} → p ≡ at + a * stride → len′ ≡ len → Room p stride m w len′
+  room-then e l = record { fits = omega (arith, r .fits); small = omega (arith, r .small) }
+
+-- ---- v columns from column x on
+
+pub room-in : {at stride n w len : ℕ} → Room at stride n w len → (p v x : ℕ) → p ≡ at + x → x + v ≤ w → {len′ : ℕ} → len′ ≡ len → Room p stride n v len′
+room-in r p v x e h l = record { fits = omega (arith, r .fits); small = omega (arith, r .small) }
+
+-- ---- line k of n
+
+module _ {at stride n w len : ℕ} (k : ℕ) (h : k < n) (r : Room at stride n w len) where
+  below : k * stride + stride ≤ n * stride
+  below = let e : n ≡ suc k + (n - suc k) = omega arith in rw e (omega arith)
+
+  pub room-at : at + k * stride + w ≤ len
+  room-at = omega (arith, below, r .fits)
+
+  pub room-mul : k * stride < 18446744073709551616
+  room-mul = omega (arith, below, r .small)
+
+  pub room-add : at + k * stride < 18446744073709551616
+  room-add = omega (arith, below, r .small)

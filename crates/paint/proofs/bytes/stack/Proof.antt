@@ -1,0 +1,68 @@
+use Prim.Native.Nat.{_+_, _-_, _*_, _≤_}
+use native.Mathlib.Nat.{sub-zero}
+use native.Mathlib.Omega.{arith}
+use mathlib.Core.List.{[], _∷_}
+use lib.ListN.{length, replicate, length-replicate}
+use borrow.Author.Needs.{needs}
+use Rattle.paint.specs.Paint.{pasted}
+use Rattle.paint.proofs.Left.{Left, left-start, left-step, left-done, left-room, left-next, rows-more, rows-none}
+use Rattle.paint.proofs.bytes.stack.Statement.{statement}
+use Rattle.paint.proofs.bytes.stack.Tie as tie
+
+-- the lines still to come make the whole
+abbrev Inv-loop : tie.InvT-loop
+Inv-loop out₀ at stride n byte p₀ i₀ out p i = (i ≤ n) × Left (pasted out₀ at stride (replicate n (byte ∷ []))) (length out₀) (at + n * stride) out p stride 1 (replicate (n - i) (byte ∷ []))
+
+abbrev μ-loop : tie.MeasureT-loop
+μ-loop out₀ at stride n byte p₀ i₀ out p i = n - i
+
+loop-holds : tie.Need-loop-holds Inv-loop μ-loop
+loop-holds c = (omega arith, rw sub-zero (left-start _ _ _ _ _ _ (length-replicate _ _) (c .pre)))
+
+slice-write-out : tie.Need-slice-write-out Inv-loop μ-loop
+slice-write-out c =
+    let a = c .before .before .args in
+    let k = c .before .loop in
+    omega (arith, left-room (rows-more (a .byte ∷ []) (a .n) (k .i) (omega arith) (k .inv .1)))
+
+add-p : tie.Need-add-p Inv-loop μ-loop
+add-p c =
+    let a = c .before .before .args in
+    let k = c .before .loop in
+    omega (arith, left-next (rows-more (a .byte ∷ []) (a .n) (k .i) (omega arith) (k .inv .1)))
+
+add-i : tie.Need-add-i Inv-loop μ-loop
+add-i c = search needs
+
+loop-less : tie.Need-loop-less Inv-loop μ-loop
+loop-less c = search needs
+
+loop-again : tie.Need-loop-again Inv-loop μ-loop
+loop-again c =
+    let a = c .before .before .args in
+    let k = c .before .loop in
+    (omega arith, left-step _ _ (rows-more (a .byte ∷ []) (a .n) (k .i) (omega arith) (k .inv .1)))
+
+same-length : tie.Need-same-length Inv-loop μ-loop
+same-length c = c .before .loop .inv .1 .long
+
+returns : tie.Need-returns Inv-loop μ-loop
+returns c =
+    let a = c .before .before .args in
+    let k = c .before .loop in
+    left-done (rows-none (a .byte ∷ []) (a .n) (k .i) (omega arith) (k .inv .1))
+
+pub stack-spec : {M : Type 1} → statement M
+stack-spec =
+    tie.close
+    (tie.spec
+    Inv-loop
+    μ-loop
+    loop-holds
+    slice-write-out
+    add-p
+    add-i
+    loop-less
+    loop-again
+    same-length
+    returns)

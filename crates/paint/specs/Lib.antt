@@ -1,0 +1,3 @@
+pub mod Paint
+pub mod Parts
+pub mod Steps
