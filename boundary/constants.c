@@ -1,4 +1,4 @@
-/* Every constant of leg_sheet.h held to what the functions do: the least length that is accepted, the greatest input, the place of each number in a list; and every refusal met under its name. */
+/* Every constant of leg_sheet.h compared with what the functions do: the least length that is accepted, the greatest input, the place of each number in a list; and every refusal met under its name. */
 #include <stdio.h>
 #include <string.h>
 

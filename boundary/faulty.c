@@ -1,4 +1,4 @@
-/* leg_print_sheet with a fault, by number, to try the tests on: it is linked in the place of the proved one (-Wl,--wrap=leg_print_sheet). */
+/* leg_print_sheet with a fault, by number, to try the tests on: it is linked instead of the proved one (-Wl,--wrap=leg_print_sheet). */
 #include <sched.h>
 #include <string.h>
 

@@ -10,7 +10,7 @@
 
 static uint8_t tree[LEG_TREE], sheet[LEG_SHEET];
 
-/* The bytes of the list's tree; or none, and what is wrong with the list is told. */
+/* The bytes of the list's tree; or none, and what is wrong with the list is printed. */
 static size_t read_list(const char *list) {
     uint64_t word = leg_read_typed((const uint8_t *)list, strlen(list), tree, sizeof tree);
     if (LEG_NUMBER(word) != 0) printf("line %zu, column %zu: %s\n", LEG_FAULT_LINE(word), LEG_FAULT_COLUMN(word), leg_sentence(LEG_NUMBER(word)));

@@ -1,4 +1,4 @@
-/* The library's functions with a fault. FAULT names a function, whose count is then one too large where it accepts; or, behind a minus sign, one whose refusals have the next number. Linked by --wrap for each name
+/* The library's functions with a fault. FAULT names a function, whose count is then one too large where it accepts; or, after a minus sign, one whose refusals have the next number. Linked by --wrap for each name
  * of FUNCTIONS, which fuzz/check takes from include/leg_sheet.h. Arguments are numbers and pointers alone, so that nine words carry those of any function. */
 #include <stdint.h>
 #include <stdlib.h>

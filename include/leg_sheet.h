@@ -1,13 +1,13 @@
-/* Leg sheets: bordered tables of nested rows and columns. Each function below is proved to answer and to write what its definition says, for every input (README.md, 'To check the proofs').
+/* Leg sheets: bordered tables of nested rows and columns. Each function below is proved to answer and to write what its definition says, for every input (README.md, 'What is proved').
  * The archive libleg_sheet.a holds them, and asks for nothing but memcpy and memset (x86-64 Linux).
  *
- * A lent list is a pointer and then its length in items (not bytes). Give a pointer that is not null, aligned for the items, to as many
+ * A lent list, memory of the caller's, is a pointer and then its length in items (not bytes). Give a pointer that is not null, aligned for the items, to as many
  * items as the length says, even where the length is 0; lists that are written must overlap no other argument. Nothing else is asked:
- * any bytes and any numbers may be handed in.
+ * any bytes and any numbers may be passed.
  *
  * Every function answers a word: LEG_NUMBER is 0 or a refusal's number from the list below, LEG_COUNT what was counted or written, 0 beside a
  * refusal. Each function below names its refusals in the order of its tests; 2 to 5 and 17 are tested element by element in node order, at
- * each one 2, 5, 4, then 3 of a Cell or 17 of a range. A refusal writes to none of the lent lists; the line and the column of a typed list's fault are its own answer, and stand in
+ * each one 2, 5, 4, then 3 of a Cell or 17 of a range. A refusal writes to none of the lent lists; the line and the column of a typed list's fault are part of the answer, and are in
  * the word: LEG_FAULT_LINE, LEG_FAULT_COLUMN. Where nothing is refused, items past those said to be written stay as they were.
  *
  * Memory. A null pointer, a pointer to fewer items than its length says, and a list that is written and overlaps another argument, even in one byte, are not memory-safe: the
@@ -36,30 +36,30 @@
  * W and H, 400 and 160 at the most, are the columns and lines of the sheet with its margin: the root's natural width or height, 2 for the edge, and the
  * margin's sizes on both sides. Sizes, leaf records and blocks have no margin in them.
  * Without lines no mark is printed, and no column or line is kept for one: the 1 between neighbours and the 2 for the edge are 0. A block is then as large as the
- * leaf's allotted size. A leaf of width 0 is its height - 1 feeds, a sheet of W = 0 is H - 1 feeds, and no place lies in either. Cuts, split lists and flags are as with
+ * leaf's allotted size. A leaf of width 0 is its height - 1 line feeds, a sheet of W = 0 is H - 1 line feeds, and no place is in either. Cuts, split lists and flags are as with
  * lines. A mixture of marks and 00 is refused with 1.
  *
  * A tree, one element. An element is a tag, the length of its contents in two bytes, the high one first, and its contents:
  *   01 Cell: a text, bytes 20 to 7E, and 0A between its lines
  *   02 Row, 03 Column: elements, side by side or one under another
  * The root ends where the bytes end. Nodes are numbered from 0 in the order of their tags. Column[`ab`, `c`]: 03 00 09 01 00 02 61 62 01 00 01 63.
- * A planning tree, which leg_plan alone takes (to every other function the tag is unknown), has for texts that are to come also
+ * A planning tree, which leg_plan alone takes (to every other function the tag is unknown), has also, for texts that are not known yet,
  *   04 range, 4 bytes: the least and the greatest width of the text, the least and the greatest count of its lines (1 or more)
  *
  * Two trees are alike where they differ only inside Cells' texts, each text having in both the same number of lines, line for line of the same length: as a key and its question
  * paper (leg_blank). With all other arguments equal, alike trees without a forbidden text byte get the same word from every function, and the same numbers in every list. Sheets
- * and blocks, stores that keep such trees, and trees that are returned or blanked, are then the same but for the texts' own bytes: those of the lines themselves, where they stand.
+ * and blocks, stores that keep such trees, and trees that are returned or blanked, are then the same but for the texts' own bytes: those of the lines themselves, where they are printed.
  *
  * A store of drafts, of any length: fields back to back, then 00 to its end; bytes that are all 00 are a store without a draft. A field is a tag, 20 to 27, the length of
  * its contents in two bytes, the high one first, and its contents, a tree. Draft 'A', byte 41, has tag 20, and so on to 'H', byte 48, with tag 27; each stands there
  * once at the most, in any order.
  *
- * A typed list is a tree as plain text, of up to LEG_TYPED bytes: lines parted by 0A, a 0D at a line's end taken off. A line is
+ * A typed list is a tree as plain text, of up to LEG_TYPED bytes: lines split at 0A, a 0D at a line's end taken off. A line is
  *   `row` or `column`; the lines one level, two spaces, deeper are its children
  *   a text, up to the line's end, bytes 20 to 7E; \n in it is 0A, \\ a backslash. A quote mark in front is taken off, and what is behind it is a text, whatever it is:
  *      'row, '# 1, '  indented, and ' alone for the empty text
- *   a comment, any bytes behind a # that only spaces stand before; or blank, spaces alone
- * The first line that is no comment and not blank is the root, and all others stand in it. Column[`ab`, Row[`c`, ``]]: "column\n  ab\n  row\n    c\n    '\n" as a C string.
+ *   a comment, any bytes after a # that only spaces are before; or blank, spaces alone
+ * The first line that is no comment and not blank is the root, and all others are inside it. Column[`ab`, Row[`c`, ``]]: "column\n  ab\n  row\n    c\n    '\n" as a C string.
  */
 #ifndef LEG_SHEET_H
 #define LEG_SHEET_H
@@ -86,7 +86,7 @@ static inline size_t leg_fault_column(uint64_t word) { return word >> 32 ? (size
 /* The refusals: number, name and sentence of each; 30 to 39 are of typed lists. 7 never occurs any more, and is kept free. LEG_REFUSALS(X) is X(number, name, sentence) of all of them, for tables of your
  * own. */
 #define LEG_REFUSALS(X) \
-    X(1, LEG_BAD_SETTINGS, "the settings are not of their form or ranges") \
+    X(1, LEG_BAD_SETTINGS, "the settings are malformed or out of range") \
     X(2, LEG_BAD_TREE, "the tree is too long, is cut short, has an unknown tag or a length past the end, or does not end at the end") \
     X(3, LEG_BAD_TEXT, "a text has a byte other than hex 20 to 7E and 0A") \
     X(4, LEG_TOO_MANY_NODES, "the tree has more than 512 nodes") \
@@ -102,7 +102,7 @@ static inline size_t leg_fault_column(uint64_t word) { return word >> 32 ? (size
     X(15, LEG_NOT_A_LIST, "the tree is no Column of 1 to 200 Cells") \
     X(16, LEG_TOO_WIDE, "a cell is wider than the given width") \
     X(17, LEG_BAD_RANGE, "a range has a least above its greatest, or no line") \
-    X(18, LEG_BAD_STORE, "the store's fields are not of their form") \
+    X(18, LEG_BAD_STORE, "the store of drafts is malformed") \
     X(19, LEG_NO_DRAFT, "the name is none of A to H, or no draft has it") \
     X(20, LEG_NO_ROOM, "the store has no room for the tree beside the other drafts") \
     X(30, LEG_LIST_TOO_LONG, "the list has over 131,072 bytes") \
@@ -157,7 +157,7 @@ static inline const char *leg_sentence(unsigned number) {
 #define LEG_FOUND 3
 #define LEG_ENDS 4
 
-/* Where the numbers stand in these lists. Marks are 15 numbers, padding, sizes and fills 4 each: left, right, top, bottom. A list of pieces or positions is its count, then LEG_PIECES entries. */
+/* Where the numbers are in these lists. Marks are 15 numbers, padding, sizes and fills 4 each: left, right, top, bottom. A list of pieces or positions is its count, then LEG_PIECES entries. */
 enum {
     LEG_SETTINGS_MARKS = 0, LEG_SETTINGS_PADDING = 15, LEG_SETTINGS_FILLS = 19,
     LEG_SETTINGS_HORIZONTAL = 23, LEG_SETTINGS_VERTICAL, LEG_SETTINGS_LINE_MODE, LEG_SETTINGS_WIDTH_PRIORITY, LEG_SETTINGS_HEIGHT_PRIORITY,
@@ -238,11 +238,11 @@ uint64_t leg_fold(const uint8_t *settings, size_t settings_len, const uint8_t *t
 
 /* How large the sheet of a planning tree will be. 1 to 5 and 17. Writes to `ends` LEG_ENDS numbers: the least and the greatest W, the least and the greatest H.
  * Whatever texts within the ranges are put in, the sheet's W and H lie between these, and each of the four is reached by some texts; the limits on W, H and the bytes of
- * the tree with its texts are put aside. Counts LEG_ENDS. */
+ * the tree with its texts are ignored. Counts LEG_ENDS. */
 uint64_t leg_plan(const uint8_t *settings, size_t settings_len, const uint8_t *tree, size_t tree_len, uint32_t ends[LEG_ENDS]);
 
 /* The letters that widen the sheet: for each Cell the smallest number of letters which, added to its longest line alone, makes W larger. No smaller addition to that Cell
- * alone changes W; the limits on W and the tree's bytes are put aside. 1 to 5; 8 last, where `nodes` or `letters` has fewer numbers than there are Cells. Writes for each
+ * alone changes W; the limits on W and the tree's bytes are ignored. 1 to 5; 8 last, where `nodes` or `letters` has fewer numbers than there are Cells. Writes for each
  * Cell its node to `nodes` and the number of letters to `letters`, at the same index: the smallest number first, equal ones by node. Empty Rows and Columns are not
  * listed. Counts the Cells, 512 at the most. */
 uint64_t leg_widen(const uint8_t *settings, size_t settings_len, const uint8_t *tree, size_t tree_len, uint16_t *nodes, size_t nodes_len, uint32_t *letters, size_t letters_len);
@@ -276,7 +276,7 @@ uint64_t leg_read_typed(const uint8_t *text, size_t text_len, uint8_t *out, size
  * was removed; the list taken, the list left, each a count and 512 entries with 0 past the count. Counts LEG_CUT. */
 uint64_t leg_short_splits3(const uint16_t *pieces, size_t pieces_len, size_t count, uint16_t w, uint16_t *out, size_t out_len);
 
-/* The same cut, with the list left in the place of the lent one. 8 where `pieces` has under `count` numbers or `out` under LEG_LENT_CUT; 10. Writes the first
+/* The same cut, with the list left written over the lent one. 8 where `pieces` has under `count` numbers or `out` under LEG_LENT_CUT; 10. Writes the first
  * 512 numbers of `pieces`, or all where it has fewer: the list left with 0 past its count; and to `out` yes or no, the pair, the count left, the list taken as
  * above. Counts LEG_LENT_CUT. */
 uint64_t leg_short_splits3_lent(uint16_t *pieces, size_t pieces_len, size_t count, uint16_t w, uint16_t *out, size_t out_len);

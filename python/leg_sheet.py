@@ -63,7 +63,7 @@ class Refused(ValueError):
 
 # Number, name and sentence of each refusal, as leg_sheet.h has them.
 _REFUSALS = """
-1 BadSettings the settings are not of their form or ranges
+1 BadSettings the settings are malformed or out of range
 2 BadTree the tree is too long, is cut short, has an unknown tag or a length past the end, or does not end at the end
 3 BadText a text has a byte other than hex 20 to 7E and 0A
 4 TooManyNodes the tree has more than 512 nodes
@@ -79,7 +79,7 @@ _REFUSALS = """
 15 NotAList the tree is no Column of 1 to 200 Cells
 16 TooWide a cell is wider than the given width
 17 BadRange a range has a least above its greatest, or no line
-18 BadStore the store's fields are not of their form
+18 BadStore the store of drafts is malformed
 19 NoDraft the name is none of A to H, or no draft has it
 20 NoRoom the store has no room for the tree beside the other drafts
 30 ListTooLong the list has over 131,072 bytes
@@ -132,7 +132,7 @@ for _name, _parameters in _FUNCTIONS.items():
 
 
 def _count(word: int) -> int:
-    """What a function counts; what it refuses is raised, a typed list's fault with its line and column, which stand in the word."""
+    """What a function counts; what it refuses is raised, a typed list's fault with its line and column, which are in the word."""
     line, number, lower = word >> 40, word >> 32 & 0xFF, word & 0xFFFFFFFF
     if number == 0:
         return lower

@@ -1,4 +1,4 @@
-"""What the command says of the examples: what pages are held to."""
+"""What the command prints for the examples: what pages are compared with."""
 
 import os
 import subprocess
@@ -7,12 +7,12 @@ ROOT = os.path.dirname(os.path.dirname(os.path.abspath(__file__)))
 EXAMPLES = os.path.join(ROOT, "examples")
 PROGRAM = os.path.join(ROOT, "library", "target", "debug", "legs")
 
-# So many places are handed in at a time.
+# So many places are passed at a time.
 LOT = 256
 
 
 def run(*words, given=""):
-    """What `legs` writes, to both outputs, and its status; FILE stands in examples/, or is standard input."""
+    """What `legs` writes, to both outputs, and its status; FILE is in examples/, or is standard input."""
     said = subprocess.run([PROGRAM, *words], input=given, capture_output=True, text=True, cwd=EXAMPLES)
     return said.stdout, said.stderr, said.returncode
 

@@ -79,7 +79,7 @@ class Page(Tab):
         self.point(*self.run(script), clicks=1)
 
     def type(self, selector, text):
-        """Puts a text in the place of what a field has."""
+        """Replaces what a field has by a text."""
         self.run(f"document.querySelector('{selector}').select()")
         self.click(selector)
         self.run(f"document.querySelector('{selector}').select()")

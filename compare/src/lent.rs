@@ -24,7 +24,7 @@ pub fn number(answer: Answer) -> u8 {
     }
 }
 
-/// What stands in a lent list before a call: never 0, and never the same twice.
+/// What is in a lent list before a call: never 0, and never the same twice.
 pub fn canary<T: From<u16>>(at: usize) -> T {
     ((at as u16) ^ 0xA5A5).into()
 }
@@ -231,7 +231,7 @@ mod tests {
         assert_eq!(between(&mut [], |_| SHORT), (8, 0));
         let spoil = |at: isize| {
             between(&mut [1, 2], |list| {
-                // SAFETY: three bytes more stand on both sides of the list.
+                // SAFETY: there are three bytes more on both sides of the list.
                 unsafe { *list.as_mut_ptr().offset(at) = 0 };
                 DONE
             })

@@ -103,7 +103,7 @@ fn list_of(list: &leg_sheet::SplitList) -> SplitList {
 }
 
 impl Calls for Library {
-    /// The numbers written, the settings that the library makes of them and the bytes that it makes of these are held to each other.
+    /// The numbers written, the settings that the library makes of them and the bytes that it makes of these are compared with each other.
     fn read_settings(&mut self, settings: &[u8]) -> ReadSettings {
         let (number, out) = lent::record::<SETTINGS>(|out| calls::read_settings(settings, out));
         let read = leg_sheet::Settings::from_bytes(settings);

@@ -424,7 +424,7 @@ pub fn short_splits3(
     })
 }
 
-/// The same cut, with the list left in the place of the lent one, in its first 512 numbers, 0 past the count; writes [`LENT_CUT`] numbers to `out`.
+/// The same cut, with the list left written over the lent one, in its first 512 numbers, 0 past the count; writes [`LENT_CUT`] numbers to `out`.
 ///
 /// # Errors
 /// [`TooShort`](Refusal::TooShort) where a list is too short, `pieces` among them; [`TooManyPieces`](Refusal::TooManyPieces).

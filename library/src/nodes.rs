@@ -9,7 +9,7 @@ pub struct Node<'a> {
     pub number: usize,
     /// The number of the Row or Column that it is a child of; none for the root.
     pub parent: Option<usize>,
-    /// How many nodes it stands inside.
+    /// How many nodes it is inside of.
     pub level: usize,
     /// The node itself, with all below it.
     pub tree: &'a Tree,

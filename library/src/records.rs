@@ -155,7 +155,7 @@ pub struct CutPair {
     pub rest: u16,
 }
 
-/// A leaf: its size, its flags, the pair of its cut, the split lists that it is handed.
+/// A leaf: its size, its flags, the pair of its cut, the split lists that it is given.
 #[derive(Debug, Clone, Copy, PartialEq, Eq, Hash)]
 pub struct LeafRecord {
     /// Its number.

@@ -1,4 +1,4 @@
-//! The oracle: what tabled 0.22.0's `PoolTable` answers, what documents 01 and 02 answer, and inputs to hold them side by side. README says more.
+//! The oracle: what tabled 0.22.0's `PoolTable` answers, what documents 01 and 02 answer, and inputs to compare them. README.md says how it is run, FAITHFUL.md what its answers come from.
 
 pub mod bare;
 pub mod blanking;

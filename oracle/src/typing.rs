@@ -42,7 +42,7 @@ fn lines(list: &[u8]) -> impl Iterator<Item = &[u8]> {
 }
 
 /// 'The line's first bad byte': 31 or 32, and how many bytes stand before it. Of a byte behind a backslash that may stand in no text the sentences do not say which of the two it is; here
-/// it is 32 (README, 'Differences found').
+/// it is 32 (FAITHFUL.md, 'Differences found').
 fn bad_byte(line: &[u8]) -> Option<(u8, usize)> {
     let mut is_escaped = false;
     for (at, &byte) in line.iter().enumerate() {

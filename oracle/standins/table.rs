@@ -1,7 +1,7 @@
 //! Stand-in for `Table`, as far as `table_pool.rs` uses it: `builder.build()`, `with(Style::empty())`, `with(Padding::zero())`, `to_string()`.
 //! It assumes (document 01: 'a sheet printer that lays blocks side by side'): the texts of a record stand side by side, line by line;
 //! the records stand one under the other; lines are joined by 0A, none at the end.
-//! A text that is narrower than its column or lower than its record is filled with spaces on the right and below (README, 'How Table joins');
+//! A text that is narrower than its column or lower than its record is filled with spaces on the right and below (FAITHFUL.md, 'How Table joins');
 //! `uneven` counts the joins where this happened.
 
 use std::cell::Cell;

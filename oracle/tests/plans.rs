@@ -313,7 +313,7 @@ fn padding_and_margin() {
     assert_eq!(ends, Ok([18, 21, 25, 27]));
 }
 
-/// The examples of docs/FORMS.md.
+/// The examples of docs/CALL-FORMS.md.
 #[test]
 fn examples() {
     let tree = b"\x03\x00\x0E\x01\x00\x04abcd\x04\x00\x04\x02\x06\x01\x03";

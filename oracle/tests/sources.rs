@@ -1,4 +1,4 @@
-//! The original's files are those that README describes.
+//! The original's files are those that FAITHFUL.md describes.
 
 use std::path::{Path, PathBuf};
 

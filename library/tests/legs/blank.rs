@@ -44,7 +44,7 @@ fn blanks_are_refused() {
     assert!(message.contains("flight.plan: refused 2: "), "{message}");
     assert_eq!(status, Some(1));
     let (_, message, status) = said(&["blank", "-", "--all"], &[0x10; 99]);
-    let settings = "refused 1: the settings are not of their form or ranges";
+    let settings = "refused 1: the settings are malformed or out of range";
     assert_eq!(message, format!("legs: standard input: {settings}\n"));
     assert_eq!(status, Some(1));
     let missing = "none.legs: No such file or directory (os error 2)";

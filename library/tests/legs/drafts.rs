@@ -101,7 +101,7 @@ fn other_files_are_refused() {
         &["draft", "return", store, "B", other],
         "other: refused 1: ",
     );
-    let no_store = "other: refused 18: the store's fields are not of their form";
+    let no_store = "other: refused 18: the store of drafts is malformed";
     refused(&["draft", "list", other], no_store);
     refused(&["draft", "save", other, "I", "figure2.legs"], no_store);
     assert_eq!(std::fs::read(store).expect("a store"), before);

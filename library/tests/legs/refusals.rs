@@ -13,7 +13,7 @@ fn refusals_are_messages() {
     fails(&["place", "figure2.legs", "5", "0"], outside, 1);
     let margin = "binder.legs: refused 13: the place is in the sheet's margin";
     fails(&["place", "binder.legs", "1", "7"], margin, 1);
-    let cut = "legs: standard input: refused 1: the settings are not of their form or ranges\n";
+    let cut = "legs: standard input: refused 1: the settings are malformed or out of range\n";
     for words in [
         &["print", "-"][..],
         &["sizes", "-"],

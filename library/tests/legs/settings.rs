@@ -29,7 +29,7 @@ fn settings_that_are_none() {
         assert!(line.starts_with("flight.list:2:1: no setting is called 'column': margin, "));
         assert_eq!((answer.as_str(), status), ("", Some(1)));
     }
-    let none = "standard input: refused 1: the settings are not of their form or ranges";
+    let none = "standard input: refused 1: the settings are malformed or out of range";
     let (_, message, status) = said(&["print", "list.list", OPTION, "-"], &[0x10; 31]);
     assert_eq!((message, status), (format!("legs: {none}\n"), Some(1)));
     let missing = "none: No such file or directory (os error 2)";

@@ -67,7 +67,7 @@ fn line(option: &str, about: &str) -> String {
 }
 
 const LISTS: &str = r"FILE is a typed list, or bytes, which begin with hex 10: settings and a tree, as the commands bytes and blank write them. - is standard input.
-A typed list is plain text: a row, a column or a text to a line, two spaces deeper than the row or column that it stands in.
+A typed list is plain text: a row, a column or a text to a line, two spaces deeper than the row or column that it is in.
 
     # a leg
     row
@@ -91,7 +91,7 @@ WIDTH is of the sheet inside its edges and margin. BUDGET limits the heights tha
 bytes and blank write a FILE: legs bytes key.list > key.legs, legs blank key.list --lines 9,13 > paper.legs. type writes a typed list: legs type paper.legs > paper.list.
 --tsv and --json are for other programs; a text has \\n for a line feed in both.
 STORE is a file of drafts, up to eight, each under a NAME, A to H. A draft is a tree: no settings are saved, and a FILE that is written keeps its own.
-Files are replaced whole or not at all.
+Files are replaced atomically.
 
 Exit status: 0, or 1 refused, 2 usage, 3 input or output failed, 141 where no one reads the answer any more.
 ";

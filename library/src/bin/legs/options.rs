@@ -32,7 +32,7 @@ impl Opt {
     }
 }
 
-/// The settings of a file stand in the place of those that the sheet has.
+/// The settings of a file replace those that the sheet has.
 pub const SETTINGS: Opt = Opt::with(
     "--settings",
     "FILE",

@@ -1,4 +1,4 @@
-//! A file replaced whole or not at all: the new bytes go to a file beside it, are flushed to the disk, and take its place in one step. Whoever is stopped before that
+//! A file replaced atomically: the new bytes go to a file beside it, are flushed to the disk, and take its place in one step. Whoever is stopped before that
 //! step leaves the old file as it was, and beside it perhaps the new one, under a name of its own.
 
 use std::ffi::OsString;
@@ -29,7 +29,7 @@ use tests::done;
 /// The bytes that are written at a time.
 const BLOCK: usize = 4096;
 
-/// Puts a file of these bytes in the place of a file, with its permissions; or where none is. On an error the old one stays, unless only the last flush failed.
+/// Replaces a file by one of these bytes, with its permissions; or writes a new one. On an error the old one stays, unless only the last flush failed.
 pub fn replace(path: &Path, bytes: &[u8]) -> io::Result<()> {
     // A link stays, and the file that it leads to is replaced.
     let path = &fs::canonicalize(path).unwrap_or_else(|_| path.into());

@@ -47,7 +47,7 @@ pub const RETURN: Command = Command {
     operands: &["STORE", "NAME", "[FILE]"],
     options: &[TYPED, FORCE],
     takes_settings: false,
-    about: "puts a draft in the place of FILE's tree; without FILE it is written as bytes, behind the default settings",
+    about: "replaces FILE's tree by a draft; without FILE it is written as bytes, after the default settings",
     run: return_to,
 };
 

@@ -16,7 +16,7 @@ pub const COMMAND: Command = Command {
     run,
 };
 
-/// Every place is answered: a place without a leaf has its number, and a line that is no place is told of on standard error.
+/// Every place is answered: a place without a leaf has its number, and a line that is no place is reported on standard error.
 fn run(given: &Given) -> Result<Answer, Fault> {
     if given.operands[0] == "-" || Over::of(given)?.is_from("-") {
         return Err(Fault::Usage("standard input has the places".into()));

@@ -53,7 +53,7 @@ pub const COMMANDS: &[Command] = &[
 pub struct Command {
     /// One word, or more.
     name: &'static str,
-    /// The last may stand in brackets: it can be left out. With two dots it can stand there many times.
+    /// The last may be in brackets: it can be left out. With two dots it can be there many times.
     operands: &'static [&'static str],
     /// The options that are its own.
     pub options: &'static [Opt],
@@ -61,7 +61,7 @@ pub struct Command {
     pub takes_settings: bool,
     /// What it does, for `--help`.
     pub about: &'static str,
-    /// Is handed as many words as it takes.
+    /// Gets as many words as it takes.
     pub run: fn(&Given) -> Result<Answer, Fault>,
 }
 

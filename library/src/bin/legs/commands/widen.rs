@@ -11,7 +11,7 @@ pub const COMMAND: Command = Command {
     operands: &["FILE"],
     options: &[TSV, JSON],
     takes_settings: true,
-    about: "the fewest letters more that each Cell needs to widen the sheet, the fewest first",
+    about: "how many more letters in each Cell make the sheet wider, the fewest first",
     run,
 };
 
