@@ -15,7 +15,7 @@ use Rattle.tree.specs.Accepted.{bytesOf}
 use Rattle.tree.proofs.Sound.{tree-sound, tree-refusal}
 use Rattle.sizes.proofs.Stores.{sets-front}
 use Rattle.blank.specs.Blank.{shownByte, blanked, blanked*, cellFlags, dotsFor, allCells, noBlank, blankTo, blankOf}
-use Rattle.blank.specs.Elements.{ReadElements, isDotted, DotsAre}
+use Rattle.blank.specs.Contracts.{ReadElements, isDotted, DotsAre}
 use Rattle.blank.proofs.Lengths.{blanked-length}
 
 -- ---- the same dots at the tree's nodes

@@ -18,7 +18,7 @@ use Rattle.tree.proofs.Sound.{tree-sound, tree-refusal}
 use Rattle.tree.proofs.Complete.{tree-bytes}
 use Rattle.blank.specs.Blank.{blanked, cellFlags, dotsFor, allCells, Blanks, noBlank, blankIn, blankOf}
 use Rattle.blank.specs.declared.Blanked.{Blanked}
-use Rattle.blank.specs.Promises.{blankWritten, PaperRead, PaperOf}
+use Rattle.blank.specs.Paper.{blankWritten, PaperRead, PaperOf}
 use Rattle.blank.proofs.Lengths.{blanked-length}
 use Rattle.blank.proofs.Exact.{tree-exact}
 use Rattle.blank.proofs.Paper.{blanked-nodes, blanked-depth, blanked-texts, blanked-alike, blanked-outside}

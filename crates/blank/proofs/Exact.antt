@@ -7,7 +7,8 @@ use lib.ListN.{length, getD, take, drop, take-append-drop}
 use lib.Seq.{take-all, take-add}
 use Rattle.common.specs.Every.{Every}
 use Rattle.tree.specs.Tree.{Tree, Trees, cell, group, none, more}
-use Rattle.tree.specs.Bytes.{Is, Are, lengthAt, contents, tagOf}
+use Rattle.tree.specs.Bytes.{lengthAt, tagOf}
+use Rattle.tree.specs.Promises.{Is, Are, contents}
 use Rattle.tree.specs.Accepted.{element, bytesOf, bytesOf*}
 use Rattle.tree.proofs.Fronts.{contents-length}
 

@@ -10,11 +10,12 @@ use lib.Dec.{eqb}
 use borrow.Author.Tests.{eq-eqb, ne-eqb}
 use Rattle.common.specs.Choice.{pick}
 use Rattle.tree.specs.Tree.{Tree, Trees, cell, group, none, more, nodes, nodes*}
-use Rattle.tree.specs.Bytes.{Is, Are, lengthAt, contents}
+use Rattle.tree.specs.Bytes.{lengthAt}
+use Rattle.tree.specs.Promises.{Is, Are, contents}
 use Rattle.tree.specs.Accepted.{bytesOf, bytesOf*}
 use Rattle.tree.proofs.Fronts.{is-whole, contents-length, tag-low}
 use Rattle.blank.specs.Blank.{blanked, blanked*, shownByte, cellFlags, cellFlags*}
-use Rattle.blank.specs.Elements.{textAt}
+use Rattle.blank.specs.Contracts.{textAt}
 use Rattle.blank.proofs.Lengths.{are-bytes-in, bytes*-length, blanked*-bytes-in}
 
 unfoldable pub joined : Trees → Trees → Trees

@@ -6,7 +6,8 @@ use mathlib.Core.Bool.{Bool}
 use mathlib.Core.List.{List}
 use lib.ListN.{length, drop, length-append, length-map, length-drop}
 use Rattle.tree.specs.Tree.{Tree, Trees, cell, group, none, more, nodes}
-use Rattle.tree.specs.Bytes.{Is, Are, lengthAt, contents}
+use Rattle.tree.specs.Bytes.{lengthAt}
+use Rattle.tree.specs.Promises.{Is, Are, contents}
 use Rattle.tree.specs.Accepted.{bytesOf, bytesOf*}
 use Rattle.tree.proofs.Fronts.{is-whole, contents-length}
 use Rattle.blank.specs.Blank.{blanked, blanked*, shownByte}

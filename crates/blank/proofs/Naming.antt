@@ -11,7 +11,7 @@ use lib.Dec.{eqb}
 use borrow.Author.Tests.{eqb-true, eqb-false, ne-eqb}
 use Rattle.common.specs.Choice.{pick}
 use Rattle.blank.specs.Blank.{oneOf, dotsFor, allCells}
-use Rattle.blank.specs.Elements.{isDotted, DotsAre}
+use Rattle.blank.specs.Contracts.{isDotted, DotsAre}
 
 -- ---- no numbers
 

@@ -7,13 +7,14 @@ use mathlib.Core.List.{List, [], _∷_, _++_, map}
 use lib.ListN.{length, getD, length-map}
 use lib.Dec.{eqb}
 use Rattle.common.specs.Choice.{pick}
-use Rattle.tree.specs.Tree.{Tree, Trees, cell, group, none, more, nodes, nodes*, depth, depth*}
+use Rattle.tree.specs.Tree.{Tree, Trees, cell, group, none, more, nodes, nodes*}
 use Rattle.tree.specs.Bytes.{tagOf}
 use Rattle.tree.specs.Reading.{isTextByte, isText}
-use Rattle.tree.specs.Accepted.{Texts, Texts*, bytesOf, bytesOf*}
+use Rattle.tree.specs.Accepted.{bytesOf, bytesOf*}
+use Rattle.tree.specs.Promises.{Texts, Texts*, depth, depth*}
 use Rattle.blank.specs.Alike.{recast, recast*, covered, masked, Alike}
 use Rattle.blank.specs.Blank.{shownByte, blanked, blanked*}
-use Rattle.blank.specs.Promises.{inTexts, inTexts*}
+use Rattle.blank.specs.Paper.{inTexts, inTexts*}
 use Rattle.blank.proofs.Lengths.{bytes*-length, blanked*-bytes-in}
 
 -- ---- one byte: a dot may stand in a text, and a line feed stays

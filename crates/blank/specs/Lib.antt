@@ -1,4 +1,4 @@
 pub mod Alike
 pub mod Blank
-pub mod Elements
-pub mod Promises
+pub mod Contracts
+pub mod Paper

@@ -7,7 +7,7 @@ ghost use lib.Seq.{sets};
 ghost use Rattle.common.specs.Arrays.{padded};
 ghost use Rattle.tree.specs.Accepted.{bytesOf};
 ghost use Rattle.blank.specs.Blank.{blanked, cellFlags, shownByte};
-ghost use Rattle.blank.specs.Elements.{ReadElements, textAt, isDotted};
+ghost use Rattle.blank.specs.Contracts.{ReadElements, textAt, isDotted};
 
 // The text's bytes of the element at the front of `s`: a Row or a Column has none of its own.
 fn text_length(s: &[u8]) -> usize

@@ -1,7 +1,7 @@
 // The texts of a tree's Cells blanked by dots (document 02, 14: the question paper).
 ghost use mathlib.Core.Path.{_≡_};
 ghost use Rattle.blank.specs.Blank.{blankOf};
-ghost use Rattle.blank.specs.Promises.{PaperOf};
+ghost use Rattle.blank.specs.Paper.{PaperOf};
 
 pub mod elements;
 pub mod names;

@@ -2,7 +2,7 @@
 ghost use mathlib.Core.Path.{_≡_};
 ghost use mathlib.Core.Bool.{true};
 ghost use Rattle.blank.specs.Blank.{allCells};
-ghost use Rattle.blank.specs.Elements.{DotsAre};
+ghost use Rattle.blank.specs.Contracts.{DotsAre};
 
 // Whether each number is a Cell's; then for each node 1 if it is blanked.
 pub struct Named {

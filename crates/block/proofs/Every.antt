@@ -9,6 +9,7 @@ use lib.ListN.{length, getD, getElem?, replicate, length-append, length-replicat
 use lib.Seq.{getD-append-add}
 use Rattle.common.specs.Every.{Every}
 use Rattle.block.specs.Content.{paired}
+use Rattle.block.specs.Promises.{byteAt}
 
 module _ {ℓ} {A : Type ℓ} where
   pub every-append : (P : A → Type 0) (xs ys : List A) → Every P xs → Every P ys → Every P (xs ++ ys)
@@ -118,9 +119,6 @@ paired-at (l ∷ x) (m ∷ y) zero = refl
 paired-at (l ∷ x) (m ∷ y) (suc i) = paired-at x y i
 
 -- ---- the byte at line i, column j
-
-unfoldable pub byteAt : List (List ℕ) → ℕ → ℕ → ℕ
-byteAt x i j = getD (getD x i []) j 0
 
 pub byte-left : {x : List (List ℕ)} (y : List (List ℕ)) {h w : ℕ} (i j : ℕ) → Dims x h w → i < h → j < w → byteAt (paired x y) i j ≡ byteAt x i j
 unfolding byteAt

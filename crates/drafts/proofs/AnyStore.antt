@@ -13,10 +13,9 @@ use Rattle.tree.specs.Reading.{ReadOne, readTree}
 use Rattle.tree.specs.Accepted.{element}
 use Rattle.tree.proofs.Sound.{tree-refusal}
 use Rattle.drafts.specs.Store.{isName, tagFor, hasTag, fieldsOf, fieldBytes, storeOf, withoutTag, draftOf, StoreAnswer, saveTree, saveOf, forgetOf, returnFound, returnOf}
-use Rattle.drafts.specs.Series.{DraftCall, answerTo, storeAfter, lastSaved}
-use Rattle.drafts.specs.Promises.{nameIn, OfForm}
+use Rattle.drafts.specs.Promises.{nameIn, OfForm, DraftCall, answerTo, storeAfter, lastSaved, Formed}
 use Rattle.drafts.proofs.Fields.{read-store, fields-without, without-gone, without-shorter, joined-last, fields-last, element-field}
-use Rattle.drafts.proofs.Formed.{Formed, store-parsed, used-and-zeros}
+use Rattle.drafts.proofs.Formed.{store-parsed, used-and-zeros}
 use Rattle.drafts.proofs.Series.{name-tag, is-name, State, state-reads, state-length, other-noted, Next, call-next, series}
 
 of-form : {n : ℕ} {o : List ℕ} → State n o → OfForm n o

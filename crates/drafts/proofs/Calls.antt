@@ -10,8 +10,7 @@ use lib.Dec.{ltb}
 use Rattle.common.specs.Choice.{pick}
 use Rattle.tree.specs.Reading.{ReadOne, readTree, answerOf}
 use Rattle.drafts.specs.Store.{isName, tagFor, hasTag, fieldsOf, fieldBytes, withoutTag, draftOf, StoreAnswer, DraftOut, saveTree, saveIn, saveOf, forgetIn, forgetOf, noReturn, returnFound, returnIn, returnOf}
-use Rattle.drafts.specs.Series.{DraftCall, save, forget, return, answerTo}
-use Rattle.drafts.specs.Promises.{TreeRead}
+use Rattle.drafts.specs.Promises.{TreeRead, DraftCall, save, forget, return, answerTo}
 use Rattle.drafts.proofs.Opens.{tree-read}
 
 abbrev Keeps : List ℕ → StoreAnswer → Type 0

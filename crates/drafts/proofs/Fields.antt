@@ -13,16 +13,7 @@ use Rattle.common.specs.Choice.{pick}
 use Rattle.tree.specs.Bytes.{lengthAt}
 use Rattle.tree.specs.Accepted.{element}
 use Rattle.drafts.specs.Store.{isTag, allZero, tagIn, hasTag, wholeField, fieldThen, readFields, fieldsOf, fieldBytes, storeOf, withoutTag, draftOf}
-
--- one whole field
-pub record Field (f : List ℕ) : Type 0 where
-  pub tag : isTag (tagIn f) ≡ true
-  pub ends : 3 + lengthAt f ≡ length f
-
--- fields with different tags
-abbrev pub Fields : List (List ℕ) → Type 0
-Fields [] = Unit {0}
-Fields (f ∷ fs) = Field f × (hasTag (tagIn f) fs ≡ false) × Fields fs
+use Rattle.drafts.specs.Promises.{Field, Fields}
 
 zeros : (z : ℕ) → allZero (replicate z 0) ≡ true
 unfolding allZero

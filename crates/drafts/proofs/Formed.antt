@@ -12,17 +12,12 @@ use borrow.Author.Tests.{eqb-true, eqb-false}
 use Rattle.common.specs.Choice.{pick}
 use Rattle.tree.specs.Bytes.{lengthAt}
 use Rattle.drafts.specs.Store.{allZero, tagIn, hasTag, fieldThen, readFields, fieldsOf, fieldBytes, storeOf, withoutTag, draftOf}
-use Rattle.drafts.specs.Scanning.{fieldSize, noField, fieldFrom}
+use Rattle.drafts.specs.Contracts.{fieldSize, noField, fieldFrom}
 use Rattle.drafts.specs.declared.scan.FieldAt.{FieldAt}
-use Rattle.drafts.proofs.Fields.{Field, Fields}
+use Rattle.drafts.specs.Promises.{Field, Formed}
 use Rattle.drafts.proofs.Scans.{at-zero, at-bad, field-at, FrontField, front-of, taken-field, not-whole}
 
 -- ---- the fields and zero bytes
-
-pub record Formed (s : List ℕ) (fs : List (List ℕ)) : Type 0 where
-  pub good : Fields fs
-  pub zeros : ℕ
-  pub is : s ≡ fieldBytes fs ++ replicate zeros 0
 
 zeros-are : (l : List ℕ) → allZero l ≡ true → l ≡ replicate (length l) 0
 unfolding allZero

@@ -11,8 +11,7 @@ use lib.Dec.{ltb, eqb}
 use borrow.Author.Tests.{eqb-true}
 use Rattle.common.specs.Choice.{pick}
 use Rattle.drafts.specs.Store.{isName, DraftOut, saveOf, forgetOf, noReturn, returnFound, returnOf}
-use Rattle.drafts.specs.Series.{DraftCall, save, forget, return, answerTo, storeAfter, noted, lastSaved}
-use Rattle.drafts.specs.Promises.{TreeRead}
+use Rattle.drafts.specs.Promises.{TreeRead, DraftCall, save, forget, return, answerTo, storeAfter, noted, lastSaved}
 use Rattle.drafts.proofs.Calls.{saved-read}
 use Rattle.drafts.proofs.Series.{return-gives}
 

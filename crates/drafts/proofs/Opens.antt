@@ -14,13 +14,12 @@ use Rattle.tree.specs.Accepted.{element}
 use Rattle.tree.specs.declared.ReadTree.{ReadTree}
 use Rattle.tree.proofs.Sound.{tree-refusal, tree-sound}
 use Rattle.drafts.specs.Store.{isName, tagFor, hasTag, fieldsOf, fieldBytes, storeOf, withoutTag, draftOf, StoreAnswer, saveTree, saveIn, saveOf, forgetIn, forgetOf, noReturn, returnFound, returnIn, returnOf}
-use Rattle.drafts.specs.Scanning.{noField, fieldFrom, scanOf, refusedOpen, openedOf}
-use Rattle.drafts.specs.Promises.{TreeRead}
+use Rattle.drafts.specs.Contracts.{noField, fieldFrom, scanOf, refusedOpen, openedOf}
+use Rattle.drafts.specs.Promises.{TreeRead, Field, Fields, Formed}
 use Rattle.drafts.specs.declared.scan.FieldAt.{FieldAt}
 use Rattle.drafts.specs.declared.scan.Scan.{Scan}
 use Rattle.drafts.specs.declared.Opened.{Opened}
-use Rattle.drafts.proofs.Fields.{Field, Fields}
-use Rattle.drafts.proofs.Formed.{Formed, store-parsed, FieldIn, field-in, field-absent, used-and-zeros, zeros-behind, at-within, at-used, gap-store, body-is, others-is, size-low}
+use Rattle.drafts.proofs.Formed.{store-parsed, FieldIn, field-in, field-absent, used-and-zeros, zeros-behind, at-within, at-used, gap-store, body-is, others-is, size-low}
 
 fields-mid : (front : List (List ℕ)) (f : List ℕ) (back : List (List ℕ)) → Fields (front ++ (f ∷ back)) → Field f
 fields-mid [] f back k = k .0

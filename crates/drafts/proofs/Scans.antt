@@ -14,10 +14,11 @@ use borrow.Author.Tests.{le-ltb, lt-ltb, le-leb, lt-leb, ne-eqb, eq-eqb, ltb-tru
 use Rattle.common.specs.Choice.{pick}
 use Rattle.tree.specs.Bytes.{lengthAt}
 use Rattle.drafts.specs.Store.{isTag, allZero, tagIn, hasTag, wholeField, fieldThen, readFields, fieldsOf, fieldBytes}
-use Rattle.drafts.specs.Scanning.{fieldSize, noField, nextField, fieldFrom, noScan, endScan, scanOf}
+use Rattle.drafts.specs.Contracts.{fieldSize, noField, nextField, fieldFrom, noScan, endScan, scanOf}
 use Rattle.drafts.specs.declared.scan.FieldAt.{FieldAt}
 use Rattle.drafts.specs.declared.scan.Scan.{Scan}
-use Rattle.drafts.proofs.Fields.{Field, Fields, fields-last, joined-last, absent}
+use Rattle.drafts.proofs.Fields.{fields-last, joined-last, absent}
+use Rattle.drafts.specs.Promises.{Field, Fields}
 
 -- ---- zero bytes
 

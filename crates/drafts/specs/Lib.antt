@@ -1,4 +1,3 @@
 pub mod Store
-pub mod Series
-pub mod Scanning
+pub mod Contracts
 pub mod Promises

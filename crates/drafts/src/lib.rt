@@ -1,7 +1,7 @@
 // Drafts of trees in one lent store: fields of hex tag 20 to 27 for the names A to H, two-byte length and the tree's bytes, then zero bytes.
 ghost use mathlib.Core.Path.{_≡_};
 ghost use Rattle.drafts.specs.Store.{isName, tagFor, fieldsOf, saveOf, forgetOf, returnOf};
-ghost use Rattle.drafts.specs.Scanning.{refusedOpen, openedOf};
+ghost use Rattle.drafts.specs.Contracts.{refusedOpen, openedOf};
 
 pub mod moves;
 pub mod scan;

@@ -3,7 +3,7 @@ ghost use mathlib.Core.Path.{_≡_};
 ghost use Prim.Native.Nat.{_≤_};
 ghost use lib.ListN.{length};
 ghost use Rattle.drafts.specs.Store.{isTag, allZero, fieldsOf};
-ghost use Rattle.drafts.specs.Scanning.{fieldSize, nextField, endScan, scanOf};
+ghost use Rattle.drafts.specs.Contracts.{fieldSize, nextField, endScan, scanOf};
 
 // Where the field of the tag lies, front included.
 pub struct FieldAt {

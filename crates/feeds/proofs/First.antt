@@ -10,9 +10,8 @@ use lib.Seq.{drop-cons, drop-drop, length-take-le}
 use lib.Count.{trailingZeros}
 use borrow.Author.Tests.{eq-eqb, ne-eqb}
 use Rattle.common.specs.Choice.{pick}
-use Rattle.feeds.specs.Feeds.{isFeed, feedCount, firstFeed}
-use Rattle.feeds.specs.Words.{flags}
-use Rattle.feeds.specs.Seeing.{Passed, Onward}
+use Rattle.feeds.specs.Feeds.{isFeed, feedCount}
+use Rattle.feeds.specs.Contracts.{firstFeed, Passed, flags, Onward}
 use Rattle.feeds.proofs.Flags.{first, first-low, zeros-first}
 
 -- ---- in a word's flags

@@ -8,8 +8,8 @@ ghost use mathlib.Core.Path.{_≡_};
 ghost use Prim.Native.Nat.{_+_, _≤_};
 ghost use lib.ListN.{length, take, drop};
 ghost use mathlib.Core.Bool.{true};
-ghost use Rattle.feeds.specs.Feeds.{feedCount, countedOf, firstFeed};
-ghost use Rattle.feeds.specs.Seeing.{Whole, Passed};
+ghost use Rattle.feeds.specs.Feeds.{feedCount, countedOf};
+ghost use Rattle.feeds.specs.Contracts.{firstFeed, Whole, Passed};
 
 // The line feeds of a text, and the letters of its longest line.
 pub struct Counted {

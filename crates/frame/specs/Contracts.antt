@@ -8,7 +8,8 @@ use Rattle.settings.specs.declared.Margin.{Margin}
 use Rattle.sizes.specs.declared.Size.{Size}
 use Rattle.sizes.specs.Sizes.{sep}
 use Rattle.frame.specs.declared.Frame.{Frame}
-use Rattle.frame.specs.Frame.{columnsOf, linesOf, strideOf, bytesOf}
+use Rattle.frame.specs.Frame.{columnsOf, linesOf}
+use Rattle.frame.specs.Promises.{strideOf, bytesOf}
 
 -- the frame around w columns and h lines
 abbrev pub around : Margin → ℕ → ℕ → Frame

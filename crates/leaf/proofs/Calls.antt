@@ -11,7 +11,8 @@ use lib.Seq.{drop-append-le}
 use Rattle.common.specs.Every.{Every}
 use Rattle.settings.specs.declared.Settings.{Settings}
 use Rattle.tree.specs.Tree.{Tree, none, more}
-use Rattle.tree.specs.Bytes.{Is, Are, lengthAt}
+use Rattle.tree.specs.Bytes.{lengthAt}
+use Rattle.tree.specs.Promises.{Is, Are}
 use Rattle.sizes.specs.declared.Measured.{Measured}
 use Rattle.sizes.specs.Sizes.{sep, natural}
 use Rattle.sizes.specs.Input.{given, inputOf}

@@ -7,7 +7,7 @@ use mathlib.Core.List.{List}
 use lib.ListN.{getElem?}
 use Rattle.settings.specs.declared.Settings.{Settings}
 use Rattle.tree.specs.Tree.{Tree, nodes}
-use Rattle.tree.specs.Nodes.{subtrees}
+use Rattle.tree.specs.Promises.{subtrees}
 use Rattle.sizes.specs.Input.{given, inputOf}
 use Rattle.frame.specs.Frame.{tooLarge}
 

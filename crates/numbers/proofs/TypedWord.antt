@@ -13,7 +13,8 @@ use Rattle.typed.proofs.Answered.{typed-cases}
 use Rattle.typed.proofs.Faults.{fault-at}
 use Rattle.typed.proofs.Meant.{typed-meant}
 use Rattle.typed.proofs.Reach.{place-small}
-use Rattle.numbers.specs.Words.{packed, typedWord, WordTells}
+use Rattle.numbers.specs.Words.{packed, typedWord}
+use Rattle.numbers.specs.Promises.{WordTells}
 
 -- ---- the parts of one number
 

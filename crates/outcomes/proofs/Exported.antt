@@ -25,7 +25,8 @@ use Rattle.widen.specs.Answers.{nearestOf}
 use Rattle.drafts.specs.Store.{returnOf}
 use Rattle.blank.specs.Blank.{oneOf, blankOf}
 use Rattle.typed.specs.Typed.{typedOf}
-use Rattle.numbers.specs.Words.{packed, typedWord, numberIn}
+use Rattle.numbers.specs.Words.{packed, typedWord}
+use Rattle.numbers.specs.Promises.{numberIn}
 use Rattle.numbers.proofs.TypedWord.{typed-word}
 use Rattle.numbers.specs.Numbers.{Gives, refusal, written, offered, settingsNumbers, marginNumbers, readGiven, sizeNumbers, sizesGiven, recordNumbers, recordGiven}
 use Rattle.numbers.specs.Cuts.{refusedBy, unless, GivesTwo, refusalTwo, writtenTwo, keptGiven, shortGiven, splits3Given, lentGiven, splitsGiven}

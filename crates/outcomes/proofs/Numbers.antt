@@ -18,7 +18,8 @@ use Rattle.tree.specs.Reading.{ReadOne, readTree, answerOf}
 use Rattle.tree.specs.Accepted.{bytesOf, element}
 use Rattle.tree.specs.Planning.{PlanOne, readPlan}
 use Rattle.tree.proofs.Sound.{tree-refusal}
-use Rattle.tree.proofs.PlanSound.{Refusal, plan-refusal}
+use Rattle.tree.proofs.PlanSound.{plan-refusal}
+use Rattle.tree.specs.Promises.{PlanRefusal}
 use Rattle.splits.specs.declared.SplitList.{SplitList}
 use Rattle.splits.specs.declared.CutParts.{CutParts}
 use Rattle.splits.specs.declared.ShortParts.{ShortParts}
@@ -240,7 +241,7 @@ module _ (bs ts : List ℕ) where
   plan-in Parsed.refused x e = refl
   plan-in (Parsed.read s) (PlanOne.refused k) e = go (plan-refusal true ts k e)
     where
-      go : Refusal true k → Among k ofPlan
+      go : PlanRefusal true k → Among k ofPlan
       go (inl h) = four (λ m. Among m ofPlan) refl refl refl refl k (h .0) (h .1)
       go (inr h) = rw (h .1) refl
   plan-in (Parsed.read s) (PlanOne.one q z n) e = refl

@@ -23,7 +23,8 @@ use Rattle.widen.specs.Answers.{nearestOf}
 use Rattle.drafts.specs.Store.{saveOf, forgetOf, returnOf}
 use Rattle.blank.specs.Blank.{oneOf, blankOf}
 use Rattle.typed.specs.Typed.{typedOf}
-use Rattle.numbers.specs.Words.{packed, typedWord, numberIn}
+use Rattle.numbers.specs.Words.{packed, typedWord}
+use Rattle.numbers.specs.Promises.{numberIn}
 use Rattle.numbers.specs.Numbers.{settingsGiven, marginGiven, sizesGiven, recordGiven}
 use Rattle.numbers.specs.Cuts.{splits3Given, lentGiven, splitsGiven}
 use Rattle.numbers.specs.Places.{placeGiven}

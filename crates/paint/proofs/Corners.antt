@@ -9,7 +9,7 @@ use lib.ListN.{length, getD, set, length-set}
 use lib.Seq.{getD-set-same, getD-set-other}
 use Rattle.settings.specs.declared.Settings.{Settings}
 use Rattle.block.specs.Block.{Leaf, mark, topLeft, topRight, bottomLeft, topLine, middle, bottomLine}
-use Rattle.paint.specs.Parts.{bordersOf, topOf, leftOf, rightOf, bottomOf, middleOf}
+use Rattle.paint.specs.Contracts.{bordersOf, topOf, leftOf, rightOf, bottomOf, middleOf}
 use Rattle.sizes.proofs.Separator.{sep-one}
 
 -- ---- the altered copy

@@ -16,8 +16,7 @@ use Rattle.sizes.proofs.Either.{either}
 use Rattle.sizes.proofs.Stores.{sets-append}
 use Rattle.splits.specs.Splits.{isNamed}
 use Rattle.block.specs.Content.{ruled, column}
-use Rattle.paint.specs.Paint.{pasted}
-use Rattle.paint.specs.Parts.{spaces, crossed}
+use Rattle.paint.specs.Contracts.{pasted, spaces, crossed}
 use Rattle.block.proofs.Every.{Dims, paired-same, dims-lines, dims-replicate}
 use Rattle.block.proofs.Stores.{sets-sets}
 use Rattle.paint.proofs.Pasted.{sets-pasted, pasted-beside, pasted-aside}

@@ -6,9 +6,10 @@ use mathlib.Core.List.{List, [], _∷_, _++_, append-assoc}
 use lib.ListN.{length, getD, drop, replicate, length-append, length-replicate, replicate-append-replicate, List·getD-append}
 use lib.Seq.{sets, sets-eq, take-at, drop-at, getD-append-add}
 use Rattle.block.specs.Content.{feeds}
-use Rattle.paint.specs.Paint.{pasted}
+use Rattle.paint.specs.Contracts.{pasted}
 use Rattle.common.specs.Every.{Every}
-use Rattle.block.proofs.Every.{Dims, byteAt}
+use Rattle.block.proofs.Every.{Dims}
+use Rattle.block.specs.Promises.{byteAt}
 
 -- ---- their length and their places
 

@@ -7,15 +7,13 @@ use lib.ListN.{length, drop, getD, replicate, length-append, length-replicate, r
 use lib.Seq.{sets, length-sets}
 use Rattle.settings.specs.declared.Settings.{Settings}
 use Rattle.sizes.specs.declared.Size.{Size}
-use Rattle.feeds.specs.Feeds.{firstFeed}
+use Rattle.feeds.specs.Contracts.{firstFeed}
 use Rattle.sizes.specs.Text.{lines, textHeight}
 use Rattle.sizes.proofs.Either.{either}
 use Rattle.sizes.proofs.Lines.{rest, rest-none, rest-next, line-in}
 use Rattle.paint.specs.declared.body.Plan.{Plan}
 use Rattle.block.specs.Block.{indent, textLine, body}
-use Rattle.paint.specs.Paint.{pasted, Room}
-use Rattle.paint.specs.Steps.{Turned, Over}
-use Rattle.paint.specs.Parts.{spaces, clear, ground, groundLines, Blank}
+use Rattle.paint.specs.Contracts.{pasted, Room, spaces, clear, ground, groundLines, Blank, Turned, Over}
 use Rattle.block.proofs.Every.{Dims, paired-same, dims-append, dims-lines, dims-replicate}
 use Rattle.block.proofs.Stores.{sets-within}
 use Rattle.paint.proofs.Pasted.{pasted-append, sets-pasted, pasted-beside, pasted-over}

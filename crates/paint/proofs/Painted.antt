@@ -15,10 +15,9 @@ use Rattle.sizes.specs.Contracts.{Fits}
 use Rattle.block.specs.declared.Flags.{Flags}
 use Rattle.paint.specs.declared.borders.Borders.{Borders}
 use Rattle.block.specs.Block.{Leaf, body, topLine, middle, bottomLine, block, tall, wide}
-use Rattle.paint.specs.Paint.{pasted, Room, Wrote, leafWith, Paintable}
-use Rattle.paint.specs.Parts.{spaces, bordersOf, topOf, leftOf, rightOf, middleOf, bottomOf}
+use Rattle.paint.specs.Paint.{Wrote}
+use Rattle.paint.specs.Contracts.{pasted, Room, leafWith, Paintable, spaces, bordersOf, topOf, leftOf, rightOf, bottomOf, columnsIn, Lined, begunOf, Begins, Rest, endedOf, middleOf}
 use Rattle.paint.specs.declared.Begun.{Begun}
-use Rattle.paint.specs.Steps.{columnsIn, Lined, begunOf, Begins, Rest, endedOf}
 use Rattle.block.proofs.Every.{dims-paired}
 use Rattle.block.proofs.Dims.{body-dims, left-dims, edges-dims, middle-dims}
 use Rattle.paint.proofs.Pasted.{pasted-beside}

@@ -8,9 +8,10 @@ use lib.Seq.{sets, length-sets}
 use Rattle.sizes.proofs.Either.{either}
 use Rattle.sizes.proofs.Stores.{sets-append}
 use Rattle.block.specs.Content.{paired}
-use Rattle.paint.specs.Paint.{pasted}
+use Rattle.paint.specs.Contracts.{pasted}
 use Rattle.common.specs.Every.{Every}
-use Rattle.block.proofs.Every.{Dims, byteAt}
+use Rattle.block.proofs.Every.{Dims}
+use Rattle.block.specs.Promises.{byteAt}
 use Rattle.block.proofs.Stores.{sets-sets, sets-over, getD-before, getD-after, getD-in}
 
 pub length-pasted : (x : List (List ℕ)) (o : List ℕ) (at stride : ℕ) → length (pasted o at stride x) ≡ length o

@@ -11,8 +11,7 @@ use Rattle.sizes.specs.Sizes.{leafSize}
 use Rattle.sizes.specs.Contracts.{Fits}
 use Rattle.paint.specs.declared.body.Plan.{Plan}
 use Rattle.block.specs.Block.{textLine, body}
-use Rattle.paint.specs.Paint.{Room}
-use Rattle.paint.specs.Parts.{planOf}
+use Rattle.paint.specs.Contracts.{Room, planOf}
 use Rattle.block.proofs.TextLine.{before-le}
 use Rattle.paint.proofs.Room.{room-first, room-then}
 

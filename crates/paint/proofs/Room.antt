@@ -2,7 +2,7 @@
 use mathlib.Core.Path.{_≡_}
 use Prim.Native.Nat.{ℕ, suc, _+_, _-_, _*_, _≤_, _<_}
 use native.Mathlib.Omega.{arith}
-use Rattle.paint.specs.Paint.{Room}
+use Rattle.paint.specs.Contracts.{Room}
 
 -- ---- the first line, and the lines after it
 

@@ -1,3 +1,2 @@
 pub mod Paint
-pub mod Parts
-pub mod Steps
+pub mod Contracts

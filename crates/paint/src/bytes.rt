@@ -5,8 +5,8 @@ ghost use mathlib.Core.List.{[], _∷_};
 ghost use lib.ListN.{length, take, drop, replicate};
 ghost use lib.Seq.{sets};
 ghost use Rattle.splits.specs.Splits.{named};
-ghost use Rattle.paint.specs.Paint.{pasted, Room, Wrote};
-ghost use Rattle.paint.specs.Parts.{crossed};
+ghost use Rattle.paint.specs.Paint.{Wrote};
+ghost use Rattle.paint.specs.Contracts.{pasted, Room, crossed};
 
 // The n bytes from `at` on become `byte`.
 fn run(out: &mut [u8], at: usize, n: usize, byte: u8)

@@ -7,7 +7,8 @@ use lib.ListN.{length, getD, List·getD-append, List·getD-eq-default}
 use lib.Seq.{getD-append-add}
 use Rattle.sizes.proofs.Either.{either}
 use Rattle.block.specs.Content.{paired, feeds}
-use Rattle.block.proofs.Every.{Dims, dims-paired, every-at, byteAt, byte-left, byte-right, byte-above, byte-below}
+use Rattle.block.proofs.Every.{Dims, dims-paired, every-at, byte-left, byte-right, byte-above, byte-below}
+use Rattle.block.specs.Promises.{byteAt}
 use Rattle.paint.proofs.Feeds.{feeds-at}
 
 -- ---- one line

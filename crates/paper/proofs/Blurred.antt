@@ -10,7 +10,8 @@ use lib.Dec.{eqb, leb}
 use borrow.Author.Tests.{eqb-true, leb-true}
 use Rattle.common.specs.Choice.{pick}
 use Rattle.tree.specs.Tree.{Axis, across, down}
-use Rattle.tree.specs.Bytes.{lengthAt, contents, tagOf}
+use Rattle.tree.specs.Bytes.{lengthAt, tagOf}
+use Rattle.tree.specs.Promises.{contents}
 use Rattle.tree.specs.Reading.{isText, ReadOne, readTree}
 use Rattle.tree.proofs.Fronts.{contents-length}
 use Rattle.blank.specs.Alike.{covered}

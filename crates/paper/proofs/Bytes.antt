@@ -11,7 +11,7 @@ use Rattle.tree.specs.Tree.{Tree, Trees, cell, group, none, more, nodes}
 use Rattle.tree.specs.Accepted.{bytesOf}
 use Rattle.blank.specs.Alike.{recast, recast*, covered, masked, Alike}
 use Rattle.blank.specs.Blank.{shownByte, blanked, blanked*}
-use Rattle.blank.specs.Promises.{inTexts, inTexts*}
+use Rattle.blank.specs.Paper.{inTexts, inTexts*}
 use Rattle.blank.proofs.Exact.{tree-exact}
 use Rattle.blank.proofs.Paper.{blanked-outside}
 use Rattle.paper.specs.Pairs.{AlikeTrees}

@@ -14,9 +14,9 @@ use Rattle.tree.specs.Reading.{ReadOne, readTree}
 use Rattle.tree.specs.Accepted.{element}
 use Rattle.drafts.specs.Store.{StoreAnswer, isName, tagFor, tagIn, hasTag, fieldsOf, fieldBytes, storeOf, withoutTag, draftOf, saveTree, saveIn, saveOf, forgetOf, DraftOut, noReturn, returnFound, returnOf}
 use Rattle.drafts.specs.declared.Returned.{Returned}
-use Rattle.drafts.specs.Series.{DraftCall, answerTo, storeAfter}
-use Rattle.drafts.proofs.Fields.{Fields, read-store, store-of-length, fields-without, without-gone, without-shorter, joined-last, fields-last, element-field}
-use Rattle.drafts.proofs.Formed.{Formed, store-parsed, used-and-zeros}
+use Rattle.drafts.specs.Promises.{DraftCall, answerTo, storeAfter, Fields, Formed}
+use Rattle.drafts.proofs.Fields.{read-store, store-of-length, fields-without, without-gone, without-shorter, joined-last, fields-last, element-field}
+use Rattle.drafts.proofs.Formed.{store-parsed, used-and-zeros}
 use Rattle.drafts.proofs.Series.{name-tag}
 use Rattle.paper.specs.Pairs as pairs
 use Rattle.paper.specs.Pairs.{AlikeBytes, SameRead, SameField, SameFields, FormedStores, AlikeStores, SameStoreAnswer, SameCall, SameCalls}

@@ -9,7 +9,8 @@ use lib.Dec.{eqb, ltb}
 use borrow.Author.Tests.{ne-eqb, ltb-true, ltb-false}
 use Rattle.common.specs.Choice.{pick}
 use Rattle.settings.specs.declared.Settings.{Settings}
-use Rattle.settings.specs.Reading.{Parsed, readSettings, Bounded, Ranges}
+use Rattle.settings.specs.Reading.{Parsed, readSettings}
+use Rattle.settings.specs.Promises.{Bounded, Ranges}
 use Rattle.settings.proofs.Small.{settings-small}
 use Rattle.tree.specs.Tree.{Tree, Trees, cell, group, none, more}
 use Rattle.sheet.specs.Sheet.{sheet}

@@ -14,7 +14,6 @@ use Rattle.tree.specs.Reading.{readTree, answerOf}
 use Rattle.tree.specs.declared.ReadTree.{ReadTree}
 use Rattle.sizes.specs.Input.{Input, given, inputOf}
 use Rattle.leaf.specs.Answers.{leafRecordOf, leafPrintOf}
-use Rattle.frame.specs.declared.Written.{Written}
 use Rattle.sheet.specs.Answers.{sheetOf}
 use Rattle.places.specs.Places.{leafPlaceOf}
 use Rattle.places.specs.declared.FoundPlaces.{FoundPlaces}
@@ -44,10 +43,7 @@ use Rattle.paper.proofs.Calls.{same-by, masked-records, read-tree-alike
 use Rattle.paper.proofs.Printed.{print-leaf-alike, print-sheet-alike}
 use Rattle.paper.proofs.Blanked.{blank-texts-alike}
 use Rattle.paper.proofs.Drafts.{save-draft-alike, forget-draft-alike, return-draft-alike}
-
--- a printer's word
-abbrev wordFor : Written → ℕ
-wordFor w = packed (w .number) (w .count)
+use Rattle.paper.specs.Promises.{wordFor}
 
 masked-sizes-given : (o : List ℕ) (s : Settings) (t : Tree) → sizesGiven (given s (masked t)) o ≡ sizesGiven (given s t) o
 unfolding sizesGiven masked

@@ -9,11 +9,12 @@ use lib.Dec.{eqb, ltb}
 use borrow.Author.Tests.{ltb-true, ltb-false}
 use Rattle.common.specs.Choice.{pick}
 use Rattle.settings.specs.declared.Settings.{Settings}
-use Rattle.settings.specs.Reading.{Parsed, readSettings, Ranges}
+use Rattle.settings.specs.Reading.{Parsed, readSettings}
+use Rattle.settings.specs.Promises.{Ranges}
 use Rattle.settings.proofs.Small.{settings-small}
 use Rattle.tree.specs.Tree.{Tree, Trees, cell, group, none, more, nodes}
 use Rattle.tree.specs.Reading.{ReadOne}
-use Rattle.tree.specs.Accepted.{Texts}
+use Rattle.tree.specs.Promises.{Texts}
 use Rattle.tree.proofs.Sound.{tree-sound}
 use Rattle.sizes.specs.Input.{given, inputOf, settingsInput}
 use Rattle.sizes.proofs.Given.{takes}
@@ -24,7 +25,7 @@ use Rattle.sheet.specs.Sheet.{sheet}
 use Rattle.sheet.specs.Answers.{sheetOf}
 use Rattle.blank.specs.Alike.{recast, recast*, covered, masked, Alike}
 use Rattle.blank.specs.Blank.{blanked, dotsFor, blankOf}
-use Rattle.blank.specs.Promises.{blankWritten}
+use Rattle.blank.specs.Paper.{blankWritten}
 use Rattle.blank.proofs.Paper.{blanked-alike}
 use Rattle.blank.proofs.Calls.{paper-read}
 use Rattle.paper.specs.Own.{leafBytes, recastAt, recastAt*, changed, maskedIn, SheetOwnIn, LeafOwnIn}

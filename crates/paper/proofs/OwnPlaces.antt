@@ -11,14 +11,15 @@ use lib.Dec.{eqb, ltb}
 use borrow.Author.Tests.{eqb-true, eqb-false, ne-eqb, ltb-true, ltb-false}
 use Rattle.common.specs.Choice.{pick}
 use Rattle.settings.specs.declared.Settings.{Settings}
-use Rattle.settings.specs.Reading.{Ranges}
+use Rattle.settings.specs.Promises.{Ranges}
 use Rattle.tree.specs.Tree.{Tree, Trees, cell, group, none, more}
 use Rattle.sizes.specs.Input.{Input, refused, given, inputOf}
 use Rattle.sizes.proofs.Given.{takes}
 use Rattle.sizes.specs.Text.{lines}
 use Rattle.sheet.specs.Sheet.{sheet}
 use Rattle.sheet.specs.Answers.{sheetOf}
-use Rattle.sheet.proofs.Calls.{written, sheet-printed}
+use Rattle.sheet.proofs.Calls.{sheet-printed}
+use Rattle.sheet.specs.Promises.{bytesWritten}
 use Rattle.blank.specs.Alike.{recast, recast*, covered, masked}
 use Rattle.paper.specs.Own.{leafBytes, SheetOwn, LeafOwn}
 use Rattle.paper.specs.Layout.{SheetPlace, BlockPlace, SheetText, LeafText}
@@ -150,7 +151,7 @@ module _ (settings tree : List ℕ) where
 
   -- there the sheet printer has written that byte of the text
   pub text-printed : (o : List ℕ) → sheetOf (inputOf settings tree) o .answer .number ≡ 0 → (s : Settings) (t : Tree) → inputOf settings tree ≡ given s t → {i : ℕ} (p : SheetPlace s t i)
-      → getD (written (sheetOf (inputOf settings tree) o)) i 0 ≡ getD (getD (lines (p .leaf .text)) (p .text .row) []) (p .text .byte) 0
+      → getD (bytesWritten (sheetOf (inputOf settings tree) o)) i 0 ≡ getD (getD (lines (p .leaf .text)) (p .text .row) []) (p .text .byte) 0
   text-printed o h s t e {i} p =
       let a = sheet-printed settings tree o h in
       let g = same-given (sym (a .input) ∙ e) in

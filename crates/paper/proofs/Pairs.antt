@@ -9,11 +9,11 @@ use lib.Seq.{drop-length}
 use Rattle.settings.specs.Reading.{Parsed, readSettings}
 use Rattle.tree.specs.Tree as tree
 use Rattle.tree.specs.Tree.{Axis, Tree, Trees}
-use Rattle.tree.specs.Bytes.{lengthAt, contents, tagOf}
+use Rattle.tree.specs.Bytes.{lengthAt, tagOf}
 use Rattle.tree.specs.Reading.{isText, ReadOne, readTree}
-use Rattle.tree.specs.Accepted.{Texts, Texts*}
-use Rattle.tree.specs.Planning.{Plan, Plans, PlanOne, PlanIs, PlanAre, wholeIn}
-use Rattle.tree.proofs.Same.{treeOf, treesOf, treeRead, read-same}
+use Rattle.tree.specs.Promises.{Texts, Texts*, contents, PlanIs, PlanAre, treeOf, treesOf, treeRead}
+use Rattle.tree.specs.Planning.{Plan, Plans, PlanOne, wholeIn}
+use Rattle.tree.proofs.Same.{read-same}
 use Rattle.tree.proofs.Plain.{planOf, plansOf, plan-is}
 use Rattle.tree.proofs.Fronts.{contents-length}
 use Rattle.sizes.specs.Text.{lineLengths}

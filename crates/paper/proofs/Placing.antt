@@ -18,15 +18,17 @@ use Rattle.sizes.specs.Contracts.{Fits}
 use Rattle.sizes.proofs.Elems.{elem-none}
 use Rattle.block.specs.Content.{feeds}
 use Rattle.block.specs.Block.{block}
-use Rattle.block.proofs.Every.{every-elem, Dims, byteAt}
+use Rattle.block.proofs.Every.{every-elem, Dims}
+use Rattle.block.specs.Promises.{byteAt}
 use Rattle.block.proofs.Dims.{block-dims}
 use Rattle.layout.specs.Walk.{Placed, leafOf, walk, root, leaves, insideW, insideH}
-use Rattle.layout.proofs.Laid.{tallAt, wideAt}
+use Rattle.layout.specs.Promises.{tallAt, wideAt}
 use Rattle.layout.proofs.Fit.{LeafFits, leaves-fit}
 use Rattle.frame.specs.Frame.{W, H}
 use Rattle.leaf.specs.Answers.{numbered}
 use Rattle.leaf.proofs.Seek.{leaf-found, found-leaf}
-use Rattle.sheet.specs.Sheet.{margined, edgedAt, sheetLines, sheet}
+use Rattle.sheet.specs.Sheet.{margined, sheetLines, sheet}
+use Rattle.sheet.specs.Promises.{edgedAt}
 use Rattle.sheet.proofs.Margins.{margined-dims, margined-at, margined-byte}
 use Rattle.sheet.proofs.Content.{sheet-dims, sheet-shows}
 use Rattle.sheet.proofs.Tiling.{Covers, tiling}

@@ -11,10 +11,10 @@ use lib.Dec.{eqb, ltb}
 use borrow.Author.Tests.{ne-eqb, eqb-true, eqb-false, ltb-true, ltb-false, lt-ltb, le-ltb}
 use Rattle.common.specs.Choice.{pick}
 use Rattle.settings.specs.declared.Settings.{Settings}
-use Rattle.settings.specs.Reading.{Bounded, Ranges}
+use Rattle.settings.specs.Promises.{Bounded, Ranges}
 use Rattle.tree.specs.Tree.{Tree, Trees, cell, group, none, more, nodes}
 use Rattle.tree.specs.Reading.{isTextByte, isText}
-use Rattle.tree.specs.Accepted.{Texts, Texts*}
+use Rattle.tree.specs.Promises.{Texts, Texts*}
 use Rattle.blank.specs.Alike.{recast, recast*, covered}
 use Rattle.blank.specs.Blank.{shownByte, blanked, blanked*}
 use Rattle.paper.specs.Own.{recastAt, recastAt*, changed, maskedIn}

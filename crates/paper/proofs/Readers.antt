@@ -8,7 +8,8 @@ use lib.ListN.{length, getD, take, drop, length-map, length-drop}
 use lib.Dec.{eqb, ltb, leb}
 use Rattle.common.specs.Choice.{pick, both}
 use Rattle.tree.specs.Tree.{Axis, across, down}
-use Rattle.tree.specs.Bytes.{lengthAt, contents, tagOf, axisOf}
+use Rattle.tree.specs.Bytes.{lengthAt, tagOf, axisOf}
+use Rattle.tree.specs.Promises.{contents}
 use Rattle.tree.specs.Reading.{isText}
 use Rattle.tree.specs.Planning.{Plan, Plans, PlanOne, PlanAll, lastTag, headerIn, isRange, cellIn, rangeIn, groupIn, moreIn, elementIn, sequenceIn, wholeIn}
 use Rattle.tree.specs.declared.Header.{Header}

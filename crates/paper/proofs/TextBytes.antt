@@ -13,12 +13,13 @@ use Rattle.sizes.specs.Text.{lines, textWidth, textHeight}
 use Rattle.sizes.specs.Sizes.{sep, leafSize}
 use Rattle.sizes.specs.Contracts.{Fits}
 use Rattle.block.specs.Block.{Leaf, before, indent, textLine, body, topLine, middle, block, tall, wide}
-use Rattle.block.proofs.Every.{every-at, every-elem, byteAt, byte-left, byte-right}
+use Rattle.block.proofs.Every.{every-at, every-elem, byte-left, byte-right}
+use Rattle.block.specs.Promises.{byteAt}
 use Rattle.block.proofs.TextLine.{before-le, mode-le, lines-width, lines-height}
 use Rattle.paint.proofs.Feeds.{feeds-at}
 use Rattle.block.proofs.Dims.{body-dims, left-dims, middle-dims, block-dims}
 use Rattle.layout.specs.Walk.{leafOf, leaves}
-use Rattle.layout.proofs.Laid.{tallAt, wideAt}
+use Rattle.layout.specs.Promises.{tallAt, wideAt}
 use Rattle.layout.proofs.Fit.{LeafFits, leaves-fit}
 use Rattle.leaf.proofs.Seek.{found-leaf}
 use Rattle.sheet.specs.Sheet.{sheet}

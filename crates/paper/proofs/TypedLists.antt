@@ -20,7 +20,7 @@ use Rattle.sheet.specs.Sheet.{sheet}
 use Rattle.frame.specs.Frame.{tooLarge}
 use Rattle.blank.specs.Alike.{Alike}
 use Rattle.blank.proofs.Lengths.{is-bytes-in, bytes-length}
-use Rattle.typed.specs.Print.{typeOf}
+use Rattle.typed.specs.Promises.{typeOf}
 use Rattle.typed.specs.Typed.{typedRefusal, typedAccepted, typedOf}
 use Rattle.typed.proofs.Round.{round-trip}
 use Rattle.typed_program.specs.Words.{faultText}

@@ -6,7 +6,8 @@ use mathlib.Core.List.{List, _++_, map}
 use lib.ListN.{length, getD, take}
 use lib.Dec.{eqb, leb}
 use Rattle.common.specs.Choice.{pick}
-use Rattle.tree.specs.Bytes.{lengthAt, contents}
+use Rattle.tree.specs.Bytes.{lengthAt}
+use Rattle.tree.specs.Promises.{contents}
 use Rattle.tree.specs.Reading.{isText}
 use Rattle.blank.specs.Alike.{covered}
 use Rattle.paper.specs.Pairs.{behind}

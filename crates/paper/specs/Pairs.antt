@@ -8,15 +8,15 @@ use lib.ListN.{length, getD, take, drop}
 use Rattle.settings.specs.declared.Settings.{Settings}
 use Rattle.settings.specs.Reading.{settingsEnd}
 use Rattle.tree.specs.Tree.{Axis, Tree}
-use Rattle.tree.specs.Bytes.{Is, lengthAt, contents, tagOf}
+use Rattle.tree.specs.Bytes.{lengthAt, tagOf}
 use Rattle.tree.specs.Reading.{isText, ReadOne}
-use Rattle.tree.specs.Accepted.{Texts}
-use Rattle.tree.specs.Planning.{Plan, Plans, PlanIs}
+use Rattle.tree.specs.Promises.{Texts, Is, contents, PlanIs}
+use Rattle.tree.specs.Planning.{Plan, Plans}
 use Rattle.sizes.specs.Text.{lineLengths}
 use Rattle.sizes.specs.Input.{Input, refused, given, inputOf}
 use Rattle.plan.specs.Answers.{PlanInput}
 use Rattle.drafts.specs.Store.{tagIn, fieldsOf, StoreAnswer}
-use Rattle.drafts.specs.Series.{DraftCall, save, forget, return}
+use Rattle.drafts.specs.Promises.{DraftCall, save, forget, return}
 use Rattle.blank.specs.Alike.{covered, Alike}
 
 -- ---- bytes, of a tree or of none

@@ -5,17 +5,19 @@ use mathlib.Core.List.{List}
 use lib.ListN.{length}
 use Rattle.tree.specs.Reading.{readTree, answerOf}
 use Rattle.sizes.specs.Input.{inputOf}
+use Rattle.drafts.specs.Store.{saveOf}
+use Rattle.fold.specs.Answers.{foldOf}
 use Rattle.collector.specs.declared.SizeRecord.{SizeRecord}
 use Rattle.collector.specs.Records.{collectOf}
+use Rattle.blank.specs.Blank.{blankOf}
+use Rattle.frame.specs.declared.Written.{Written}
+use Rattle.widen.specs.Answers.{nearestOf}
+use Rattle.plan.specs.Answers.{planInput, plannedOf}
 use Rattle.leaf.specs.Answers.{leafRecordOf, leafPrintOf}
 use Rattle.sheet.specs.Answers.{sheetOf}
 use Rattle.places.specs.Places.{leafPlaceOf}
 use Rattle.places.specs.Together.{findsOf}
-use Rattle.fold.specs.Answers.{foldOf}
-use Rattle.plan.specs.Answers.{planInput, plannedOf}
-use Rattle.widen.specs.Answers.{nearestOf}
-use Rattle.drafts.specs.Store.{saveOf}
-use Rattle.blank.specs.Blank.{blankOf}
+use Rattle.numbers.specs.Words.{packed}
 use Rattle.paper.specs.Own.{SheetOwn, LeafOwn}
 use Rattle.paper.specs.Pairs.{AlikeBytes, AlikeStores, SameStoreAnswer}
 use Rattle.paper.specs.Lent.{Agree, BothCollect, BothPrint, BothFind, BothFold, BothNearest, BothBlank}
@@ -39,3 +41,7 @@ pub record OneLayout (p q : List ℕ) : Type 0 where
   -- the stores stay alike, so forgetting and returning answer equally too (`forget-draft-alike`, `return-draft-alike`)
   pub save-draft : (store other : List ℕ) → AlikeStores store other → (name : ℕ) → SameStoreAnswer (saveOf store name p) (saveOf other name q)
   pub blank-texts : (ns o r : List ℕ) → length o ≡ length r → BothBlank AlikeBytes o r (blankOf p ns o) (blankOf q ns r)
+
+-- a printer's word
+abbrev pub wordFor : Written → ℕ
+wordFor w = packed (w .number) (w .count)

@@ -23,7 +23,8 @@ use Rattle.places.specs.declared.LeafPlace.{LeafPlace}
 use Rattle.places.specs.Words.{lineOf, columnOf, answerWord, placeWord}
 use Rattle.places.specs.Places.{areas, faultOf, noLeafPlace, leafPlaceIn, leafPlaceOf}
 use Rattle.places.specs.Locating.{locate, rootAnchor}
-use Rattle.places.specs.Contracts.{checkedOf, Frames, unpacked, TreeAsks, Locates}
+use Rattle.places.specs.Contracts.{checkedOf, Frames, TreeAsks, Locates}
+use Rattle.places.specs.Promises.{unpacked}
 use Rattle.places.proofs.Owners.{Owners, ownWord, answers-are}
 use Rattle.places.proofs.Reverse.{within-sheet, forward-at, number-is, word-owned}
 use Rattle.places.proofs.Checked.{Checked, chosen}

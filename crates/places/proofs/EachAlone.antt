@@ -8,12 +8,11 @@ use Rattle.sizes.specs.Input.{inputOf}
 use Rattle.block.proofs.Every.{every-at}
 use Rattle.places.specs.Words.{lineOf, columnOf}
 use Rattle.places.specs.Places.{leafPlaceOf}
-use Rattle.places.specs.Contracts.{unpacked}
 use Rattle.places.specs.Together.{findsOf}
-use Rattle.places.specs.Promises.{EachAsAlone}
+use Rattle.places.specs.Promises.{EachAsAlone, unpacked, Alone, aloneWord}
 use Rattle.places.proofs.Calls.{unpack-same}
 use Rattle.places.proofs.Theorems.{place-small}
-use Rattle.places.proofs.Together.{Alone, aloneWord, together}
+use Rattle.places.proofs.Together.{together}
 
 mapped-at : (f : ℕ → ℕ) (ps fs : List ℕ) (i : ℕ) → i < length ps → getD (map f ps ++ fs) i 0 ≡ f (getD ps i 0)
 mapped-at f [] fs i h = absurd (omega arith)

@@ -14,7 +14,7 @@ use Rattle.sizes.specs.Text.{total, greatest}
 use Rattle.sizes.specs.Sizes.{sep, along, beside, sized, spanned, leafSize, natural, naturals}
 use Rattle.sizes.specs.Contracts.{Fits}
 use Rattle.sizes.proofs.Fill.{fits-refl}
-use Rattle.plan.specs.Choices.{WithinRange, Chooses, Chooses*}
+use Rattle.plan.specs.Promises.{WithinRange, Chooses, Chooses*}
 use Rattle.plan.specs.Ends.{noPlans?, rangeSize, endSize, endSizes, outer}
 
 -- ---- larger children make a larger group

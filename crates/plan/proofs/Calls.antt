@@ -9,8 +9,8 @@ use Rattle.settings.specs.Reading.{Parsed, readSettings}
 use Rattle.tree.specs.Tree as tree
 use Rattle.tree.specs.Tree.{Tree}
 use Rattle.tree.specs.Reading.{ReadOne, readTree}
-use Rattle.tree.specs.Planning.{Plan, Plans, PlanOne, readPlan, Allowed, Allowed*}
-use Rattle.tree.proofs.Same.{treeOf, treesOf}
+use Rattle.tree.specs.Planning.{Plan, Plans, PlanOne, readPlan}
+use Rattle.tree.specs.Promises.{Allowed, Allowed*, treeOf, treesOf}
 use Rattle.tree.proofs.Plain.{no-range}
 use Rattle.tree.proofs.Sound.{read-as}
 use Rattle.tree.proofs.PlanComplete.{read-wider}
@@ -21,8 +21,7 @@ use Rattle.sizes.specs.Input as sizes
 use Rattle.sizes.specs.Input.{inputOf}
 use Rattle.frame.specs.Frame.{W, H}
 use Rattle.plan.specs.declared.Planned.{Planned}
-use Rattle.plan.specs.Choices.{Chooses}
-use Rattle.plan.specs.Promises.{Between, Reaches, PlanHolds, treePlanned}
+use Rattle.plan.specs.Promises.{Between, Reaches, PlanHolds, treePlanned, Chooses}
 use Rattle.plan.specs.Ends.{noPlans?, endSize, endSizes, outer}
 use Rattle.plan.specs.Answers.{planInput, treeInput, settingsInput, plannedOf, answered}
 use Rattle.plan.proofs.Bounds.{plan-bounds}

@@ -12,13 +12,15 @@ use borrow.Author.Tests.{eqb-true, eqb-false}
 use Rattle.settings.specs.declared.Settings.{Settings}
 use Rattle.tree.specs.declared.front.Front.{Front}
 use Rattle.tree.specs.Tree.{Axis, across}
-use Rattle.tree.specs.Bytes.{lengthAt, contents, axisOf, frontOf}
-use Rattle.tree.specs.Planning.{Plan, Plans, PlanIs, PlanAre}
+use Rattle.tree.specs.Bytes.{lengthAt, axisOf}
+use Rattle.tree.specs.Promises.{contents, PlanIs, PlanAre}
+use Rattle.tree.specs.Contracts.{frontOf}
+use Rattle.tree.specs.Planning.{Plan, Plans}
 use Rattle.tree.proofs.Fronts.{contents-length, no-contents, tag-low, tag-high, axis-of, front-leaf, front-group, front-end}
 use Rattle.tree.proofs.PlanSound.{plan-whole}
 use Rattle.sizes.specs.Sizes.{leafSize}
 use Rattle.plan.specs.Ends.{noPlans?, endSize}
-use Rattle.plan.specs.Measuring.{endOf}
+use Rattle.plan.specs.Contracts.{endOf}
 
 -- ---- a range
 

@@ -10,12 +10,14 @@ use Rattle.settings.specs.Reading as settings
 use Rattle.settings.specs.Reading.{Parsed, readSettings}
 use Rattle.settings.proofs.Small.{settings-small}
 use Rattle.tree.specs.declared.ReadTree.{ReadTree}
-use Rattle.tree.specs.Planning.{Plan, PlanOne, planAnswer, readPlan, GotPlan}
+use Rattle.tree.specs.Planning.{Plan, PlanOne, readPlan}
+use Rattle.tree.specs.Promises.{GotPlan}
+use Rattle.tree.specs.Contracts.{planAnswer}
 use Rattle.tree.proofs.PlanSound.{refusal-low, plan-sound, plan-refusal}
 use Rattle.sizes.specs.declared.Size.{Size}
 use Rattle.sizes.proofs.Inputs.{settings-yes}
 use Rattle.plan.specs.Ends.{endSize, outer}
-use Rattle.plan.specs.Measuring.{ReadyPlan}
+use Rattle.plan.specs.Contracts.{ReadyPlan}
 use Rattle.plan.specs.Answers.{PlanInput, treeInput, settingsInput, planInput, noPlanned, answered, plannedOf}
 use Rattle.plan.proofs.Large.{LowBytes, end-short}
 

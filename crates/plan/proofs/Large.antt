@@ -8,17 +8,18 @@ use lib.ListN.{length, getD, take, drop, length-drop}
 use lib.Seq.{getD-drop}
 use Rattle.common.specs.Choice.{pick}
 use Rattle.settings.specs.declared.Settings.{Settings}
-use Rattle.settings.specs.Reading.{Ranges}
+use Rattle.settings.specs.Promises.{Ranges}
 use Rattle.tree.specs.Tree.{Axis, across, down}
-use Rattle.tree.specs.Bytes.{lengthAt, contents}
-use Rattle.tree.specs.Planning.{Plan, Plans, PlanIs, PlanAre, GotPlan}
+use Rattle.tree.specs.Bytes.{lengthAt}
+use Rattle.tree.specs.Promises.{contents, PlanIs, PlanAre, GotPlan}
+use Rattle.tree.specs.Planning.{Plan, Plans}
 use Rattle.tree.proofs.PlanSound.{plan-whole}
 use Rattle.sizes.specs.Text.{total}
 use Rattle.sizes.specs.Sizes.{along, sep}
 use Rattle.sizes.proofs.Bounds.{each, leaf-le, sep-le, span-le}
 use Rattle.sizes.proofs.Limits.{contents-le, each-small}
 use Rattle.plan.specs.Ends.{noPlans?, rangeSize, endSize, endSizes}
-use Rattle.plan.specs.Measuring.{Short}
+use Rattle.plan.specs.Contracts.{Short}
 
 -- ---- a range's numbers are bytes
 

@@ -6,7 +6,8 @@ use mathlib.Core.List.{List}
 use lib.ListN.{length, drop, length-drop}
 use lib.Seq.{drop-drop}
 use Rattle.tree.specs.Bytes.{lengthAt}
-use Rattle.tree.specs.Planning.{Plan, Plans, PlanIs, PlanAre}
+use Rattle.tree.specs.Planning.{Plan, Plans}
+use Rattle.tree.specs.Promises.{PlanIs, PlanAre}
 use Rattle.tree.proofs.PlanSound.{plan-whole}
 
 -- at byte `at` of s, where the plans `rest` are still to come

@@ -10,11 +10,11 @@ use Rattle.settings.specs.declared.Settings.{Settings}
 use Rattle.tree.specs.Tree as tree
 use Rattle.tree.specs.Tree.{Tree, Trees}
 use Rattle.tree.specs.Reading.{isText}
-use Rattle.tree.specs.Accepted.{Texts, Texts*}
-use Rattle.tree.specs.Planning.{Plan, Plans, GoodRange, Allowed, Allowed*}
+use Rattle.tree.specs.Promises.{Texts, Texts*, GoodRange, Allowed, Allowed*}
+use Rattle.tree.specs.Planning.{Plan, Plans}
 use Rattle.sizes.specs.Text.{onto, lines, greatest, lineLengths, textWidth, textHeight}
 use Rattle.sizes.specs.Sizes.{leafSize, natural, naturals}
-use Rattle.plan.specs.Choices.{WithinRange, Chooses, Chooses*}
+use Rattle.plan.specs.Promises.{WithinRange, Chooses, Chooses*}
 use Rattle.plan.specs.Ends.{noPlans?, rangeSize, endSize, endSizes}
 
 -- ---- a text of any width and line count

@@ -7,9 +7,11 @@ use mathlib.Core.List.{List, map}
 use lib.ListN.{length, take, drop, getD, length-drop}
 use Rattle.settings.specs.declared.Settings.{Settings}
 use Rattle.tree.specs.Tree.{Axis, across, down}
-use Rattle.tree.specs.Bytes.{lengthAt, axisOf, frontOf}
+use Rattle.tree.specs.Bytes.{lengthAt, axisOf}
+use Rattle.tree.specs.Contracts.{frontOf}
 use Rattle.tree.specs.declared.front.Front.{Front}
-use Rattle.tree.specs.Planning.{Plan, Plans, PlanIs, PlanAre}
+use Rattle.tree.specs.Planning.{Plan, Plans}
+use Rattle.tree.specs.Promises.{PlanIs, PlanAre}
 use Rattle.tree.proofs.PlanSound.{plan-whole}
 use Rattle.sizes.specs.declared.Size.{Size}
 use Rattle.sizes.specs.declared.natural.Span.{Span}
@@ -18,7 +20,7 @@ use Rattle.sizes.specs.Sizes.{along, beside, sized, sep, spanned, leafSize}
 use Rattle.sizes.specs.Contracts.{withChild, spanOf, WideChild, WideSpan}
 use Rattle.sizes.proofs.Fill.{along-sized, beside-sized}
 use Rattle.plan.specs.Ends.{noPlans?, endSize, endSizes}
-use Rattle.plan.specs.Measuring.{Short, endOf, ReadyPlan, ReadyPlans}
+use Rattle.plan.specs.Contracts.{Short, endOf, ReadyPlan, ReadyPlans}
 use Rattle.plan.proofs.Fronts.{RangeIs, PlanGroupIs, inside-shorter, range-at, leaf-at, group-at}
 use Rattle.plan.proofs.Passing.{PassingPlans, begin, SomePlans, next-is, passed}
 

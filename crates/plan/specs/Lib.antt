@@ -1,5 +1,4 @@
-pub mod Choices
 pub mod Ends
-pub mod Measuring
+pub mod Contracts
 pub mod Answers
 pub mod Promises

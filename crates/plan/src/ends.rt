@@ -13,7 +13,7 @@ ghost use Rattle.tree.specs.Planning.{Plan};
 ghost use Rattle.tree.specs.Bytes.{axisOf};
 ghost use Rattle.sizes.specs.Sizes.{leafSize};
 ghost use Rattle.plan.specs.Ends.{rangeSize, endSize, outer};
-ghost use Rattle.plan.specs.Measuring.{Short, Wide, endOf, ReadyPlan, ReadyPlans};
+ghost use Rattle.plan.specs.Contracts.{Short, Wide, endOf, ReadyPlan, ReadyPlans};
 
 // A text of that width and line count, with the padding around it.
 fn padded(settings: Settings, width: usize, height: usize) -> Size

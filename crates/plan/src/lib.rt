@@ -4,7 +4,7 @@ mod ends;
 use ends::sheet_end;
 use sizes::Size;
 ghost use mathlib.Core.Path.{_≡_};
-ghost use Rattle.plan.specs.Measuring.{Wide};
+ghost use Rattle.plan.specs.Contracts.{Wide};
 ghost use Rattle.plan.specs.Answers.{noPlanned, answered, planInput, plannedOf};
 
 // Number 0, and the least and greatest W and H; or a refusal.

@@ -9,7 +9,8 @@ use lib.Seq.{getD-take, getD-drop, length-take-le}
 use Rattle.common.specs.Choice.{pick}
 use Rattle.settings.specs.declared.Settings.{Settings}
 use Rattle.settings.specs.declared.Margin.{Margin}
-use Rattle.settings.specs.Reading.{low, high, marginLow, marginHigh, within, marginOf, noMargin, settingsOf, refused, read, readBehind, readSettings, Bounded, Printable, Ranges}
+use Rattle.settings.specs.Reading.{low, high, marginLow, marginHigh, within, marginOf, noMargin, settingsOf, refused, read, readBehind, readSettings}
+use Rattle.settings.specs.Promises.{Bounded, Printable, Ranges}
 use Rattle.settings.proofs.Within.{within-length, within-at, read-form, form-front}
 
 -- the number at k + i where n equal ones stand from k on

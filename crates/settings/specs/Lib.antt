@@ -1,2 +1,4 @@
 pub mod Reading
 pub mod Defaults
+pub mod Figures
+pub mod Promises

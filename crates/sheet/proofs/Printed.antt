@@ -16,7 +16,7 @@ use Rattle.sizes.specs.declared.Measured.{Measured}
 use Rattle.sizes.specs.Input.{inputOf}
 use Rattle.sizes.specs.declared.Size.{Size}
 use Rattle.sizes.specs.Contracts.{measuredOf, naturalAt}
-use Rattle.paint.specs.Paint.{Room, pasted}
+use Rattle.paint.specs.Contracts.{Room, pasted}
 use Rattle.common.specs.Every.{Every}
 use Rattle.block.proofs.Every.{every-map, every-and}
 use Rattle.frame.specs.declared.Frame.{Frame}
@@ -27,7 +27,8 @@ use Rattle.frame.specs.Printer.{Prints, noPrint}
 use Rattle.frame.proofs.Printers.{Answers}
 use Rattle.frame.proofs.Sheets.{sheetFrame, large-no}
 use Rattle.entries.specs.Contracts.{Listing, Asks, PaintsAll, paintAll}
-use Rattle.layout.proofs.Laid.{tallAt, wideAt, root-laid}
+use Rattle.layout.proofs.Laid.{root-laid}
+use Rattle.layout.specs.Promises.{tallAt, wideAt}
 use Rattle.layout.proofs.Fit.{LeafFits, leaves-fit}
 use Rattle.layout.proofs.Inside.{Inside, laid-inside}
 use Rattle.sizes.proofs.Heights.{natural-height}

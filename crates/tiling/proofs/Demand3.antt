@@ -12,9 +12,9 @@ use lib.Dec.{ltb}
 use borrow.Author.Tests.{ltb-false, le-ltb}
 use Rattle.common.specs.Choice.{pick}
 use Rattle.settings.specs.declared.Settings.{Settings}
-use Rattle.settings.specs.Reading.{Ranges}
+use Rattle.settings.specs.Promises.{Ranges}
 use Rattle.tree.specs.Tree.{Axis, across, down, Tree, group, Trees, more, count, nodes}
-use Rattle.tree.specs.Nodes.{subtrees, childNodes}
+use Rattle.tree.specs.Promises.{subtrees, childNodes}
 use Rattle.tree.proofs.Fronts.{nodes-low, LeafIs, a-cell, an-empty, leaf-nodes}
 use Rattle.splits.specs.Lists.{listOf, splitList}
 use Rattle.sizes.specs.declared.Size.{Size}
@@ -23,28 +23,32 @@ use Rattle.sizes.specs.Sizes.{sep, beside, natural, Sizes, treeSizes}
 use Rattle.sizes.specs.Input.{given, inputOf}
 use Rattle.sizes.proofs.Elems.{elem-none, elem-in}
 use Rattle.sizes.proofs.Heights.{leaf-height}
-use Rattle.sizes.proofs.Nodes.{subtrees-length, sizesAt, sizes-at, part-whole, part-own, tree-naturals}
+use Rattle.sizes.proofs.Nodes.{subtrees-length, sizes-at, part-whole, part-own, tree-naturals}
+use Rattle.sizes.specs.Promises.{sizesAt}
 use Rattle.sizes.proofs.Within.{tree-sizes-length}
 use Rattle.sizes.proofs.Listed.{groups-filled, row-filled, column-filled}
 use Rattle.sizes.proofs.Given.{takes}
 use Rattle.collector.specs.declared.SizeRecord.{SizeRecord}
 use Rattle.collector.specs.Below.{belows}
-use Rattle.collector.specs.Records.{Outcome, noRecord, collectOf}
-use Rattle.collector.proofs.Zipped.{sizesOf, belowOf, noSizes}
+use Rattle.collector.specs.Records.{Outcome, collectOf}
+use Rattle.collector.specs.Promises.{noRecord, sizesOf, belowOf, Collected}
+use Rattle.collector.proofs.Zipped.{noSizes}
 use Rattle.collector.proofs.Siblings.{below-at}
-use Rattle.collector.proofs.Written.{Written, collected}
+use Rattle.collector.proofs.Written.{collected}
 use Rattle.block.specs.declared.Flags.{Flags}
 use Rattle.block.specs.Content.{feeds}
 use Rattle.block.specs.Block.{block, tall, wide}
-use Rattle.block.proofs.Every.{every-elem, byteAt, Dims}
+use Rattle.block.proofs.Every.{every-elem, Dims}
+use Rattle.block.specs.Promises.{byteAt}
 use Rattle.layout.specs.Walk.{Placed, leafOf, leaves, insideW, insideH}
-use Rattle.layout.specs.Starts.{Place, placeOf, startAt}
+use Rattle.layout.specs.Contracts.{placeOf}
+use Rattle.layout.specs.Promises.{Place, startAt, tallAt, wideAt, LeafAt, allottedIn}
 use Rattle.layout.proofs.Stand.{entry-at}
-use Rattle.layout.proofs.Laid.{tallAt, wideAt}
 use Rattle.layout.proofs.Fit.{LeafFits, leaves-fit}
-use Rattle.layout.proofs.Named.{LeafAt, same-leaf, leaf-size, leaf-node, node-leaf}
-use Rattle.layout.proofs.Starts.{allottedIn, root-start, row-start, column-start, leaf-start}
-use Rattle.frame.specs.Frame.{W, H, bytesOf, tooLarge}
+use Rattle.layout.proofs.Named.{same-leaf, leaf-size, leaf-node, node-leaf}
+use Rattle.layout.proofs.Starts.{root-start, row-start, column-start, leaf-start}
+use Rattle.frame.specs.Frame.{W, H, tooLarge}
+use Rattle.frame.specs.Promises.{bytesOf}
 use Rattle.frame.specs.Printer.{Prints, noPrint, printTo}
 use Rattle.leaf.specs.declared.LeafRecord.{LeafRecord}
 use Rattle.leaf.specs.Answers.{numbered, recordFound, leafRecordOf, leafPrintOf}
@@ -58,7 +62,8 @@ use Rattle.sheet.proofs.Parted.{block-parted}
 use Rattle.sheet.proofs.Bytes.{leaf-dims}
 use Rattle.sheet.proofs.Tiling.{Covers}
 use Rattle.sheet.proofs.Demand3.{covered-once, sheet-rectangle, place-owned}
-use Rattle.sheet.proofs.Calls.{SheetOf, sheet-printed, leaf-written}
+use Rattle.sheet.proofs.Calls.{sheet-printed, leaf-written}
+use Rattle.sheet.specs.Promises.{SheetOf}
 use Rattle.tiling.specs.Promises.{sizesWritten, allottedWritten, linesIn, byteIn, Rectangle, OneNode, leafText, startIn, blockLines, blockColumns, BlockCovers, leafSeen, insideLines, insideColumns, InRectangle, Tiles, Sharing, Tiled, SharedOut}
 
 -- ---- entries of lists
@@ -347,7 +352,7 @@ demand-3-sizes bs ts l h =
     let w = collected bs ts l (collectOf (inputOf bs ts) l) refl h in
     record { settings = w .settings; tree = w .tree; input = w .input; sharing = sharing bs ts (w .settings) (w .tree) _ (w .count) (w .sizes) }
 
-tiles : (bs ts o : List ℕ) (l : List SizeRecord) (a : SheetOf bs ts o) (w : Written bs ts l (collectOf (inputOf bs ts) l)) → a .settings ≡ w .settings → a .tree ≡ w .tree
+tiles : (bs ts o : List ℕ) (l : List SizeRecord) (a : SheetOf bs ts o) (w : Collected bs ts l (collectOf (inputOf bs ts) l)) → a .settings ≡ w .settings → a .tree ≡ w .tree
     → Tiles bs ts (w .settings) (w .tree) (collectOf (inputOf bs ts) l) o
 tiles bs ts o l a w x y =
     let s = w .settings in

@@ -10,17 +10,18 @@ use Rattle.common.specs.Choice.{pick}
 use Rattle.common.specs.Every.{Every}
 use Rattle.settings.specs.declared.Settings.{Settings}
 use Rattle.tree.specs.Tree.{Axis, across, down, Tree, cell, group, Trees, count, nodes}
-use Rattle.tree.specs.Nodes.{subtrees, childNodes}
+use Rattle.tree.specs.Promises.{subtrees, childNodes}
 use Rattle.splits.specs.Lists.{listOf}
 use Rattle.sizes.specs.declared.Size.{Size}
 use Rattle.sizes.specs.Text.{lines, total}
 use Rattle.sizes.specs.Sizes.{sep, natural}
 use Rattle.sizes.specs.Input.{given, inputOf}
 use Rattle.collector.specs.declared.SizeRecord.{SizeRecord}
-use Rattle.collector.specs.Records.{Outcome, noRecord, collectOf}
+use Rattle.collector.specs.Records.{Outcome, collectOf}
+use Rattle.collector.specs.Promises.{noRecord}
 use Rattle.block.specs.Block.{Leaf, block}
-use Rattle.layout.specs.Starts.{Place, origin, startAt}
-use Rattle.frame.specs.Frame.{bytesOf}
+use Rattle.layout.specs.Promises.{Place, origin, startAt}
+use Rattle.frame.specs.Promises.{bytesOf}
 use Rattle.frame.specs.Printer.{Prints}
 use Rattle.leaf.specs.declared.LeafRecord.{LeafRecord}
 use Rattle.leaf.specs.Answers.{leafRecordOf, leafPrintOf}

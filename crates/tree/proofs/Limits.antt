@@ -9,9 +9,10 @@ use lib.Dec.{eqb, ltb, leb}
 use borrow.Author.Tests.{eq-eqb, ne-eqb, le-ltb}
 use Rattle.common.specs.Choice.{pick, both}
 use Rattle.tree.specs.Tree.{Axis}
-use Rattle.tree.specs.Bytes.{lengthAt, contents, axisOf}
+use Rattle.tree.specs.Bytes.{lengthAt, axisOf}
+use Rattle.tree.specs.Promises.{contents, PlanIs, PlanAre}
 use Rattle.tree.specs.Reading.{isText}
-use Rattle.tree.specs.Planning.{Plan, Plans, headerIn, oddRange, lastTag, isRange, PlanOne, PlanAll, cellIn, rangeIn, groupIn, moreIn, elementIn, sequenceIn, wholeIn, PlanIs, PlanAre}
+use Rattle.tree.specs.Planning.{Plan, Plans, headerIn, oddRange, lastTag, isRange, PlanOne, PlanAll, cellIn, rangeIn, groupIn, moreIn, elementIn, sequenceIn, wholeIn}
 use Rattle.tree.specs.declared.Header.{Header}
 use Rattle.tree.specs.declared.Header.the-variants.{Fault, Element}
 use Rattle.tree.proofs.Fronts.{contents-length, tag-low, tag-high, axis-of}

@@ -6,11 +6,10 @@ use mathlib.Core.List.{List}
 use mathlib.Core.Bool.{true, false}
 use lib.ListN.{drop}
 use Rattle.tree.specs.Tree as tree
-use Rattle.tree.specs.Tree.{Tree, Trees, nodes, nodes*, depth, depth*}
-use Rattle.tree.specs.Bytes.{Is, Are, lengthAt, contents}
-use Rattle.tree.specs.Accepted.{Texts, Texts*, GotTree}
-use Rattle.tree.specs.Planning.{Plan, Plans, PlanIs, PlanAre, planNodes, planNodes*, planDepth, planDepth*, Allowed, Allowed*, GotPlan}
-use Rattle.tree.proofs.Same.{treeOf, treesOf}
+use Rattle.tree.specs.Tree.{Tree, Trees, nodes, nodes*}
+use Rattle.tree.specs.Bytes.{lengthAt}
+use Rattle.tree.specs.Promises.{Texts, Texts*, GotTree, Is, Are, contents, PlanIs, PlanAre, planNodes, planNodes*, planDepth, planDepth*, Allowed, Allowed*, GotPlan, depth, depth*, treeOf, treesOf}
+use Rattle.tree.specs.Planning.{Plan, Plans}
 
 pub no-range : {A : Type 0} → false ≡ true → A
 no-range e = let z : _≡_ {A = ℕ} 0 1 = cc in absurd (omega arith)

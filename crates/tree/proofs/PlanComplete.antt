@@ -6,7 +6,8 @@ use mathlib.Core.List.{List, [], _∷_}
 use mathlib.Core.Bool.{Bool, true, false}
 use lib.ListN.{length}
 use borrow.Author.Tests.{lt-leb, le-ltb}
-use Rattle.tree.specs.Planning.{Plan, Plans, isRange, PlanOne, wholeIn, planNodes, planNodes*, planDepth, planDepth*, GoodRange, Allowed, Allowed*, GotPlan}
+use Rattle.tree.specs.Planning.{Plan, Plans, isRange, PlanOne, wholeIn}
+use Rattle.tree.specs.Promises.{planNodes, planNodes*, planDepth, planDepth*, GoodRange, Allowed, Allowed*, GotPlan}
 use Rattle.tree.proofs.PlanSound.{plan-sound}
 use Rattle.tree.proofs.Limits.{good, limits, limits*, TextsIn, TextsIn*, whole-reads}
 

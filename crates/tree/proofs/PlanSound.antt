@@ -4,7 +4,7 @@ use Prim.Native.Nat.{ℕ, zero, suc, _+_, _<_, _≤_}
 use native.Mathlib.Omega.{arith}
 use mathlib.Core.List.{List, [], _∷_}
 use mathlib.Core.Bool.{Bool, true, false, not}
-use mathlib.Core.Logic.{_⊎_, inl, inr}
+use mathlib.Core.Logic.{inl, inr}
 use lib.ListN.{length, take, drop, getD, length-drop}
 use lib.Seq.{length-take-le, ext-getD}
 use lib.Dec.{eqb, ltb, leb}
@@ -12,15 +12,12 @@ use borrow.Author.Tests.{ltb-false, leb-false, eqb-true, eqb-false}
 use Rattle.common.specs.Choice.{pick, both}
 use Rattle.tree.specs.Bytes.{lengthAt, tagOf, axisOf}
 use Rattle.tree.specs.Reading.{isText}
-use Rattle.tree.specs.Planning.{Plan, Plans, headerIn, oddRange, lastTag, isRange, PlanOne, PlanAll, elementIn, sequenceIn, wholeIn, groupIn, moreIn, cellIn, rangeIn, planNodes, planNodes*, planDepth, planDepth*, PlanIs, PlanAre, GoodRange, Allowed, Allowed*, GotPlan}
+use Rattle.tree.specs.Planning.{Plan, Plans, headerIn, oddRange, lastTag, isRange, PlanOne, PlanAll, elementIn, sequenceIn, wholeIn, groupIn, moreIn, cellIn, rangeIn}
+use Rattle.tree.specs.Promises.{planNodes, planNodes*, planDepth, planDepth*, PlanIs, PlanAre, GoodRange, Allowed, Allowed*, GotPlan, PlanRefusal}
 use Rattle.tree.specs.declared.Header.{Header}
 use Rattle.tree.specs.declared.Header.the-variants.{Fault, Element}
 
--- 2 to 5, or 17 with planning
-abbrev pub Refusal : Bool → ℕ → Type 0
-Refusal planning k = ((2 ≤ k) × (k ≤ 5)) ⊎ ((planning ≡ true) × (k ≡ 17))
-
-pub refusal-low : (planning : Bool) (k : ℕ) → Refusal planning k → 2 ≤ k
+pub refusal-low : (planning : Bool) (k : ℕ) → PlanRefusal planning k → 2 ≤ k
 refusal-low planning k (inl h) = h .0
 refusal-low planning k (inr h) = omega (arith, h .1)
 
@@ -91,7 +88,7 @@ module _ (P : Bool) where
     len-is : lengthAt s ≡ len
 
   abbrev Headed : List ℕ → ℕ → ℕ → Header → Type 0
-  Headed s d n (Fault k) = Refusal P k
+  Headed s d n (Fault k) = PlanRefusal P k
   Headed s d n (Element tag len) = Shown s d n tag len
 
   headed : (s : List ℕ) (d n : ℕ) → Headed s d n (headerIn P s d n)
@@ -135,11 +132,11 @@ module _ (P : Bool) where
 
   -- what reading with the fuel f comes to; with fuel for each byte it never runs out
   abbrev One : ℕ → ℕ → ℕ → List ℕ → PlanOne → Type 0
-  One f d n s (PlanOne.refused k) = length s < f → Refusal P k
+  One f d n s (PlanOne.refused k) = length s < f → PlanRefusal P k
   One f d n s (PlanOne.one t size m) = Got s d n t size m
 
   abbrev All : ℕ → ℕ → ℕ → List ℕ → PlanAll → Type 0
-  All f d n s (PlanAll.refused k) = length s + 1 < f → Refusal P k
+  All f d n s (PlanAll.refused k) = length s + 1 < f → PlanRefusal P k
   All f d n s (PlanAll.all ts m) = GotAll s d n ts m
 
   abbrev Elements : ℕ → Type 0
@@ -232,7 +229,7 @@ module _ (P : Bool) where
   -- ---- the whole tree
 
   abbrev Whole : List ℕ → PlanOne → Type 0
-  Whole s (PlanOne.refused k) = Refusal P k
+  Whole s (PlanOne.refused k) = PlanRefusal P k
   Whole s (PlanOne.one t size n) = GotPlan P s t size n
 
   root-case : (s : List ℕ) → length s ≤ 32768 → 3 + lengthAt s ≡ length s → (x : PlanOne) → One (length s + 1) 1 0 s x → Whole s x
@@ -259,5 +256,5 @@ module _ (P : Bool) where
   plan-sound s t size n e = rw e at (whole s)
 
   -- a refusal
-  pub plan-refusal : (s : List ℕ) (k : ℕ) → wholeIn P s ≡ PlanOne.refused k → Refusal P k
+  pub plan-refusal : (s : List ℕ) (k : ℕ) → wholeIn P s ≡ PlanOne.refused k → PlanRefusal P k
   plan-refusal s k e = rw e at (whole s)

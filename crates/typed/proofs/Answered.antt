@@ -11,8 +11,9 @@ use lib.Dec.{ltb}
 use borrow.Author.Tests.{lt-ltb, le-ltb}
 use Rattle.common.specs.Choice.{pick}
 use Rattle.tree.specs.Accepted.{bytesOf}
-use Rattle.typed.specs.Scan.{TypedNode, TypedScan, stopped, found, noneYet, scanLines, NodesFound, ScanTold}
-use Rattle.typed.specs.Typed.{rootOf, TypedOutcome, typedRefusal, typedAccepted, outcomeOf, typedOf, flatOf, ReadyNodes}
+use Rattle.typed.specs.Scan.{TypedNode, TypedScan, stopped, found, noneYet, scanLines}
+use Rattle.typed.specs.Contracts.{NodesFound, ScanTold, flatOf, ReadyNodes}
+use Rattle.typed.specs.Typed.{rootOf, TypedOutcome, typedRefusal, typedAccepted, outcomeOf, typedOf}
 use Rattle.typed.specs.declared.Typed.{Typed}
 use Rattle.typed.specs.declared.scan.Scanned.{Scanned}
 use Rattle.typed.proofs.Built.{flat-is, flat-length}

@@ -10,9 +10,10 @@ use Rattle.sizes.specs.Text.{total}
 use Rattle.sizes.proofs.Either.{either}
 use Rattle.tree.specs.Tree.{Tree, Trees, none, more}
 use Rattle.tree.specs.Accepted.{bytesOf, bytesOf*}
-use Rattle.typed.specs.Line.{Item, cell, group, itemTag, ownText}
-use Rattle.typed.specs.Scan.{TypedNode, levelUnder, totalOf}
-use Rattle.typed.specs.Typed.{parent, push, treesAt, firstOf, rootOf, insideOf, flatOf, Starts, Chained}
+use Rattle.typed.specs.Line.{Item, cell, group, ownText}
+use Rattle.typed.specs.Contracts.{itemTag, totalOf, insideOf, flatOf, Starts, Chained}
+use Rattle.typed.specs.Scan.{TypedNode, levelUnder}
+use Rattle.typed.specs.Typed.{parent, push, treesAt, firstOf, rootOf}
 
 -- ---- a node in front
 

@@ -18,8 +18,7 @@ use Rattle.blank.proofs.Lengths.{is-bytes-in, bytes-length}
 use Rattle.blank.proofs.Exact.{tree-exact}
 use Rattle.typed.specs.Scan.{TypedNode, found, scanLines}
 use Rattle.typed.specs.Typed.{rootOf, typedRefusal, typedAccepted, typedOf}
-use Rattle.typed.specs.Print.{typedNodes}
-use Rattle.typed.specs.Promises.{TypedTree, TypedBack, Unplaced, FaultAt, FaultPlace}
+use Rattle.typed.specs.Promises.{TypedTree, TypedBack, Unplaced, FaultAt, FaultPlace, typedNodes}
 use Rattle.typed.specs.declared.Typed.{Typed}
 use Rattle.typed.proofs.Answered.{typed-cases}
 use Rattle.typed.proofs.Faults.{fault-at}

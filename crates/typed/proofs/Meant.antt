@@ -11,17 +11,19 @@ use borrow.Author.Tests.{eqb-true, eqb-false}
 use Rattle.common.specs.Choice.{pick}
 use Rattle.common.specs.Every.{Every}
 use Rattle.tree.specs.Tree as tree
-use Rattle.tree.specs.Tree.{Axis, across, down, Tree, Trees, none, more, nodes, nodes*, depth, depth*}
+use Rattle.tree.specs.Tree.{Axis, across, down, Tree, Trees, none, more, nodes, nodes*}
 use Rattle.tree.specs.Reading.{isText, one, readTree}
-use Rattle.tree.specs.Accepted.{Texts, Texts*, bytesOf}
+use Rattle.tree.specs.Accepted.{bytesOf}
+use Rattle.tree.specs.Promises.{Texts, Texts*, depth, depth*}
 use Rattle.tree.proofs.Complete.{tree-bytes}
 use Rattle.sizes.specs.Text.{lines}
 use Rattle.block.proofs.Every.{every-front, every-back}
 use Rattle.typed.specs.Text.{Text, wrong, text, typedText}
 use Rattle.typed.specs.Line.{Item, cell, group, ownText, OneLine, skip, fault, node, isRow, isColumn, levelOf, cellAt, plainLine, oneLineOf, withoutReturn, spaces}
-use Rattle.typed.specs.Scan.{TypedNode, stopped, found, placeFault, nextOf, scanFrom, noneYet, scanLines, totalOf}
-use Rattle.typed.specs.Typed.{parent, push, treesAt, rootOf, Chained}
-use Rattle.typed.specs.Print.{typedNodes, typedNodes*}
+use Rattle.typed.specs.Scan.{TypedNode, stopped, found, placeFault, nextOf, scanFrom, noneYet, scanLines}
+use Rattle.typed.specs.Contracts.{totalOf, Chained}
+use Rattle.typed.specs.Typed.{parent, push, treesAt, rootOf}
+use Rattle.typed.specs.Promises.{typedNodes, typedNodes*}
 use Rattle.typed.specs.declared.scan.Sofar.{Sofar}
 use Rattle.typed.proofs.Texts.{FairIs, texts-fair}
 use Rattle.typed.proofs.Scanned.{scan-skip, scan-fault, scan-node, scan-refused}

@@ -13,9 +13,10 @@ use borrow.Author.Tests.{eqb-true, ne-eqb, le-ltb, lt-leb, ltb-false}
 use Rattle.common.specs.Choice.{pick, both}
 use Rattle.common.specs.Every.{Every}
 use Rattle.tree.specs.Tree as tree
-use Rattle.tree.specs.Tree.{Axis, across, down, Tree, Trees, none, more, nodes, nodes*, depth, depth*}
+use Rattle.tree.specs.Tree.{Axis, across, down, Tree, Trees, none, more, nodes, nodes*}
 use Rattle.tree.specs.Reading.{isText, isTextByte}
-use Rattle.tree.specs.Accepted.{Texts, Texts*, bytesOf, bytesOf*}
+use Rattle.tree.specs.Accepted.{bytesOf, bytesOf*}
+use Rattle.tree.specs.Promises.{Texts, Texts*, depth, depth*}
 use Rattle.tree.proofs.Fronts.{nodes-low}
 use Rattle.sizes.specs.Text.{lines}
 use Rattle.block.specs.Content.{feeds}
@@ -24,9 +25,10 @@ use Rattle.block.proofs.NoFeed.{Free, NoFeed, lines-feeds}
 use Rattle.typed.specs.Text.{byteOf, text, putting, laterText, textFrom, typedText}
 use Rattle.typed.specs.declared.text.Byte.the-variants.{Put}
 use Rattle.typed.specs.Line.{Item, axisWord, cell, group, ownText, node, spaces, sameBytes, levelOf, plainLine, plainOf, oneLineOf, withoutReturn}
-use Rattle.typed.specs.Scan.{TypedNode, TypedScan, found, adding, placeFault, nextOf, scanFrom, noneYet, scanLines, totalOf}
+use Rattle.typed.specs.Scan.{TypedNode, TypedScan, found, adding, placeFault, nextOf, scanFrom, noneYet, scanLines}
+use Rattle.typed.specs.Contracts.{totalOf}
 use Rattle.typed.specs.Typed.{push, treesAt, firstOf, rootOf, typedRefusal, typedAccepted, outcomeOf, typedOf}
-use Rattle.typed.specs.Print.{typedNodes, typedNodes*, escaped, typedBody, typedLine, typeOf}
+use Rattle.typed.specs.Promises.{typedNodes, typedNodes*, escaped, typedBody, typedLine, typeOf}
 use Rattle.typed.specs.declared.scan.Sofar.{Sofar}
 use Rattle.typed.proofs.Texts.{text-put, text-escape}
 use Rattle.typed.proofs.Scanned.{scan-node, place-fits}

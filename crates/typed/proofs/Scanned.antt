@@ -11,11 +11,12 @@ use lib.Dec.{eqb, ltb, leb}
 use borrow.Author.Tests.{eq-eqb, ne-eqb, ltb-false, leb-false}
 use Rattle.common.specs.Choice.{pick, both}
 use Rattle.tree.specs.Tree.{across, down}
-use Rattle.feeds.specs.Feeds.{firstFeed}
+use Rattle.feeds.specs.Contracts.{firstFeed}
 use Rattle.sizes.proofs.Lines.{rest, rest-none, rest-next, line-from, line-in}
 use Rattle.sizes.proofs.Either.{either}
-use Rattle.typed.specs.Line.{Item, cell, group, itemTag, ownText, OneLine, skip, fault, node, oneLineOf, TextAt, LineTold}
-use Rattle.typed.specs.Scan.{TypedNode, TypedScan, stopped, found, adding, placeFault, levelUnder, nextOf, scanFrom, noneYet, scanLines, lineFault, nextLine, spotFor, noSpot, noNode, SmallLine, Spotted, SpotsHeld, totalOf, ScanTold}
+use Rattle.typed.specs.Line.{Item, cell, group, ownText, OneLine, skip, fault, node, oneLineOf}
+use Rattle.typed.specs.Contracts.{itemTag, TextAt, LineTold, lineFault, nextLine, spotFor, noSpot, noNode, SmallLine, Spotted, SpotsHeld, totalOf, ScanTold}
+use Rattle.typed.specs.Scan.{TypedNode, TypedScan, stopped, found, adding, placeFault, levelUnder, nextOf, scanFrom, noneYet, scanLines}
 use Rattle.typed.specs.declared.line.Line.{Line}
 use Rattle.typed.specs.declared.scan.NodeSpot.{NodeSpot}
 use Rattle.typed.specs.declared.scan.Sofar.{Sofar}

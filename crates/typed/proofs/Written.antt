@@ -9,10 +9,11 @@ use lib.Seq.{sets, length-sets, drop-cons}
 use Rattle.sizes.proofs.Stores.{sets-append}
 use Rattle.block.proofs.Stores.{sets-sets}
 use Rattle.tree.specs.Tree.{none}
-use Rattle.typed.specs.Text.{text, typedText, Good}
+use Rattle.typed.specs.Text.{text, typedText}
 use Rattle.typed.specs.Line.{ownText}
-use Rattle.typed.specs.Scan.{TypedNode, levelUnder, Spotted, noNode, noSpot, totalOf}
-use Rattle.typed.specs.Typed.{treesAt, insideOf, flatOf, Starts, Chained, SpotReady, ReadyNodes, push}
+use Rattle.typed.specs.Scan.{TypedNode, levelUnder}
+use Rattle.typed.specs.Contracts.{Spotted, noNode, noSpot, totalOf, Good, insideOf, flatOf, Starts, Chained, SpotReady, ReadyNodes}
+use Rattle.typed.specs.Typed.{treesAt, push}
 use Rattle.typed.specs.declared.scan.NodeSpot.{NodeSpot}
 use Rattle.typed.proofs.Built.{treesSize, sizes-push, size-at, trees-size-low, levels-17, suits}
 

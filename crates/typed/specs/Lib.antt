@@ -2,5 +2,5 @@ pub mod Text
 pub mod Line
 pub mod Scan
 pub mod Typed
-pub mod Print
 pub mod Promises
+pub mod Contracts

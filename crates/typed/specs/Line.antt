@@ -1,25 +1,17 @@
 -- One line of a typed list.
-use mathlib.Core.Path.{_≡_}
-use Prim.Native.Nat.{ℕ, suc, _+_, _*_, _-_, _≤_, _<_, _/_, _%_}
+use Prim.Native.Nat.{ℕ, suc, _+_, _-_, _/_, _%_}
 use mathlib.Core.Bool.{Bool, true, false}
 use mathlib.Core.List.{List, [], _∷_}
 use lib.ListN.{length, getD, take, drop}
 use lib.Dec.{eqb}
 use Rattle.common.specs.Choice.{pick, both}
 use Rattle.tree.specs.Tree.{Axis, across, down}
-use Rattle.tree.specs.Bytes.{tagOf}
 use Rattle.typed.specs.Text.{Text, wrong, text, typedText}
-use Rattle.typed.specs.declared.line.Line.{Line}
 
 -- what a line names: a Cell with its text, or a Row or Column, whose children stand on the lines below
 pub data Item : Type 0 where
   cell : List ℕ → Item
   group : Axis → Item
-
--- the tag of its element, and its own text
-abbrev pub itemTag : Item → ℕ
-itemTag (cell t) = 1
-itemTag (group a) = tagOf a
 
 abbrev pub ownText : Item → List ℕ
 ownText (cell t) = t
@@ -86,26 +78,3 @@ unfoldable pub oneLineOf : List ℕ → OneLine
 oneLineOf x = plainOf (withoutReturn x)
 
 -- ---- what the functions answer
-
-unfoldable pub wordKind : List ℕ → ℕ
-wordKind s = pick (isRow s) 2 (pick (isColumn s) 3 1)
-
-abbrev pub noLine : ℕ → ℕ → Line
-noLine k c = record { number = k; column = c; kind = 0; level = 0; start = 0; end = 0; len = 0 }
-
-abbrev pub levelLine : ℕ → ℕ → ℕ → ℕ → ℕ → Line
-levelLine n kind start end len = pick (eqb (n % 2) 0) (record { number = 0; column = n + 1; kind = kind; level = n / 2; start = start; end = end; len = len }) (noLine 33 (n + 1))
-
--- the text of the item stands in x from `start` up to `end`
-pub record TextAt (x : List ℕ) (item : Item) (kind start end len : ℕ) : Type 0 where
-  pub kind-is : kind ≡ itemTag item
-  pub len-is : len ≡ length (ownText item)
-  pub on : start ≤ end
-  pub within : end ≤ length x
-  pub text-is : typedText (take (end - start) (drop start x)) ≡ text (ownText item)
-
--- what the code has of a line
-abbrev pub LineTold : List ℕ → OneLine → Line → Type 0
-LineTold x skip l = l ≡ noLine 0 0
-LineTold x (fault k c) l = (0 < k) × (l ≡ noLine k c)
-LineTold x (node d item) l = (l .number ≡ 0) × (l .column ≡ 2 * d + 1) × (l .level ≡ d) × (2 * d ≤ l .start) × TextAt x item (l .kind) (l .start) (l .end) (l .len)

@@ -1,24 +1,37 @@
 -- The words of the theorems about typed lists.
 use mathlib.Core.Path.{_≡_}
 use mathlib.Core.Logic.{_⊎_}
-use Prim.Native.Nat.{ℕ, _+_, _-_, _≤_}
-use mathlib.Core.List.{List, []}
-use lib.ListN.{length, getD, take, drop}
-use Rattle.tree.specs.Tree.{Tree, nodes}
+use Prim.Native.Nat.{ℕ, _+_, _-_, _≤_, suc, _*_}
+use mathlib.Core.List.{List, [], _∷_, _++_, map}
+use lib.ListN.{length, getD, take, drop, replicate}
+use lib.Dec.{eqb}
+use Rattle.common.specs.Choice.{pick}
+use Rattle.tree.specs.Tree.{Tree, nodes, Trees, cell, group, none, more}
 use Rattle.tree.specs.Reading.{one, readTree}
 use Rattle.tree.specs.Accepted.{bytesOf}
 use Rattle.sizes.specs.Text.{lines}
-use Rattle.typed.specs.Line.{withoutReturn}
-use Rattle.typed.specs.Scan.{found, scanLines}
-use Rattle.typed.specs.Typed.{TypedOutcome, typedAccepted, typedOf}
-use Rattle.typed.specs.Print.{typedNodes, typeOf}
+use Rattle.block.specs.Content.{feeds}
 use Rattle.typed.specs.declared.Typed.{Typed}
+use Rattle.typed.specs.Line.{withoutReturn, Item, axisWord}
+use Rattle.typed.specs.Scan.{found, scanLines, TypedNode}
+use Rattle.typed.specs.Typed.{TypedOutcome, typedAccepted, typedOf}
+use Rattle.typed.specs.Line as line
 
 -- ---- a call that answers 0: `typed-accepted`
 
 -- what was written
 abbrev pub treeWritten : TypedOutcome → List ℕ
 treeWritten x = take (x .answer .count) (x .out)
+
+-- the tree's nodes with their levels, in node order
+unfoldable mutual
+  pub typedNodes : ℕ → Tree → List TypedNode
+  typedNodes d (cell t) = record { level = d; item = line.cell t } ∷ []
+  typedNodes d (group a ts) = record { level = d; item = line.group a } ∷ typedNodes* (suc d) ts
+
+  pub typedNodes* : ℕ → Trees → List TypedNode
+  typedNodes* d none = []
+  typedNodes* d (more t ts) = typedNodes d t ++ typedNodes* d ts
 
 -- of the typed list `text`, where `out` was lent
 pub record TypedTree (text out : List ℕ) (x : TypedOutcome) : Type 0 where
@@ -32,6 +45,24 @@ pub record TypedTree (text out : List ℕ) (x : TypedOutcome) : Type 0 where
   pub kept : drop (x .answer .count) (x .out) ≡ drop (x .answer .count) out
 
 -- ---- every tree that the tree reader accepts: `typed-back`
+
+-- a line feed is \n, a backslash \\
+unfoldable pub escaped : List ℕ → List ℕ
+escaped [] = []
+escaped (b ∷ t) = pick (eqb b 10) (92 ∷ 110 ∷ escaped t) (pick (eqb b 92) (92 ∷ 92 ∷ escaped t) (b ∷ escaped t))
+
+-- `row`, `column`, or a quote mark and the text
+abbrev pub typedBody : Item → List ℕ
+typedBody (line.cell t) = 39 ∷ escaped t
+typedBody (line.group a) = axisWord a
+
+-- a node's line
+unfoldable pub typedLine : TypedNode → List ℕ
+typedLine n = replicate (2 * n .level) 32 ++ typedBody (n .item)
+
+-- the tree's text
+unfoldable pub typeOf : Tree → List ℕ
+typeOf t = feeds (map typedLine (typedNodes 0 t))
 
 -- its text is read back to its bytes, wherever there is room for them
 abbrev pub TypedBack : List ℕ → Tree → Type 0

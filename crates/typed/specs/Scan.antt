@@ -1,17 +1,13 @@
 -- The lines of a typed list: the nodes with their levels, or the first fault with its line and column.
-use mathlib.Core.Path.{_≡_}
-use Prim.Native.Nat.{ℕ, suc, _+_, _*_, _≤_, _<_}
+use Prim.Native.Nat.{ℕ, suc, _+_, _*_}
 use mathlib.Core.Bool.{true, false}
 use mathlib.Core.List.{List, [], _∷_}
-use lib.ListN.{length, getD}
+use lib.ListN.{length}
 use lib.Dec.{eqb, ltb, leb}
 use Rattle.common.specs.Choice.{pick, both}
 use Rattle.sizes.specs.Text.{lines}
-use Rattle.typed.specs.Line.{Item, cell, group, ownText, skip, fault, node, oneLineOf, TextAt}
-use Rattle.typed.specs.declared.line.Line.{Line}
-use Rattle.typed.specs.declared.scan.NodeSpot.{NodeSpot}
+use Rattle.typed.specs.Line.{Item, cell, group, ownText, skip, fault, node, oneLineOf}
 use Rattle.typed.specs.declared.scan.Sofar.{Sofar}
-use Rattle.typed.specs.declared.scan.Scanned.{Scanned}
 
 -- a node: its level, the root's being 0, and what it is
 pub record TypedNode : Type 0 where
@@ -65,48 +61,3 @@ abbrev pub scanLines : List ℕ → TypedScan
 scanLines text = scanFrom 0 noneYet (lines text)
 
 -- ---- what the functions answer
-
-abbrev pub lineFault : Sofar → Line → ℕ
-lineFault z l = pick (eqb (l .number) 0) (pick (eqb (l .kind) 0) 0 (placeFault z (l .level) (l .len))) (l .number)
-
-abbrev pub nextLine : Sofar → Line → Sofar
-nextLine z l = record { count = z .count + 1; may = pick (eqb (l .kind) 1) (l .level) (l .level + 1); total = z .total + 3 + l .len }
-
-abbrev pub spotFor : Line → ℕ → NodeSpot
-spotFor l from = record { kind = l .kind; level = l .level; start = from + l .start; end = from + l .end; len = l .len }
-
-abbrev pub noSpot : NodeSpot
-noSpot = record { kind = 0; level = 0; start = 0; end = 0; len = 0 }
-
-abbrev pub noNode : TypedNode
-noNode = record { level = 0; item = cell [] }
-
--- the numbers so far and a line's are small
-pub record SmallLine (z : Sofar) (l : Line) : Type 0 where
-  pub count : z .count ≤ 512
-  pub total : z .total ≤ 32768
-  pub level : l .level ≤ 131072
-  pub len : l .len ≤ 131072
-
--- the spots are the nodes, whose texts stand in the typed list
-pub record Spotted (text : List ℕ) (n : TypedNode) (s : NodeSpot) : Type 0 where
-  pub level-is : s .level ≡ n .level
-  pub text-at : TextAt text (n .item) (s .kind) (s .start) (s .end) (s .len)
-
-abbrev pub SpotsHeld : List ℕ → List TypedNode → List NodeSpot → Type 0
-SpotsHeld text ns spots = (i : ℕ) → i < length ns → Spotted text (getD ns i noNode) (getD spots i noSpot)
-
--- the bytes of the nodes' elements
-unfoldable pub totalOf : List TypedNode → ℕ
-totalOf [] = 0
-totalOf (n ∷ ns) = 3 + length (ownText (n .item)) + totalOf ns
-
-pub record NodesFound (text : List ℕ) (ns : List TypedNode) (r : Scanned) : Type 0 where
-  pub number-is : r .number ≡ 0
-  pub count-is : r .count ≡ length ns
-  pub total-is : r .total ≡ totalOf ns
-  pub held : SpotsHeld text ns (r .spots)
-
-abbrev pub ScanTold : List ℕ → TypedScan → Scanned → Type 0
-ScanTold text (stopped k l c) r = (0 < k) × (r .number ≡ k) × (r .line ≡ l) × (r .column ≡ c)
-ScanTold text (found ns) r = NodesFound text ns r

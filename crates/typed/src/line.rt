@@ -3,7 +3,8 @@ use super::text::check_text;
 ghost use mathlib.Core.Path.{_≡_};
 ghost use Prim.Native.Nat.{_+_, _≤_};
 ghost use lib.ListN.{length, take};
-ghost use Rattle.typed.specs.Line.{spaces, withoutReturn, wordKind, LineTold, levelLine, cellLine, plainOf, oneLineOf};
+ghost use Rattle.typed.specs.Line.{spaces, withoutReturn, cellLine, plainOf, oneLineOf};
+ghost use Rattle.typed.specs.Contracts.{wordKind, LineTold, levelLine};
 
 // A line as it was read. A fault: its number and column. Number 0 and kind 0: nothing to read. Number 0 and kind 1 to 3, the tree's tags: a node,
 // with its level, the column where it begins, where its text stands in the line, and how many bytes the text has.

@@ -7,7 +7,8 @@ ghost use Prim.Native.Nat.{_+_, _≤_};
 ghost use lib.Dec.{eqb};
 ghost use Rattle.common.specs.Choice.{pick};
 ghost use lib.ListN.{length, replicate};
-ghost use Rattle.typed.specs.Scan.{SmallLine, placeFault, lineFault, nextLine, spotFor, noSpot, scanLines, ScanTold};
+ghost use Rattle.typed.specs.Scan.{placeFault, scanLines};
+ghost use Rattle.typed.specs.Contracts.{SmallLine, lineFault, nextLine, spotFor, noSpot, ScanTold};
 
 // A node: its tag and level, where its text stands, and how many bytes the text has.
 pub struct NodeSpot {

@@ -4,7 +4,8 @@ ghost use mathlib.Core.List.{List};
 ghost use Prim.Native.Nat.{ℕ, _+_, _≤_};
 ghost use lib.ListN.{length};
 ghost use lib.Seq.{sets};
-ghost use Rattle.typed.specs.Text.{byteOf, countedByte, typedText, Good, checkedText, Writes, writtenOf};
+ghost use Rattle.typed.specs.Text.{byteOf, typedText};
+ghost use Rattle.typed.specs.Contracts.{countedByte, Good, checkedText, Writes, writtenOf};
 
 // What one byte does: it puts a byte into the text, or starts an escape, or may not stand there.
 pub enum Byte {

@@ -9,7 +9,7 @@ ghost use lib.ListN.{length, getD, take, drop, set};
 ghost use lib.Seq.{sets};
 ghost use Rattle.typed.specs.Scan.{TypedNode};
 ghost use Rattle.typed.specs.Text.{typedText};
-ghost use Rattle.typed.specs.Typed.{flatOf, SpotReady, ReadyNodes, SomeReady};
+ghost use Rattle.typed.specs.Contracts.{flatOf, SpotReady, ReadyNodes, SomeReady};
 
 // The front and the text of one node, at `p`.
 fn write_spot(text: &[u8], s: NodeSpot, inside: usize, out: &mut [u8], p: usize)

@@ -3,7 +3,8 @@ use mathlib.Core.Path.{_≡_, refl, ap, _∙_}
 use Prim.Native.Nat.{ℕ}
 use mathlib.Core.List.{List}
 use lib.ListN.{replicate}
-use Rattle.settings.specs.Defaults.{defaults, recordOf, defaults-read}
+use Rattle.settings.specs.Defaults.{defaults, recordOf}
+use Rattle.settings.specs.Figures.{defaults-read}
 use Rattle.tree.specs.Tree.{Tree}
 use Rattle.tree.specs.Reading.{ReadOne, readTree}
 use Rattle.sizes.specs.Input.{given, inputOf}

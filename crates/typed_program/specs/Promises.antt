@@ -8,7 +8,7 @@ use Rattle.tree.specs.Tree.{Tree}
 use Rattle.frame.specs.Frame.{tooLarge}
 use Rattle.sheet.specs.Sheet.{sheet}
 use Rattle.typed.specs.Scan.{found, scanLines}
-use Rattle.typed.specs.Print.{typedNodes}
+use Rattle.typed.specs.Promises.{typedNodes}
 use Rattle.typed_program.specs.Words.{faultText}
 use Rattle.typed_program.specs.TypedProgram.{typedProgramOf}
 

@@ -3,7 +3,7 @@ use Prim.Native.Nat.{_-_}
 use native.Mathlib.Omega.{arith}
 use lib.ListN.{length}
 use borrow.Author.Needs.{needs}
-use Rattle.feeds.specs.Seeing.{Onward}
+use Rattle.feeds.specs.Contracts.{Onward}
 use Rattle.feeds.proofs.First.{passed-onward, onward-word, onward-marked, onward-rest}
 use Rattle.feeds.proofs.next_feed.Statement.{statement}
 use Rattle.feeds.proofs.next_feed.Tie as tie

@@ -2,7 +2,7 @@ use borrow.Author.Needs.{needs}
 use Prim.Native.Nat.{_-_}
 use native.Mathlib.Omega.{arith}
 use lib.ListN.{length}
-use Rattle.feeds.specs.Seeing.{Onward}
+use Rattle.feeds.specs.Contracts.{Onward}
 use Rattle.feeds.proofs.First.{onward-none, onward-here, onward-on, onward-end}
 use Rattle.feeds.proofs.next_feed_bytewise.Statement.{statement}
 use Rattle.feeds.proofs.next_feed_bytewise.Tie as tie

@@ -1,7 +1,7 @@
 use Prim.Native.Nat.{_-_}
 use native.Mathlib.Omega.{arith}
 use borrow.Author.Tests.{not-false}
-use Rattle.feeds.specs.Seeing.{Whole, Passed}
+use Rattle.feeds.specs.Contracts.{Whole, Passed}
 use Rattle.feeds.proofs.Seeing.{passed-none, passed-on}
 use Rattle.feeds.proofs.past_plain.Statement.{statement}
 use Rattle.feeds.proofs.past_plain.Tie as tie

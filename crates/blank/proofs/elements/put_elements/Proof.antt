@@ -4,7 +4,7 @@ use native.Mathlib.Omega.{arith}
 use lib.ListN.{length, take, drop, length-take}
 use borrow.Author.Needs.{needs}
 use Rattle.sizes.proofs.Passing.{Some}
-use Rattle.blank.specs.Elements.{ReadElements, textAt}
+use Rattle.blank.specs.Contracts.{ReadElements, textAt}
 use Rattle.blank.proofs.Sweep.{part, Putting, put-begins, put-in, put-more, put-ends}
 use Rattle.blank.proofs.elements.put_elements.Statement.{statement}
 use Rattle.blank.proofs.elements.put_elements.Tie as tie

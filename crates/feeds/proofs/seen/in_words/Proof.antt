@@ -1,7 +1,7 @@
 use mathlib.Core.Path.{_≡_}
 use Prim.Native.Nat.{_-_}
 use native.Mathlib.Omega.{arith}
-use Rattle.feeds.specs.Seeing.{Whole, Reached}
+use Rattle.feeds.specs.Contracts.{Whole, Reached}
 use Rattle.feeds.proofs.Seeing.{reached-part}
 use Rattle.feeds.proofs.seen.in_words.Statement.{statement}
 use Rattle.feeds.proofs.seen.in_words.Tie as tie

@@ -9,8 +9,7 @@ use Rattle.sizes.specs.Text.{textHeight}
 use Rattle.sizes.specs.Sizes.{leafSize}
 use Rattle.sizes.specs.Contracts.{Fits}
 use Rattle.paint.specs.declared.body.Plan.{Plan}
-use Rattle.paint.specs.Paint.{Room}
-use Rattle.paint.specs.Parts.{planOf, groundLines}
+use Rattle.paint.specs.Contracts.{Room, planOf, groundLines}
 use Rattle.paint.proofs.Planned.{natural-wide, natural-tall, Planned, planned, above-room, text-room}
 use Rattle.paint.proofs.Ground.{body-over}
 use Rattle.paint.proofs.body.paint_body.Statement.{statement}

@@ -1,5 +1,5 @@
 use borrow.Author.Needs.{needs}
-use Rattle.paint.specs.Parts.{planOf}
+use Rattle.paint.specs.Contracts.{planOf}
 use Rattle.paint.proofs.body.plan_body.Statement.{statement}
 use Rattle.paint.proofs.body.plan_body.Tie as tie
 

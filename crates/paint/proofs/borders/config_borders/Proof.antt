@@ -1,6 +1,6 @@
 use borrow.Author.Needs.{needs}
 use Rattle.block.specs.Block.{topLeft, topRight, bottomLeft}
-use Rattle.paint.specs.Parts.{bordersOf}
+use Rattle.paint.specs.Contracts.{bordersOf}
 use Rattle.paint.proofs.borders.config_borders.Statement.{statement}
 use Rattle.paint.proofs.borders.config_borders.Tie as tie
 

@@ -1,5 +1,5 @@
 use borrow.Author.Needs.{needs}
-use Rattle.paint.specs.Parts.{bottomOf}
+use Rattle.paint.specs.Contracts.{bottomOf}
 use Rattle.paint.proofs.borders.print_bottom_line.Statement.{statement}
 use Rattle.paint.proofs.borders.print_bottom_line.Tie as tie
 

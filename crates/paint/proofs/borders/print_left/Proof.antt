@@ -3,7 +3,7 @@ use native.Mathlib.Omega.{arith}
 use lib.ListN.{getD}
 use borrow.Author.Needs.{needs}
 use Rattle.splits.specs.Splits.{named}
-use Rattle.paint.specs.Parts.{leftOf}
+use Rattle.paint.specs.Contracts.{leftOf}
 use Rattle.paint.proofs.Crossed.{marks-crossed}
 use Rattle.paint.proofs.borders.print_left.Statement.{statement}
 use Rattle.paint.proofs.borders.print_left.Tie as tie

@@ -4,8 +4,7 @@ use mathlib.Core.List.{List, []}
 use lib.ListN.{replicate}
 use borrow.Author.Needs.{needs}
 use Rattle.block.specs.Block.{edge}
-use Rattle.paint.specs.Paint.{pasted}
-use Rattle.paint.specs.Parts.{rightOf}
+use Rattle.paint.specs.Contracts.{pasted, rightOf}
 use Rattle.paint.proofs.borders.print_right.Statement.{statement}
 use Rattle.paint.proofs.borders.print_right.Tie as tie
 

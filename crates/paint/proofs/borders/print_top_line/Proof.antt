@@ -3,7 +3,7 @@ use lib.ListN.{getD}
 use borrow.Author.Needs.{needs}
 use Rattle.splits.specs.Splits.{named}
 use Rattle.block.specs.Block.{edge}
-use Rattle.paint.specs.Parts.{topOf}
+use Rattle.paint.specs.Contracts.{topOf}
 use Rattle.paint.proofs.Crossed.{row-crossed}
 use Rattle.paint.proofs.borders.print_top_line.Statement.{statement}
 use Rattle.paint.proofs.borders.print_top_line.Tie as tie

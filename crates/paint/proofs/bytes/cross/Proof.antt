@@ -6,7 +6,7 @@ use lib.ListN.{length, drop, getD, length-set}
 use borrow.Author.Needs.{needs}
 use Rattle.splits.specs.Splits.{named}
 use Rattle.splits.proofs.Named.{namedFrom, named-from}
-use Rattle.paint.specs.Parts.{crossed}
+use Rattle.paint.specs.Contracts.{crossed}
 use Rattle.paint.proofs.Room.{room-at, room-mul, room-add}
 use Rattle.paint.proofs.Crossed.{cross-end, cross-stop, cross-in, cross-out}
 use Rattle.paint.proofs.bytes.cross.Statement.{statement}

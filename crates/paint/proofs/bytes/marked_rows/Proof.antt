@@ -5,7 +5,7 @@ use native.Mathlib.Omega.{arith}
 use mathlib.Core.List.{_∷_}
 use lib.ListN.{length, replicate, length-set, length-replicate}
 use borrow.Author.Needs.{needs}
-use Rattle.paint.specs.Paint.{pasted}
+use Rattle.paint.specs.Contracts.{pasted}
 use Rattle.paint.proofs.Left.{Left, left-start, left-step, left-done, left-room, left-next, rows-more, rows-none}
 use Rattle.paint.proofs.bytes.marked_rows.Statement.{statement}
 use Rattle.paint.proofs.bytes.marked_rows.Tie as tie

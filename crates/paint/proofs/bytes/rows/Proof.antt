@@ -3,7 +3,7 @@ use native.Mathlib.Nat.{sub-zero}
 use native.Mathlib.Omega.{arith}
 use lib.ListN.{length, replicate, length-replicate}
 use borrow.Author.Needs.{needs}
-use Rattle.paint.specs.Paint.{pasted}
+use Rattle.paint.specs.Contracts.{pasted}
 use Rattle.paint.proofs.Left.{Left, left-start, left-step, left-done, left-room, left-next, rows-more, rows-none}
 use Rattle.paint.proofs.bytes.rows.Statement.{statement}
 use Rattle.paint.proofs.bytes.rows.Tie as tie

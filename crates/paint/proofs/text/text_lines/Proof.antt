@@ -7,7 +7,7 @@ use borrow.Author.Tests.{eqb-true}
 use Rattle.sizes.specs.Text.{lines}
 use Rattle.sizes.proofs.Lines.{rest, rest-next, line-from, line-in}
 use Rattle.block.specs.Block.{indent, textLine}
-use Rattle.paint.specs.Parts.{clear}
+use Rattle.paint.specs.Contracts.{clear}
 use Rattle.common.specs.Every.{Every}
 use Rattle.block.proofs.TextLine.{lines-width, lines-height}
 use Rattle.paint.proofs.Ground.{more-from, last-end, Still, still-start, still-step, still-done, still-room, still-next, line-over}

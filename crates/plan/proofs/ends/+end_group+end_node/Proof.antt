@@ -9,7 +9,7 @@ use borrow.Fn.PlainCycle.{Measures, is, falls, and}
 use borrow.Rule.Slice.PartAt.{part-to-end}
 use Rattle.tree.proofs.Fronts.{part-shorter}
 use Rattle.tree.specs.Bytes.{lengthAt}
-use Rattle.plan.specs.Measuring.{ReadyPlan, ReadyPlans}
+use Rattle.plan.specs.Contracts.{ReadyPlan, ReadyPlans}
 use Rattle.plan.proofs.Fronts.{front-asks, end-in, inside-shorter}
 use Rattle.plan.proofs.Passing.{SomePlans, MorePlans, turn, over, next-whole}
 use Rattle.plan.proofs.Turns.{Turn, begins, kid-ready, child-asks, next, span-asks, ends, range-asks, range-gives, leaf-asks, leaf-gives, group-ready, group-gives}

@@ -7,7 +7,8 @@ use lib.ListN.{getD}
 use Rattle.common.specs.Choice.{pick}
 use Rattle.settings.specs.declared.Settings.{Settings}
 use Rattle.tree.specs.Bytes.{axisOf}
-use Rattle.tree.specs.Planning.{Plan, Plans, PlanIs, PlanAre}
+use Rattle.tree.specs.Planning.{Plan, Plans}
+use Rattle.tree.specs.Promises.{PlanIs, PlanAre}
 use Rattle.sizes.specs.declared.Size.{Size}
 use Rattle.plan.specs.Ends.{noPlans?, rangeSize, endSize}
 

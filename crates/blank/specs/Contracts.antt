@@ -7,7 +7,8 @@ use lib.ListN.{length, getD}
 use lib.Dec.{eqb}
 use Rattle.common.specs.Choice.{pick}
 use Rattle.tree.specs.Tree.{Tree, nodes}
-use Rattle.tree.specs.Bytes.{Is, lengthAt}
+use Rattle.tree.specs.Bytes.{lengthAt}
+use Rattle.tree.specs.Promises.{Is}
 use Rattle.blank.specs.Blank.{dotsFor}
 
 -- the text's bytes of the element at the front of s: none but a Cell's

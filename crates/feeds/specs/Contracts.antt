@@ -1,11 +1,17 @@
--- What is seen of a text, byte by byte.
-use Prim.Native.Nat.{ℕ, suc, _+_, _-_, _%_, _≤_, _<_, max}
-use mathlib.Core.Path.{_≡_}
+-- What the functions of this crate ask and give, beyond the definitions; no theorem speaks of it.
+use Prim.Native.Nat.{ℕ, suc, _+_, _-_, _%_, _≤_, _<_, max, zero, _*_, _/_}
 use mathlib.Core.List.{List, [], _∷_}
-use lib.ListN.{length, take, drop}
+use mathlib.Core.Path.{_≡_}
+use lib.ListN.{length, take, drop, getD}
+use mathlib.Core.Bool.{Bool}
 use Rattle.common.specs.Choice.{pick}
-use Rattle.feeds.specs.Feeds.{isFeed, feedCount, firstFeed}
 use Rattle.feeds.specs.declared.seen.Seen.{Seen}
+use Rattle.feeds.specs.Feeds.{isFeed, feedCount}
+
+-- the bytes before the first line feed, or all
+unfoldable pub firstFeed : List ℕ → ℕ
+firstFeed [] = 0
+firstFeed (b ∷ t) = pick (isFeed b) 0 (suc (firstFeed t))
 
 abbrev pub none : Seen
 none = record { feeds = 0; longest = 0; start = 0 }
@@ -45,6 +51,26 @@ pub record Passed (t : List ℕ) (i j : ℕ) : Type 0 where
   pub on : i ≤ j
   pub within : j ≤ length t
   pub plain : feedCount (take (j - i) (drop i t)) ≡ 0
+
+-- bytes as one number, the first byte lowest
+unfoldable pub word : List ℕ → ℕ
+word [] = 0
+word (b ∷ t) = word t * 256 + b
+
+-- r is these bytes as one number
+pub record Loaded (bs : List ℕ) (r : ℕ) : Type 0 where
+  pub is : r ≡ word bs
+  pub small : (k : ℕ) → getD bs k 0 < 256
+
+-- 128 in each of the n low bytes of x that is a line feed, else 0
+unfoldable pub marked : ℕ → ℕ → ℕ
+marked zero x = 0
+marked (suc n) x = marked n (x / 256) * 256 + pick (isFeed (x % 256)) 128 0
+
+-- a byte for each flag, the first lowest: 128 where it is raised
+unfoldable pub flags : List Bool → ℕ
+flags [] = 0
+flags (b ∷ t) = flags t * 256 + pick b 128 0
 
 -- the first line feed from `from` on is the first from i on
 pub record Onward (t : List ℕ) (from i : ℕ) : Type 0 where

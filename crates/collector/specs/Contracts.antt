@@ -1,0 +1,58 @@
+-- What the functions of this crate ask and give, beyond the definitions; no theorem speaks of it.
+use mathlib.Core.Path.{_≡_}
+use Prim.Native.Nat.{ℕ, _+_, _≤_}
+use mathlib.Core.List.{List, _++_}
+use lib.Seq.{sets}
+use lib.Dec.{ltb}
+use lib.ListN.{take, drop, replicate}
+use Rattle.common.specs.Choice.{pick}
+use Rattle.settings.specs.declared.Settings.{Settings}
+use Rattle.tree.specs.Tree.{Tree, Trees, nodes, nodes*}
+use Rattle.tree.specs.Promises.{Is, Are}
+use Rattle.sizes.specs.Input.{Input, refused, given}
+use Rattle.collector.specs.declared.SizeRecord.{SizeRecord}
+use Rattle.collector.specs.declared.Lent.{Lent}
+use Rattle.collector.specs.declared.Plan.{Plan}
+use Rattle.collector.specs.Records.{recordsOf, Outcome, refusal, collectOf}
+use Rattle.collector.specs.Promises.{noRecord}
+
+-- s begins with a tree, whose nodes from `node` on have room in a list of the length len
+pub record ReadyBranch (s : List ℕ) (node len : ℕ) : Type 0 where
+  pub tree : Tree
+  pub is : Is tree s
+  pub room : node + nodes tree ≤ len
+  pub few : node + nodes tree ≤ 512
+
+-- s is trees, whose nodes have such room
+pub record ReadyBranches (s : List ℕ) (node len : ℕ) : Type 0 where
+  pub trees : Trees
+  pub are : Are trees s
+  pub room : node + nodes* trees ≤ len
+  pub few : node + nodes* trees ≤ 512
+
+-- the next node, and the list, which was b₀, with the counts of n nodes from `node` on
+pub record CountsBelow (node n : ℕ) (counts : List ℕ) (r : ℕ) (b₀ b : List ℕ) : Type 0 where
+  pub next : r ≡ node + n
+  pub stored : b ≡ sets b₀ node counts
+
+-- with the first `room` entries of a list lent, and the rest after them
+abbrev pub before : Outcome → List SizeRecord → Lent
+before o rest = record { answer = o .answer; list = o .list ++ rest }
+
+abbrev pub lentOf : Input → List SizeRecord → ℕ → Lent
+lentOf x l room = before (collectOf x (take room l)) (drop room l)
+
+abbrev pub noRecords : List SizeRecord
+noRecords = replicate 512 noRecord
+
+-- the records of all nodes in an array of 512
+abbrev pub recordArray : Settings → Tree → List SizeRecord
+recordArray s t = recordsOf s t ++ drop (nodes t) noRecords
+
+-- the answer, and the records to write
+abbrev pub refusedPlan : ℕ → Plan
+refusedPlan k = record { answer = refusal k; records = noRecords }
+
+unfoldable pub planOf : Input → ℕ → Plan
+planOf (refused k) len = refusedPlan k
+planOf (given s t) len = pick (ltb len (nodes t)) (refusedPlan 8) (record { answer = record { number = 0; count = nodes t }; records = recordArray s t })
