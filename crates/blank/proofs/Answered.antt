@@ -13,7 +13,7 @@ use Rattle.tree.specs.Tree.{Tree, Trees, cell, group, none, more, nodes, nodes*
 use Rattle.tree.specs.Reading.{ReadOne, readTree, answerOf}
 use Rattle.tree.specs.Accepted.{bytesOf}
 use Rattle.tree.proofs.Sound.{tree-sound, tree-refusal}
-use Rattle.sizes.proofs.Stores.{sets-front}
+use Rattle.common.proofs.Stores.{sets-front}
 use Rattle.blank.specs.Blank.{shownByte, blanked, blanked*, cellFlags, dotsFor, allCells, noBlank, blankTo, blankOf}
 use Rattle.blank.specs.Contracts.{ReadElements, isDotted, DotsAre}
 use Rattle.blank.proofs.Lengths.{blanked-length}

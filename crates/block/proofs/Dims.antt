@@ -15,7 +15,7 @@ use Rattle.sizes.proofs.Heights.{leaf-height}
 use Rattle.block.specs.declared.Flags.{Flags}
 use Rattle.block.specs.Content.{ruled, column}
 use Rattle.block.specs.Block.{Leaf, mark, edge, before, body, topLine, middle, bottomLine, block, tall, wide}
-use Rattle.block.proofs.Every.{Dims, dims-append, dims-lines, dims-replicate, dims-move, dims-cons, dims-paired}
+use Rattle.block.proofs.Dimensions.{Dims, dims-append, dims-lines, dims-replicate, dims-move, dims-cons, dims-paired}
 use Rattle.block.proofs.TextLine.{before-le, text-dims}
 
 -- ---- the body

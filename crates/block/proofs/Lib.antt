@@ -1,6 +1,5 @@
 -- What the proofs of several functions, and the layers above, use.
-pub mod Every
-pub mod Stores
+pub mod Dimensions
 pub mod TextLine
 pub mod Dims
 pub mod NoFeed

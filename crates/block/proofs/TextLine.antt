@@ -12,7 +12,8 @@ use Rattle.settings.specs.declared.Alignment.{Alignment}
 use Rattle.sizes.specs.Text.{lines, greatest, lineLengths, textWidth, textHeight}
 use Rattle.block.specs.Block.{before, indent, textLine}
 use Rattle.common.specs.Every.{Every}
-use Rattle.block.proofs.Every.{every-image, every-map, Dims}
+use Rattle.block.proofs.Dimensions.{Dims}
+use Rattle.common.proofs.Every.{every-image, every-map}
 
 -- ---- the indent
 

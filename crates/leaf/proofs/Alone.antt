@@ -14,7 +14,7 @@ use Rattle.block.specs.declared.Flags.{Flags}
 use Rattle.block.specs.Content.{feeds}
 use Rattle.block.specs.Block.{block, tall, wide}
 use Rattle.paint.specs.Contracts.{Room}
-use Rattle.block.proofs.Every.{Dims}
+use Rattle.block.proofs.Dimensions.{Dims}
 use Rattle.block.proofs.Dims.{block-dims}
 use Rattle.paint.proofs.Feeds.{fed-pasted}
 use Rattle.layout.specs.Walk.{Placed, leafOf}

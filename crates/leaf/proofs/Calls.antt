@@ -19,7 +19,7 @@ use Rattle.sizes.specs.Input.{given, inputOf}
 use Rattle.sizes.specs.declared.Size.{Size}
 use Rattle.sizes.specs.Contracts.{measuredOf, listOf, naturalAt, Allotted}
 use Rattle.sizes.proofs.Given.{Takes, takes, accepts, accepts-listed, accepts-root, listed-length, refuses}
-use Rattle.block.proofs.Every.{every-map}
+use Rattle.common.proofs.Every.{every-map}
 use Rattle.layout.specs.Walk.{Placed, leaves, insideW, insideH}
 use Rattle.layout.proofs.Laid.{root-laid}
 use Rattle.layout.proofs.Inside.{Inside, laid-inside}

@@ -12,13 +12,12 @@ use lib.Dec.{ltb}
 use borrow.Author.Tests.{lt-ltb, le-ltb, eq-eqb, ne-eqb}
 use Rattle.common.specs.Choice.{pick}
 use Rattle.splits.proofs.Named.{namedFrom}
-use Rattle.sizes.proofs.Either.{either}
-use Rattle.sizes.proofs.Stores.{sets-append}
+use Rattle.common.proofs.Either.{either}
+use Rattle.common.proofs.Stores.{sets-append, sets-sets}
 use Rattle.splits.specs.Splits.{isNamed}
 use Rattle.block.specs.Content.{ruled, column}
 use Rattle.paint.specs.Contracts.{pasted, spaces, crossed}
-use Rattle.block.proofs.Every.{Dims, paired-same, dims-lines, dims-replicate}
-use Rattle.block.proofs.Stores.{sets-sets}
+use Rattle.block.proofs.Dimensions.{Dims, paired-same, dims-lines, dims-replicate}
 use Rattle.paint.proofs.Pasted.{sets-pasted, pasted-beside, pasted-aside}
 use Rattle.block.proofs.Dims.{length-ruled, left-dims}
 

@@ -8,7 +8,7 @@ use lib.Seq.{sets, sets-eq, take-at, drop-at, getD-append-add}
 use Rattle.block.specs.Content.{feeds}
 use Rattle.paint.specs.Contracts.{pasted}
 use Rattle.common.specs.Every.{Every}
-use Rattle.block.proofs.Every.{Dims}
+use Rattle.block.proofs.Dimensions.{Dims}
 use Rattle.block.specs.Promises.{byteAt}
 
 -- ---- their length and their places

@@ -9,13 +9,13 @@ use Rattle.settings.specs.declared.Settings.{Settings}
 use Rattle.sizes.specs.declared.Size.{Size}
 use Rattle.feeds.specs.Contracts.{firstFeed}
 use Rattle.sizes.specs.Text.{lines, textHeight}
-use Rattle.sizes.proofs.Either.{either}
+use Rattle.common.proofs.Either.{either}
 use Rattle.sizes.proofs.Lines.{rest, rest-none, rest-next, line-in}
 use Rattle.paint.specs.declared.body.Plan.{Plan}
 use Rattle.block.specs.Block.{indent, textLine, body}
 use Rattle.paint.specs.Contracts.{pasted, Room, spaces, clear, ground, groundLines, Blank, Turned, Over}
-use Rattle.block.proofs.Every.{Dims, paired-same, dims-append, dims-lines, dims-replicate}
-use Rattle.block.proofs.Stores.{sets-within}
+use Rattle.block.proofs.Dimensions.{Dims, paired-same, dims-append, dims-lines, dims-replicate}
+use Rattle.common.proofs.Stores.{sets-within}
 use Rattle.paint.proofs.Pasted.{pasted-append, sets-pasted, pasted-beside, pasted-over}
 use Rattle.paint.proofs.Room.{room-head, room-next, room-tail}
 use Rattle.block.proofs.TextLine.{lines-height}

@@ -5,7 +5,7 @@ use native.Mathlib.Omega.{arith}
 use mathlib.Core.List.{List, [], _∷_, _++_}
 use lib.ListN.{length, replicate}
 use lib.Seq.{sets, length-sets}
-use Rattle.sizes.proofs.Stores.{sets-append}
+use Rattle.common.proofs.Stores.{sets-append}
 use Rattle.paint.specs.Paint.{Wrote}
 use Rattle.paint.specs.Contracts.{pasted, Room}
 use Rattle.paint.proofs.Pasted.{pasted-append}

@@ -18,7 +18,7 @@ use Rattle.block.specs.Block.{Leaf, body, topLine, middle, bottomLine, block, t
 use Rattle.paint.specs.Paint.{Wrote}
 use Rattle.paint.specs.Contracts.{pasted, Room, leafWith, Paintable, spaces, bordersOf, topOf, leftOf, rightOf, bottomOf, columnsIn, Lined, begunOf, Begins, Rest, endedOf, middleOf}
 use Rattle.paint.specs.declared.Begun.{Begun}
-use Rattle.block.proofs.Every.{dims-paired}
+use Rattle.block.proofs.Dimensions.{dims-paired}
 use Rattle.block.proofs.Dims.{body-dims, left-dims, edges-dims, middle-dims}
 use Rattle.paint.proofs.Pasted.{pasted-beside}
 use Rattle.paint.proofs.Cases.{tall-is, wide-is, block-lined, bare-tall, bare-wide, block-bare}

@@ -5,14 +5,13 @@ use native.Mathlib.Omega.{arith}
 use mathlib.Core.List.{List, [], _∷_, _++_}
 use lib.ListN.{length, getD}
 use lib.Seq.{sets, length-sets}
-use Rattle.sizes.proofs.Either.{either}
-use Rattle.sizes.proofs.Stores.{sets-append}
+use Rattle.common.proofs.Either.{either}
+use Rattle.common.proofs.Stores.{sets-append, sets-sets, sets-over, getD-before, getD-after, getD-in}
 use Rattle.block.specs.Content.{paired}
 use Rattle.paint.specs.Contracts.{pasted}
 use Rattle.common.specs.Every.{Every}
-use Rattle.block.proofs.Every.{Dims}
+use Rattle.block.proofs.Dimensions.{Dims}
 use Rattle.block.specs.Promises.{byteAt}
-use Rattle.block.proofs.Stores.{sets-sets, sets-over, getD-before, getD-after, getD-in}
 
 pub length-pasted : (x : List (List ℕ)) (o : List ℕ) (at stride : ℕ) → length (pasted o at stride x) ≡ length o
 unfolding pasted

@@ -11,7 +11,7 @@ use Rattle.sizes.specs.Contracts.{Fits}
 use Rattle.block.specs.declared.Flags.{Flags}
 use Rattle.block.specs.Block.{block, tall, wide}
 use Rattle.paint.specs.Contracts.{pasted, leafWith, Paintable}
-use Rattle.block.proofs.Every.{Dims}
+use Rattle.block.proofs.Dimensions.{Dims}
 use Rattle.block.specs.Promises.{byteAt}
 use Rattle.paint.proofs.Pasted.{pasted-at, pasted-kept}
 use Rattle.block.proofs.Dims.{block-dims}

@@ -5,9 +5,10 @@ use native.Mathlib.Omega.{arith}
 use mathlib.Core.List.{List, [], _∷_, _++_}
 use lib.ListN.{length, getD, List·getD-append, List·getD-eq-default}
 use lib.Seq.{getD-append-add}
-use Rattle.sizes.proofs.Either.{either}
+use Rattle.common.proofs.Either.{either}
 use Rattle.block.specs.Content.{paired, feeds}
-use Rattle.block.proofs.Every.{Dims, dims-paired, every-at, byte-left, byte-right, byte-above, byte-below}
+use Rattle.block.proofs.Dimensions.{Dims, dims-paired, byte-left, byte-right, byte-above, byte-below}
+use Rattle.common.proofs.Every.{every-at}
 use Rattle.block.specs.Promises.{byteAt}
 use Rattle.paint.proofs.Feeds.{feeds-at}
 

@@ -15,10 +15,11 @@ use Rattle.settings.specs.declared.Margin.{Margin}
 use Rattle.tree.specs.Tree.{Tree}
 use Rattle.sizes.specs.Sizes.{leafSize}
 use Rattle.sizes.specs.Contracts.{Fits}
-use Rattle.sizes.proofs.Elems.{elem-none}
+use Rattle.common.proofs.Elems.{elem-none}
 use Rattle.block.specs.Content.{feeds}
 use Rattle.block.specs.Block.{block}
-use Rattle.block.proofs.Every.{every-elem, Dims}
+use Rattle.block.proofs.Dimensions.{Dims}
+use Rattle.common.proofs.Every.{every-elem}
 use Rattle.block.specs.Promises.{byteAt}
 use Rattle.block.proofs.Dims.{block-dims}
 use Rattle.layout.specs.Walk.{Placed, leafOf, walk, root, leaves, insideW, insideH}

@@ -13,7 +13,8 @@ use Rattle.sizes.specs.Text.{lines, textWidth, textHeight}
 use Rattle.sizes.specs.Sizes.{sep, leafSize}
 use Rattle.sizes.specs.Contracts.{Fits}
 use Rattle.block.specs.Block.{Leaf, before, indent, textLine, body, topLine, middle, block, tall, wide}
-use Rattle.block.proofs.Every.{every-at, every-elem, byte-left, byte-right}
+use Rattle.block.proofs.Dimensions.{byte-left, byte-right}
+use Rattle.common.proofs.Every.{every-at, every-elem}
 use Rattle.block.specs.Promises.{byteAt}
 use Rattle.block.proofs.TextLine.{before-le, mode-le, lines-width, lines-height}
 use Rattle.paint.proofs.Feeds.{feeds-at}

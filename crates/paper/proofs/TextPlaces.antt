@@ -13,7 +13,7 @@ use Rattle.sizes.specs.Text.{lines, textWidth, textHeight}
 use Rattle.sizes.specs.Sizes.{sep, leafSize}
 use Rattle.sizes.specs.Contracts.{Fits}
 use Rattle.block.specs.Block.{Leaf, mark, before, indent, textLine, body, topLine, middle, bottomLine, block, wide}
-use Rattle.block.proofs.Every.{Dims, dims-paired, dims-move}
+use Rattle.block.proofs.Dimensions.{Dims, dims-paired, dims-move}
 use Rattle.block.specs.Promises.{byteAt}
 use Rattle.block.proofs.TextLine.{text-dims}
 use Rattle.block.proofs.Dims.{body-dims, left-dims, edges-dims, middle-dims}

@@ -5,7 +5,7 @@ use native.Mathlib.Omega.{arith}
 use mathlib.Core.List.{List, [], _∷_, _++_, map}
 use lib.ListN.{length, getD, drop}
 use Rattle.sizes.specs.Input.{inputOf}
-use Rattle.block.proofs.Every.{every-at}
+use Rattle.common.proofs.Every.{every-at}
 use Rattle.places.specs.Words.{lineOf, columnOf}
 use Rattle.places.specs.Places.{leafPlaceOf}
 use Rattle.places.specs.Together.{findsOf}

@@ -18,7 +18,7 @@ use Rattle.sizes.specs.declared.Size.{Size}
 use Rattle.sizes.specs.Contracts.{measuredOf, naturalAt}
 use Rattle.paint.specs.Contracts.{Room, pasted}
 use Rattle.common.specs.Every.{Every}
-use Rattle.block.proofs.Every.{every-map, every-and}
+use Rattle.common.proofs.Every.{every-map, every-and}
 use Rattle.frame.specs.declared.Frame.{Frame}
 use Rattle.layout.specs.Walk.{Placed, leaves, insideW, insideH}
 use Rattle.frame.specs.Frame.{W, H, tooLarge}

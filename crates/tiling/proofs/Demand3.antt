@@ -21,7 +21,7 @@ use Rattle.sizes.specs.declared.Size.{Size}
 use Rattle.sizes.specs.Text.{lines, total}
 use Rattle.sizes.specs.Sizes.{sep, beside, natural, Sizes, treeSizes}
 use Rattle.sizes.specs.Input.{given, inputOf}
-use Rattle.sizes.proofs.Elems.{elem-none, elem-in}
+use Rattle.common.proofs.Elems.{elem-none, elem-in}
 use Rattle.sizes.proofs.Heights.{leaf-height}
 use Rattle.sizes.proofs.Nodes.{subtrees-length, sizes-at, part-whole, part-own, tree-naturals}
 use Rattle.sizes.specs.Promises.{sizesAt}
@@ -38,7 +38,8 @@ use Rattle.collector.proofs.Written.{collected}
 use Rattle.block.specs.declared.Flags.{Flags}
 use Rattle.block.specs.Content.{feeds}
 use Rattle.block.specs.Block.{block, tall, wide}
-use Rattle.block.proofs.Every.{every-elem, Dims}
+use Rattle.block.proofs.Dimensions.{Dims}
+use Rattle.common.proofs.Every.{every-elem}
 use Rattle.block.specs.Promises.{byteAt}
 use Rattle.layout.specs.Walk.{Placed, leafOf, leaves, insideW, insideH}
 use Rattle.layout.specs.Contracts.{placeOf}

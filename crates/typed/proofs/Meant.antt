@@ -17,7 +17,7 @@ use Rattle.tree.specs.Accepted.{bytesOf}
 use Rattle.tree.specs.Promises.{Texts, Texts*, depth, depth*}
 use Rattle.tree.proofs.Complete.{tree-bytes}
 use Rattle.sizes.specs.Text.{lines}
-use Rattle.block.proofs.Every.{every-front, every-back}
+use Rattle.common.proofs.Every.{every-front, every-back}
 use Rattle.typed.specs.Text.{Text, wrong, text, typedText}
 use Rattle.typed.specs.Line.{Item, cell, group, ownText, OneLine, skip, fault, node, isRow, isColumn, levelOf, cellAt, plainLine, oneLineOf, withoutReturn, spaces}
 use Rattle.typed.specs.Scan.{TypedNode, stopped, found, placeFault, nextOf, scanFrom, noneYet, scanLines}

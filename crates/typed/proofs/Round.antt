@@ -20,7 +20,7 @@ use Rattle.tree.specs.Promises.{Texts, Texts*, depth, depth*}
 use Rattle.tree.proofs.Fronts.{nodes-low}
 use Rattle.sizes.specs.Text.{lines}
 use Rattle.block.specs.Content.{feeds}
-use Rattle.block.proofs.Every.{every-append, every-replicate}
+use Rattle.common.proofs.Every.{every-append, every-replicate}
 use Rattle.block.proofs.NoFeed.{Free, NoFeed, lines-feeds}
 use Rattle.typed.specs.Text.{byteOf, text, putting, laterText, textFrom, typedText}
 use Rattle.typed.specs.declared.text.Byte.the-variants.{Put}

@@ -13,7 +13,7 @@ use Rattle.common.specs.Choice.{pick, both}
 use Rattle.tree.specs.Tree.{across, down}
 use Rattle.feeds.specs.Contracts.{firstFeed}
 use Rattle.sizes.proofs.Lines.{rest, rest-none, rest-next, line-from, line-in}
-use Rattle.sizes.proofs.Either.{either}
+use Rattle.common.proofs.Either.{either}
 use Rattle.typed.specs.Line.{Item, cell, group, ownText, OneLine, skip, fault, node, oneLineOf}
 use Rattle.typed.specs.Contracts.{itemTag, TextAt, LineTold, lineFault, nextLine, spotFor, noSpot, noNode, SmallLine, Spotted, SpotsHeld, totalOf, ScanTold}
 use Rattle.typed.specs.Scan.{TypedNode, TypedScan, stopped, found, adding, placeFault, levelUnder, nextOf, scanFrom, noneYet, scanLines}

@@ -6,8 +6,7 @@ use native.Mathlib.Numerals.{add-one}
 use mathlib.Core.List.{List, [], _∷_, _++_, map}
 use lib.ListN.{length, getD, take, drop, set, replicate, drop-of-length-le}
 use lib.Seq.{sets, length-sets, drop-cons}
-use Rattle.sizes.proofs.Stores.{sets-append}
-use Rattle.block.proofs.Stores.{sets-sets}
+use Rattle.common.proofs.Stores.{sets-append, sets-sets}
 use Rattle.tree.specs.Tree.{none}
 use Rattle.typed.specs.Text.{text, typedText}
 use Rattle.typed.specs.Line.{ownText}

@@ -9,7 +9,7 @@ use lib.Seq.{sets}
 use lib.Dec.{eqb, ltb}
 use borrow.Author.Tests.{ne-eqb, lt-ltb, le-ltb}
 use Rattle.common.specs.Choice.{pick}
-use Rattle.sizes.proofs.Stores.{sets-append}
+use Rattle.common.proofs.Stores.{sets-append}
 use Rattle.paint.specs.Paint.{Wrote}
 use Rattle.typed_program.specs.Words.{digits, decimal, words30, words31, words32, words33, words34, words35, words36, words37, words38, words39, wordsLarge, faultWords, lineText, columnText, colonText, placeText, faultText}
 

@@ -13,7 +13,7 @@ use Rattle.settings.specs.declared.Settings.{Settings}
 use Rattle.tree.specs.Tree.{Tree}
 use Rattle.sizes.specs.Input.{Input, refused, given, inputOf}
 use Rattle.sizes.proofs.Given.{input-refusal}
-use Rattle.sizes.proofs.Stores.{sets-append, sets-front}
+use Rattle.common.proofs.Stores.{sets-append, sets-front}
 use Rattle.paint.specs.Paint.{Wrote}
 use Rattle.frame.specs.declared.Written.{Written}
 use Rattle.frame.specs.Frame.{tooLarge}

@@ -1,6 +1,6 @@
 use native.Mathlib.Omega.{arith}
 use borrow.Author.Needs.{needs}
-use Rattle.block.proofs.Stores.{eight-stores}
+use Rattle.common.proofs.Stores.{eight-stores}
 use Rattle.paint.proofs.bytes.copy_eight.Statement.{statement}
 use Rattle.paint.proofs.bytes.copy_eight.Tie as tie
 

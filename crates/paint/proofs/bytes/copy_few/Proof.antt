@@ -1,7 +1,7 @@
 use native.Mathlib.Omega.{arith}
 use lib.ListN.{length-set}
 use borrow.Author.Needs.{needs}
-use Rattle.block.proofs.Stores.{no-stores, few-stores}
+use Rattle.common.proofs.Stores.{no-stores, few-stores}
 use Rattle.paint.proofs.bytes.copy_few.Statement.{statement}
 use Rattle.paint.proofs.bytes.copy_few.Tie as tie
 

@@ -1,7 +1,7 @@
 use native.Mathlib.Omega.{arith}
 use lib.ListN.{length-set}
 use borrow.Author.Needs.{needs}
-use Rattle.block.proofs.Stores.{four-stores}
+use Rattle.common.proofs.Stores.{four-stores}
 use Rattle.paint.proofs.bytes.copy_four.Statement.{statement}
 use Rattle.paint.proofs.bytes.copy_four.Tie as tie
 

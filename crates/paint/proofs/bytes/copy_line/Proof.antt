@@ -1,6 +1,6 @@
 use native.Mathlib.Omega.{arith}
 use borrow.Author.Needs.{needs}
-use Rattle.block.proofs.Stores.{two-copies}
+use Rattle.common.proofs.Stores.{two-copies}
 use Rattle.paint.proofs.bytes.copy_line.Statement.{statement}
 use Rattle.paint.proofs.bytes.copy_line.Tie as tie
 

@@ -1,7 +1,7 @@
 use native.Mathlib.Omega.{arith}
 use lib.ListN.{length-set}
 use borrow.Author.Needs.{needs}
-use Rattle.block.proofs.Stores.{few-same}
+use Rattle.common.proofs.Stores.{few-same}
 use Rattle.paint.proofs.bytes.few.Statement.{statement}
 use Rattle.paint.proofs.bytes.few.Tie as tie
 

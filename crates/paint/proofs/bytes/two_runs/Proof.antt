@@ -1,7 +1,7 @@
 use mathlib.Core.Path.{_∙_}
 use native.Mathlib.Omega.{arith}
 use borrow.Author.Needs.{needs}
-use Rattle.block.proofs.Stores.{two-same}
+use Rattle.common.proofs.Stores.{two-same}
 use Rattle.paint.proofs.bytes.two_runs.Statement.{statement}
 use Rattle.paint.proofs.bytes.two_runs.Tie as tie
 

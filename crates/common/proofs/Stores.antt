@@ -1,13 +1,24 @@
--- Stores in a row (`sets`): their order, and what each place holds afterwards. Assumes nothing.
-use mathlib.Core.Path.{_≡_, refl, _∙_}
-use Prim.Native.Nat.{ℕ, zero, suc, _+_, _-_, _/_, _≤_, _<_}
-use native.Mathlib.Nat.{add-zero, add-suc, sub-zero, le-refl}
-use native.Mathlib.Numerals.{add-one}
+-- Numbers stored one after the other (`sets`): their order, stores twice at some places, and what each place holds afterwards.
+use mathlib.Core.Path.{_≡_, refl, ap, _∙_}
+use Prim.Native.Nat.{ℕ, suc, _+_, _<_, _≤_, zero, _-_, _/_}
 use native.Mathlib.Omega.{arith}
+use native.Mathlib.Nat.{add-zero, add-suc, sub-zero, le-refl}
 use mathlib.Core.List.{List, [], _∷_, _++_}
-use lib.ListN.{length, getD, set, take, drop, replicate, length-set, length-take, length-drop}
-use lib.Seq.{sets, set-set, set-comm, getD-set-same, getD-set-other, drop-cons, drop-drop, take-add, take-all, length-take-le}
-use Rattle.sizes.proofs.Stores.{set-sets, sets-append}
+use lib.ListN.{length, set, drop, getD, take, replicate, length-set, length-take, length-drop}
+use lib.Seq.{sets, set-comm, sets-eq, set-set, getD-set-same, getD-set-other, drop-cons, drop-drop, take-add, take-all, length-take-le}
+use native.Mathlib.Numerals.{add-one}
+
+-- a place before the others may be stored to last
+pub set-sets : (vs l : List ℕ) (i j v : ℕ) → i < j → set (sets l j vs) i v ≡ sets (set l i v) j vs
+set-sets [] l i j v h = refl
+set-sets (a ∷ vs) l i j v h = set-sets vs (set l j a) i (suc j) v (omega arith) ∙ ap (λ (k : List ℕ). sets k (suc j) vs) (set-comm l j i a v (λ e. omega arith))
+
+pub sets-append : (us vs l : List ℕ) (i : ℕ) → sets l i (us ++ vs) ≡ sets (sets l i us) (i + length us) vs
+sets-append [] vs l i = rw (add-zero i)
+sets-append (a ∷ us) vs l i = sets-append us vs (set l i a) (suc i) ∙ ap (λ (k : ℕ). sets (sets (set l i a) (suc i) us) k vs) (omega arith)
+
+pub sets-front : (l o : List ℕ) → length l ≤ length o → sets o 0 l ≡ l ++ drop (length l) o
+sets-front l o h = let e : 0 + length l ≡ length l = omega arith in sets-eq l o 0 (omega arith) ∙ rw e
 
 -- ---- their order
 

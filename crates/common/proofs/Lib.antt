@@ -1,0 +1,5 @@
+-- What the proofs of several functions, and the layers above, use.
+pub mod Either
+pub mod Elems
+pub mod Stores
+pub mod Every
