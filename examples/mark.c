@@ -1,7 +1,7 @@
 /* Places of the sheet of sheet.c and the leaves that have them, in one call of the C library:
  *
- *     rt staticlib export
- *     cc -Iinclude examples/mark.c target/staticlib/libexport.a -o target/mark && target/mark
+ *     rt staticlib c_api
+ *     cc -Iinclude examples/mark.c target/staticlib/libc_api.a -o target/mark && target/mark
  */
 #include <stdio.h>
 

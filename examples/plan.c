@@ -1,7 +1,7 @@
 /* How large a sheet will be whose last Cell has no text yet, with the C library:
  *
- *     rt staticlib export
- *     cc -Iinclude examples/plan.c target/staticlib/libexport.a -o target/plan && target/plan
+ *     rt staticlib c_api
+ *     cc -Iinclude examples/plan.c target/staticlib/libc_api.a -o target/plan && target/plan
  */
 #include <stdio.h>
 

@@ -1,7 +1,7 @@
 /* The sheet of Column[`abcdef`, Row[`a`, `b`]] by the C library, with spare width shared by all (List):
  *
- *     rt staticlib export
- *     cc -Iinclude examples/sheet.c target/staticlib/libexport.a -o target/sheet && target/sheet
+ *     rt staticlib c_api
+ *     cc -Iinclude examples/sheet.c target/staticlib/libc_api.a -o target/sheet && target/sheet
  */
 #include <stdio.h>
 

@@ -169,7 +169,7 @@ fn owners(lines: &mut Lines) {
     lines.marks(9, 6, &[(2, 6), (1, 2), (2, 5), (2, 6)]);
 }
 
-/// The lines, as crate `script` takes them; those on places, as crate `place_lines` does.
+/// The lines, as crate `test_calls` takes them; those on places, as crate `test_places` does.
 pub fn lines(seed: u64) -> [String; 2] {
     let mut rng = Rng::new(seed).bare();
     let mut lines = Lines::default();

@@ -1,4 +1,4 @@
-//! The files of the program `replay`: answers as lines. Those of this file are the crate's on shapes, tables, damaged bytes and limits; crate `script` says what each line means.
+//! The files of the program `replay`: answers as lines. Those of this file are the crate's on shapes, tables, damaged bytes and limits; crate `test_calls` says what each line means.
 
 use crate::calls::Calls;
 use crate::form::{encode_margin, encode_settings, encode_tree, CutPair, Margin, Settings, Tree};

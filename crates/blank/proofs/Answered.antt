@@ -10,7 +10,7 @@ use borrow.Author.Tests.{lt-ltb, le-ltb}
 use Rattle.common.specs.Arrays.{padded}
 use Rattle.tree.specs.declared.ReadTree.{ReadTree}
 use Rattle.tree.specs.Tree.{Tree, Trees, cell, group, none, more, nodes, nodes*}
-use Rattle.tree.specs.Reading.{ReadOne, readTree, answerOf}
+use Rattle.tree.specs.Reading.{ReadOne, readTree, treeAnswer}
 use Rattle.tree.specs.Accepted.{bytesOf}
 use Rattle.tree.proofs.Sound.{tree-sound, tree-refusal}
 use Rattle.common.proofs.Stores.{sets-front}
@@ -63,11 +63,11 @@ tree-here tree t z n e =
     let g = tree-sound tree t z n e in
     record { elements = record { tree = t; is = g .is; ends = g .ends; short = g .short; few = g .few }; size = z; count = n; reads = e }
 
-module _ (tree : List ℕ) (a : ReadTree) (e : a ≡ answerOf (readTree tree)) where
+module _ (tree : List ℕ) (a : ReadTree) (e : a ≡ treeAnswer (readTree tree)) where
   pub got-elements : a .number ≡ 0 → TreeHere tree
   got-elements h = go (readTree tree) refl (sym (ap (λ (y : ReadTree). y .number) e) ∙ h)
     where
-      go : (x : ReadOne) → readTree tree ≡ x → answerOf x .number ≡ 0 → TreeHere tree
+      go : (x : ReadOne) → readTree tree ≡ x → treeAnswer x .number ≡ 0 → TreeHere tree
       go (ReadOne.refused k) r q = absurd (omega (arith, tree-refusal tree k r))
       go (ReadOne.one t z n) r q = tree-here tree t z n r
 
@@ -98,8 +98,8 @@ module _ (tree ns : List ℕ) (k : TreeHere tree) where
     unfolding blankOf
     to-out h = rw (k .reads, cells-are, h)
 
-    pub no-room : ok ≡ true → length o < length tree → blankOf tree ns o ≡ noBlank 8 o
-    no-room h l = to-out h ∙ rw (as-long, lt-ltb (length o) (length tree) l)
+    pub blank-no-room : ok ≡ true → length o < length tree → blankOf tree ns o ≡ noBlank 8 o
+    blank-no-room h l = to-out h ∙ rw (as-long, lt-ltb (length o) (length tree) l)
 
     pub blanks : ok ≡ true → length tree ≤ length o → (ds o₁ : List ℕ) → (ok ≡ true → DotsAre ns ds) → o₁ ≡ sets o 0 (bytesOf (blanked (isDotted ds) 0 t))
         → blankOf tree ns o ≡ record { answer = record { number = 0; count = length tree }; out = o₁ }

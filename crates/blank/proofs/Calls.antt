@@ -21,7 +21,7 @@ use Rattle.blank.specs.declared.Blanked.{Blanked}
 use Rattle.blank.specs.Paper.{blankWritten, PaperRead, PaperOf}
 use Rattle.blank.proofs.Lengths.{blanked-length}
 use Rattle.blank.proofs.Exact.{tree-exact}
-use Rattle.blank.proofs.Paper.{blanked-nodes, blanked-depth, blanked-texts, blanked-alike, blanked-outside}
+use Rattle.blank.proofs.BlankedTree.{blanked-nodes, blanked-depth, blanked-texts, blanked-alike, blanked-outside}
 
 -- a number that is no Cell's is 9, an output that is too short 8
 zero-is : (c d : Bool) (o : List ℕ) (x : Blanks) → pick c (pick d (noBlank 8 o) x) (noBlank 9 o) .answer .number ≡ 0 → pick c (pick d (noBlank 8 o) x) (noBlank 9 o) ≡ x

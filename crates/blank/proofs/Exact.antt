@@ -8,7 +8,7 @@ use lib.Seq.{take-all, take-add}
 use Rattle.common.specs.Every.{Every}
 use Rattle.tree.specs.Tree.{Tree, Trees, cell, group, none, more}
 use Rattle.tree.specs.Bytes.{lengthAt, tagOf}
-use Rattle.tree.specs.Promises.{Is, Are, contents}
+use Rattle.tree.specs.Promises.{Encodes, EncodesAll, contents}
 use Rattle.tree.specs.Accepted.{element, bytesOf, bytesOf*}
 use Rattle.tree.proofs.Fronts.{contents-length}
 
@@ -47,17 +47,17 @@ element-is s tag inside k h e f =
     front-split s (lengthAt s) (omega arith) ∙ ap₂ _∷_ e (ap₂ _∷_ (w .0) (ap₂ _∷_ (w .1) f))
 
 mutual
-  unfolding Is bytesOf
+  unfolding Encodes bytesOf
 
-  is-exact : (t : Tree) (s : List ℕ) → Bytes s → Is t s → take (3 + lengthAt s) s ≡ bytesOf t
+  is-exact : (t : Tree) (s : List ℕ) → Bytes s → Encodes t s → take (3 + lengthAt s) s ≡ bytesOf t
   is-exact (cell x) = λ s b k. element-is s 1 x b (k .0) (k .1) (k .2)
   is-exact (group a ts) = λ s b k. element-is s (tagOf a) (bytesOf* ts) b (k .0) (k .1) (are-exact ts (contents s) (bytes-take (lengthAt s) (drop 3 s) (bytes-drop 3 s b)) (k .2))
 
-  are-exact : (ts : Trees) (s : List ℕ) → Bytes s → Are ts s → s ≡ bytesOf* ts
+  are-exact : (ts : Trees) (s : List ℕ) → Bytes s → EncodesAll ts s → s ≡ bytesOf* ts
   are-exact none = λ s b k. sym (take-all 0 s (omega arith))
   are-exact (more t ts) = λ s b k.
       sym (take-append-drop (3 + lengthAt s) s)
       ∙ ap₂ _++_ (is-exact t s b (k .0)) (are-exact ts (drop (3 + lengthAt s) s) (bytes-drop (3 + lengthAt s) s b) (k .1))
 
-pub tree-exact : (t : Tree) (s : List ℕ) → Bytes s → Is t s → 3 + lengthAt s ≡ length s → s ≡ bytesOf t
+pub tree-exact : (t : Tree) (s : List ℕ) → Bytes s → Encodes t s → 3 + lengthAt s ≡ length s → s ≡ bytesOf t
 tree-exact t s b k e = sym (take-all (3 + lengthAt s) s (omega arith)) ∙ is-exact t s b k

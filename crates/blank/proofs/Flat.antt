@@ -11,7 +11,7 @@ use borrow.Author.Tests.{eq-eqb, ne-eqb}
 use Rattle.common.specs.Choice.{pick}
 use Rattle.tree.specs.Tree.{Tree, Trees, cell, group, none, more, nodes, nodes*}
 use Rattle.tree.specs.Bytes.{lengthAt}
-use Rattle.tree.specs.Promises.{Is, Are, contents}
+use Rattle.tree.specs.Promises.{Encodes, EncodesAll, contents}
 use Rattle.tree.specs.Accepted.{bytesOf, bytesOf*}
 use Rattle.tree.proofs.Fronts.{is-whole, contents-length, tag-low}
 use Rattle.blank.specs.Blank.{blanked, blanked*, shownByte, cellFlags, cellFlags*}
@@ -55,8 +55,8 @@ contents-longer s r h =
     rw (length-longer s r (omega arith), drop-append-le 3 s r (omega arith))
     (take-append-le (lengthAt s) (drop 3 s) r (rw length-drop (omega arith)))
 
-is-longer : (t : Tree) (s r : List ℕ) → Is t s → Is t (s ++ r)
-unfolding Is
+is-longer : (t : Tree) (s r : List ℕ) → Encodes t s → Encodes t (s ++ r)
+unfolding Encodes
 is-longer (cell x) s r k = (rw (length-longer s r (omega (arith, k .0)), length-append s r) (omega (arith, k .0)), List·getD-append s r 0 0 (omega (arith, k .0)) ∙ k .1, contents-longer s r (k .0) ∙ k .2)
 is-longer (group a ts) s r k = (rw (length-longer s r (omega (arith, k .0)), length-append s r) (omega (arith, k .0)), List·getD-append s r 0 0 (omega (arith, k .0)) ∙ k .1, rw (contents-longer s r (k .0)) (k .2))
 
@@ -64,8 +64,8 @@ no-bytes : (s r : List ℕ) → length s ≡ 0 → s ++ r ≡ r
 no-bytes [] r h = refl
 no-bytes (b ∷ s) r h = absurd (omega arith)
 
-are-joined : (ts us : Trees) (s r : List ℕ) → Are ts s → Are us r → Are (joined ts us) (s ++ r)
-unfolding joined Is
+are-joined : (ts us : Trees) (s r : List ℕ) → EncodesAll ts s → EncodesAll us r → EncodesAll (joined ts us) (s ++ r)
+unfolding joined Encodes
 are-joined none us s r k l = rw (no-bytes s r k) l
 are-joined (more t ts) us s r k l =
     let w = is-whole t s (k .0) in
@@ -73,12 +73,12 @@ are-joined (more t ts) us s r k l =
 
 -- ---- one element
 
-module _ (t : Tree) (ts : Trees) (s : List ℕ) (k : Are (more t ts) s) where
+module _ (t : Tree) (ts : Trees) (s : List ℕ) (k : EncodesAll (more t ts) s) where
   abbrev pub nextTrees : Trees
   nextTrees = joined (insideTree t) ts
 
-  first : Is t s
-  unfolding Is
+  first : Encodes t s
+  unfolding Encodes
   first = k .0
 
   pub front-in : 3 + textAt s ≤ length s
@@ -88,16 +88,16 @@ module _ (t : Tree) (ts : Trees) (s : List ℕ) (k : Are (more t ts) s) where
       go Bool.true = is-whole t s first
       go Bool.false = omega (arith, is-whole t s first)
 
-  pub after-are : Are nextTrees (drop (3 + textAt s) s)
-  unfolding Is joined insideTree
+  pub after-are : EncodesAll nextTrees (drop (3 + textAt s) s)
+  unfolding Encodes joined insideTree
   after-are = go t k
     where
-      go : (t : Tree) → Are (more t ts) s → Are (joined (insideTree t) ts) (drop (3 + textAt s) s)
+      go : (t : Tree) → EncodesAll (more t ts) s → EncodesAll (joined (insideTree t) ts) (drop (3 + textAt s) s)
       go (cell x) k = rw (eq-eqb (getD s 0 0) 1 (k .0 .1)) (k .1)
       go (group a us) k =
           let e : drop (3 + lengthAt s) s ≡ drop (lengthAt s) (drop 3 s) = sym (drop-drop (lengthAt s) 3 s) in
           rw (ne-eqb (getD s 0 0) 1 (λ z. omega (arith, k .0 .1, tag-low a)))
-          (subst (λ (r : List ℕ). Are (joined us ts) r) (take-append-drop (lengthAt s) (drop 3 s)) (are-joined us ts (contents s) (drop (lengthAt s) (drop 3 s)) (k .0 .2) (rw (← e) (k .1))))
+          (subst (λ (r : List ℕ). EncodesAll (joined us ts) r) (take-append-drop (lengthAt s) (drop 3 s)) (are-joined us ts (contents s) (drop (lengthAt s) (drop 3 s)) (k .0 .2) (rw (← e) (k .1))))
 
   pub after-nodes : nodes* (more t ts) ≡ suc (nodes* nextTrees)
   unfolding nodes insideTree joined
@@ -108,20 +108,20 @@ module _ (t : Tree) (ts : Trees) (s : List ℕ) (k : Are (more t ts) s) where
       go (group a us) = omega (arith, joined-nodes us ts)
 
   pub after-flags : cellFlags* (more t ts) ≡ pick (eqb (getD s 0 0) 1) 1 0 ∷ cellFlags* nextTrees
-  unfolding Is cellFlags insideTree joined
+  unfolding Encodes cellFlags insideTree joined
   after-flags = go t k
     where
-      go : (t : Tree) → Are (more t ts) s → cellFlags* (more t ts) ≡ pick (eqb (getD s 0 0) 1) 1 0 ∷ cellFlags* (joined (insideTree t) ts)
+      go : (t : Tree) → EncodesAll (more t ts) s → cellFlags* (more t ts) ≡ pick (eqb (getD s 0 0) 1) 1 0 ∷ cellFlags* (joined (insideTree t) ts)
       go (cell x) k = rw (eq-eqb (getD s 0 0) 1 (k .0 .1))
       go (group a us) k = rw (ne-eqb (getD s 0 0) 1 (λ z. omega (arith, k .0 .1, tag-low a))) (ap (λ (l : List ℕ). 0 ∷ l) (sym (joined-flags us ts)))
 
   -- its front, its text with dots where they are due, and the elements after it
   pub after-bytes : (dots : ℕ → Bool) (n : ℕ)
       → bytesOf* (blanked* dots n (more t ts)) ≡ getD s 0 0 ∷ (lengthAt s / 256) ∷ (lengthAt s % 256) ∷ (map (shownByte (dots n)) (take (textAt s) (drop 3 s)) ++ bytesOf* (blanked* dots (suc n) nextTrees))
-  unfolding Is bytesOf blanked insideTree joined nodes
+  unfolding Encodes bytesOf blanked insideTree joined nodes
   after-bytes dots n = go t k
     where
-      go : (t : Tree) → Are (more t ts) s
+      go : (t : Tree) → EncodesAll (more t ts) s
           → bytesOf* (blanked* dots n (more t ts)) ≡ getD s 0 0 ∷ (lengthAt s / 256) ∷ (lengthAt s % 256) ∷ (map (shownByte (dots n)) (take (textAt s) (drop 3 s)) ++ bytesOf* (blanked* dots (suc n) (joined (insideTree t) ts)))
       go (cell x) k =
           let e : length (map (shownByte (dots n)) x) ≡ lengthAt s = length-map x (shownByte (dots n)) ∙ sym (ap length (k .0 .2)) ∙ contents-length s (k .0 .0) in

@@ -7,7 +7,7 @@ use mathlib.Core.List.{List}
 use lib.ListN.{length, drop, length-append, length-map, length-drop}
 use Rattle.tree.specs.Tree.{Tree, Trees, cell, group, none, more, nodes}
 use Rattle.tree.specs.Bytes.{lengthAt}
-use Rattle.tree.specs.Promises.{Is, Are, contents}
+use Rattle.tree.specs.Promises.{Encodes, EncodesAll, contents}
 use Rattle.tree.specs.Accepted.{bytesOf, bytesOf*}
 use Rattle.tree.proofs.Fronts.{is-whole, contents-length}
 use Rattle.blank.specs.Blank.{blanked, blanked*, shownByte}
@@ -22,13 +22,13 @@ unfoldable mutual
   bytesIn* (more t ts) = bytesIn t + bytesIn* ts
 
 mutual
-  unfolding bytesIn Is
+  unfolding bytesIn Encodes
 
-  pub is-bytes-in : (t : Tree) (s : List ℕ) → Is t s → 3 + lengthAt s ≡ bytesIn t
+  pub is-bytes-in : (t : Tree) (s : List ℕ) → Encodes t s → 3 + lengthAt s ≡ bytesIn t
   is-bytes-in (cell x) = λ s k. let e : length (contents s) ≡ length x = ap length (k .2) in omega (arith, contents-length s (k .0))
   is-bytes-in (group a ts) = λ s k. omega (arith, contents-length s (k .0), are-bytes-in ts (contents s) (k .2))
 
-  pub are-bytes-in : (ts : Trees) (s : List ℕ) → Are ts s → length s ≡ bytesIn* ts
+  pub are-bytes-in : (ts : Trees) (s : List ℕ) → EncodesAll ts s → length s ≡ bytesIn* ts
   are-bytes-in none = λ s k. k
   are-bytes-in (more t ts) = λ s k. omega (arith, is-bytes-in t s (k .0), is-whole t s (k .0), are-bytes-in ts (drop (3 + lengthAt s) s) (k .1), length-drop (3 + lengthAt s) s)
 
@@ -55,5 +55,5 @@ mutual
   blanked*-bytes-in dots (more t ts) = λ n. ap₂ (λ (m k : ℕ). m + k) (blanked-bytes-in dots t n) (blanked*-bytes-in dots ts (n + nodes t))
 
 -- the blanked tree has as many bytes as the tree
-pub blanked-length : (dots : ℕ → Bool) (t : Tree) (s : List ℕ) → Is t s → 3 + lengthAt s ≡ length s → length (bytesOf (blanked dots 0 t)) ≡ length s
+pub blanked-length : (dots : ℕ → Bool) (t : Tree) (s : List ℕ) → Encodes t s → 3 + lengthAt s ≡ length s → length (bytesOf (blanked dots 0 t)) ≡ length s
 blanked-length dots t s k e = bytes-length (blanked dots 0 t) ∙ blanked-bytes-in dots t 0 ∙ sym (is-bytes-in t s k) ∙ e

@@ -1,9 +1,9 @@
 pub mod Lengths
 pub mod Flat
-pub mod Shown
-pub mod Naming
-pub mod Sweep
+pub mod ShownBytes
+pub mod NamedCells
+pub mod ElementPass
 pub mod Answered
 pub mod Exact
-pub mod Paper
+pub mod BlankedTree
 pub mod Calls

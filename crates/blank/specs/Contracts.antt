@@ -8,7 +8,7 @@ use lib.Dec.{eqb}
 use Rattle.common.specs.Choice.{pick}
 use Rattle.tree.specs.Tree.{Tree, nodes}
 use Rattle.tree.specs.Bytes.{lengthAt}
-use Rattle.tree.specs.Promises.{Is}
+use Rattle.tree.specs.Promises.{Encodes}
 use Rattle.blank.specs.Blank.{dotsFor}
 
 -- the text's bytes of the element at the front of s: none but a Cell's
@@ -22,7 +22,7 @@ isDotted ds n = eqb (getD ds n 0) 1
 -- the bytes of a tree within the limits
 pub record ReadElements (s : List ℕ) : Type 0 where
   pub tree : Tree
-  pub is : Is tree s
+  pub is : Encodes tree s
   pub ends : 3 + lengthAt s ≡ length s
   pub short : length s ≤ 32768
   pub few : nodes tree ≤ 512

@@ -14,7 +14,7 @@ use Rattle.sizes.specs.Contracts.{Fits}
 use Rattle.sizes.proofs.Heights.{leaf-height}
 use Rattle.block.specs.declared.Flags.{Flags}
 use Rattle.block.specs.Content.{ruled, column}
-use Rattle.block.specs.Block.{Leaf, mark, edge, before, body, topLine, middle, bottomLine, block, tall, wide}
+use Rattle.block.specs.Block.{Leaf, mark, edge, slackBefore, body, topLine, middle, bottomLine, block, blockHeight, blockWidth}
 use Rattle.block.proofs.Dimensions.{Dims, dims-append, dims-lines, dims-replicate, dims-move, dims-cons, dims-paired}
 use Rattle.block.proofs.TextLine.{before-le, text-dims}
 
@@ -24,14 +24,14 @@ pub body-dims : (s : Settings) (t : List ℕ) (z : Size) → Fits (leafSize s t)
 unfolding body leafSize
 body-dims s t z fits =
     let slack = z .height - s .top - s .bottom - textHeight t in
-    let p : before (s .vertical) slack ≤ slack = before-le (s .vertical) slack in
+    let p : slackBefore (s .vertical) slack ≤ slack = before-le (s .vertical) slack in
     let w = fits .wide in
     let h = fits .tall in
     dims-move
-    (dims-append (dims-replicate (before (s .vertical) slack) (z .width) _)
+    (dims-append (dims-replicate (slackBefore (s .vertical) slack) (z .width) _)
     (dims-append (dims-replicate (s .top) (z .width) _)
     (dims-append (dims-move (text-dims s t (z .width - s .left - s .right) (omega arith)) refl (omega arith))
-    (dims-append (dims-replicate (s .bottom) (z .width) _) (dims-replicate (slack - before (s .vertical) slack) (z .width) _)))))
+    (dims-append (dims-replicate (s .bottom) (z .width) _) (dims-replicate (slack - slackBefore (s .vertical) slack) (z .width) _)))))
     (omega arith) refl
 
 -- ---- the marks
@@ -60,30 +60,30 @@ edges-dims h e b m = dims-replicate h (pick b e 0) m
 
 -- ---- the block: nothing here opens `sep`, it holds for every separator width
 
-pub middle-dims : (s : Settings) (l : Leaf) → Fits (leafSize s (l .text)) (l .size) → Dims (middle s l) (l .size .height) (wide s (l .size) (l .flags))
-unfolding middle wide
+pub middle-dims : (s : Settings) (l : Leaf) → Fits (leafSize s (l .text)) (l .size) → Dims (middle s l) (l .size .height) (blockWidth s (l .size) (l .flags))
+unfolding middle blockWidth
 middle-dims s l fits =
     dims-move
     (dims-paired (left-dims (sep s) _ _ _ (l .size .height)) (dims-paired (body-dims s (l .text) (l .size) fits) (edges-dims (l .size .height) (sep s) (l .flags .«last_col») (mark s 3))))
     refl (omega arith)
 
-top-length : (s : Settings) (l : Leaf) → length (topLine s l) ≡ wide s (l .size) (l .flags)
-unfolding topLine wide
+top-length : (s : Settings) (l : Leaf) → length (topLine s l) ≡ blockWidth s (l .size) (l .flags)
+unfolding topLine blockWidth
 top-length s l = simp (length-append, length-replicate, length-ruled) (omega arith)
 
-bottom-length : (s : Settings) (l : Leaf) → length (bottomLine s l) ≡ wide s (l .size) (l .flags)
-unfolding bottomLine wide
+bottom-length : (s : Settings) (l : Leaf) → length (bottomLine s l) ≡ blockWidth s (l .size) (l .flags)
+unfolding bottomLine blockWidth
 bottom-length s l = simp (length-append, length-replicate) (omega arith)
 
 -- 01's "a leaf's block has 1 + allotted height lines, one more under last_row, of 1 + allotted width columns, one more under last_col", with the separator width for the 1 and the one more
-pub block-dims : (s : Settings) (l : Leaf) → Fits (leafSize s (l .text)) (l .size) → Dims (block s l) (tall s (l .size) (l .flags)) (wide s (l .size) (l .flags))
-unfolding block tall
+pub block-dims : (s : Settings) (l : Leaf) → Fits (leafSize s (l .text)) (l .size) → Dims (block s l) (blockHeight s (l .size) (l .flags)) (blockWidth s (l .size) (l .flags))
+unfolding block blockHeight
 block-dims s l fits =
     dims-move
     (dims-append (dims-lines (sep s) (topLine s l) _ (top-length s l))
     (dims-append (middle-dims s l fits) (dims-lines (pick (l .flags .«last_row») (sep s) 0) (bottomLine s l) _ (bottom-length s l))))
     (omega arith) refl
 
-pub block-some : (s : Settings) (t : List ℕ) (z : Size) (f : Flags) → Fits (leafSize s t) z → 0 < tall s z f
-unfolding tall
+pub block-some : (s : Settings) (t : List ℕ) (z : Size) (f : Flags) → Fits (leafSize s t) z → 0 < blockHeight s z f
+unfolding blockHeight
 block-some s t z f fits = omega (arith, fits .tall, leaf-height s t)

@@ -15,8 +15,8 @@ use Rattle.sizes.specs.declared.Size.{Size}
 use Rattle.sizes.specs.Sizes.{sep}
 use Rattle.sizes.specs.Text.{onto, lines, textWidth, textHeight}
 use Rattle.block.specs.declared.Flags.{Flags}
-use Rattle.block.specs.Content.{paired, column, ruled, feeds}
-use Rattle.block.specs.Block.{Leaf, mark, topLeft, topRight, bottomLeft, edge, before, indent, textLine, body, topLine, middle, bottomLine, block}
+use Rattle.block.specs.Content.{sideBySide, column, ruled, joinLines}
+use Rattle.block.specs.Block.{Leaf, mark, topLeft, topRight, bottomLeft, edge, slackBefore, indent, textLine, body, topLine, middle, bottomLine, block}
 
 -- no byte is 0A
 pub data Free : List ℕ → Type 0 where
@@ -29,7 +29,7 @@ pub data NoFeed : List (List ℕ) → Type 0 where
   more : {l : List ℕ} {x : List (List ℕ)} → Free l → NoFeed x → NoFeed (l ∷ x)
 
 -- no mark and no fill is 0A: they are hex 20 to 7E
-pub record Plain (s : Settings) : Type 0 where
+pub record NoFeedMarks (s : Settings) : Type 0 where
   pub marks : (i : ℕ) → getD (s .marks) i 0 ≢ 10
   pub fills : (i : ℕ) → getD (s .fills) i 0 ≢ 10
 
@@ -66,8 +66,8 @@ pub no-feed-append : {x y : List (List ℕ)} → NoFeed x → NoFeed y → NoFee
 no-feed-append none k = k
 no-feed-append (more p h) k = more p (no-feed-append h k)
 
-pub no-feed-paired : {x y : List (List ℕ)} → NoFeed x → NoFeed y → NoFeed (paired x y)
-unfolding paired
+pub no-feed-paired : {x y : List (List ℕ)} → NoFeed x → NoFeed y → NoFeed (sideBySide x y)
+unfolding sideBySide
 no-feed-paired none k = k
 no-feed-paired (more p h) none = more p h
 no-feed-paired (more p h) (more q k) = more (free-append p q) (no-feed-paired h k)
@@ -92,7 +92,7 @@ no-feed-lines (b ∷ t) = go (eqb b 10) (no-feed-lines t) (eqb-false b 10)
 
 -- ---- the block
 
-module _ (s : Settings) (p : Plain s) where
+module _ (s : Settings) (p : NoFeedMarks s) where
   free-mark : (i : ℕ) → mark s i ≢ 10
   unfolding mark
   free-mark i = p .marks i
@@ -130,10 +130,10 @@ module _ (s : Settings) (p : Plain s) where
   no-feed-body t z =
       let w = z .width in
       let slack = z .height - s .top - s .bottom - textHeight t in
-      no-feed-append (no-feed-replicate (before (s .vertical) slack) (free-spaces w))
+      no-feed-append (no-feed-replicate (slackBefore (s .vertical) slack) (free-spaces w))
       (no-feed-append (no-feed-replicate (s .top) (free-replicate w (p .fills 2)))
       (no-feed-append (no-feed-map (textLine s (w - s .left - s .right) (textWidth t)) (free-text-line (w - s .left - s .right) (textWidth t)) (no-feed-lines t))
-      (no-feed-append (no-feed-replicate (s .bottom) (free-replicate w (p .fills 3))) (no-feed-replicate (slack - before (s .vertical) slack) (free-spaces w)))))
+      (no-feed-append (no-feed-replicate (s .bottom) (free-replicate w (p .fills 3))) (no-feed-replicate (slack - slackBefore (s .vertical) slack) (free-spaces w)))))
 
   free-top : (l : Leaf) → Free (topLine s l)
   unfolding topLine
@@ -170,7 +170,7 @@ lines-next t none = refl
 lines-next t (more {b = b} p h) = rw (ne-eqb b 10 p, lines-next t h)
 
 -- lines without 0A, joined by it and parted at each
-pub lines-feeds : {l : List ℕ} {x : List (List ℕ)} → NoFeed (l ∷ x) → lines (feeds (l ∷ x)) ≡ l ∷ x
-unfolding feeds
+pub lines-feeds : {l : List ℕ} {x : List (List ℕ)} → NoFeed (l ∷ x) → lines (joinLines (l ∷ x)) ≡ l ∷ x
+unfolding joinLines
 lines-feeds (more p none) = lines-free p
-lines-feeds {l} (more p (more {l = m} {x = x} q h)) = lines-next (feeds (m ∷ x)) p ∙ ap (λ (y : List (List ℕ)). l ∷ y) (lines-feeds (more q h))
+lines-feeds {l} (more p (more {l = m} {x = x} q h)) = lines-next (joinLines (m ∷ x)) p ∙ ap (λ (y : List (List ℕ)). l ∷ y) (lines-feeds (more q h))

@@ -10,15 +10,15 @@ use Rattle.common.specs.Choice.{pick}
 use Rattle.settings.specs.declared.Settings.{Settings}
 use Rattle.settings.specs.declared.Alignment.{Alignment}
 use Rattle.sizes.specs.Text.{lines, greatest, lineLengths, textWidth, textHeight}
-use Rattle.block.specs.Block.{before, indent, textLine}
+use Rattle.block.specs.Block.{slackBefore, indent, textLine}
 use Rattle.common.specs.Every.{Every}
 use Rattle.block.proofs.Dimensions.{Dims}
 use Rattle.common.proofs.Every.{every-image, every-map}
 
 -- ---- the indent
 
-pub before-le : (p : Alignment) (n : ℕ) → before p n ≤ n
-unfolding before
+pub before-le : (p : Alignment) (n : ℕ) → slackBefore p n ≤ n
+unfolding slackBefore
 before-le Alignment.Start n = omega arith
 before-le Alignment.Center n = omega arith
 before-le Alignment.End n = le-refl n

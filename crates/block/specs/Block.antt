@@ -11,7 +11,7 @@ use Rattle.sizes.specs.declared.Size.{Size}
 use Rattle.sizes.specs.Text.{lines, textWidth, textHeight}
 use Rattle.sizes.specs.Sizes.{sep}
 use Rattle.block.specs.declared.Flags.{Flags}
-use Rattle.block.specs.Content.{ruled, column, paired}
+use Rattle.block.specs.Content.{ruled, column, sideBySide}
 
 -- a leaf as its printer sees it: text, allotted size, both split lists, flags
 pub record Leaf : Type 0 where
@@ -49,15 +49,15 @@ edge n b m = replicate (pick b n 0) m
 -- ---- the lines between the marks
 
 -- the part of the slack that stands before: `indent_horizontal`, `indent_vertical`
-unfoldable pub before : Alignment → ℕ → ℕ
-before Alignment.Start n = 0
-before Alignment.Center n = n / 2
-before Alignment.End n = n
+unfoldable pub slackBefore : Alignment → ℕ → ℕ
+slackBefore Alignment.Start n = 0
+slackBefore Alignment.Center n = n / 2
+slackBefore Alignment.End n = n
 
 -- the spaces before a line of a text that is `widest` wide, in `inner` columns
 unfoldable pub indent : Settings → ℕ → ℕ → List ℕ → ℕ
-unfolding before
-indent s inner widest l = before (s .horizontal) (inner - pick (s .«line_mode») (length l) widest)
+unfolding slackBefore
+indent s inner widest l = slackBefore (s .horizontal) (inner - pick (s .«line_mode») (length l) widest)
 
 unfoldable pub textLine : Settings → ℕ → ℕ → List ℕ → List ℕ
 unfolding indent
@@ -70,15 +70,15 @@ textLine s inner widest l =
 
 -- top indent, top padding, text, bottom padding, bottom indent
 unfoldable pub body : Settings → List ℕ → Size → List (List ℕ)
-unfolding textLine before lines textWidth textHeight
+unfolding textLine slackBefore lines textWidth textHeight
 body s t z =
     let w = z .width in
     let slack = z .height - s .top - s .bottom - textHeight t in
-    replicate (before (s .vertical) slack) (replicate w 32)
+    replicate (slackBefore (s .vertical) slack) (replicate w 32)
     ++ (replicate (s .top) (replicate w (getD (s .fills) 2 0))
     ++ (map (textLine s (w - s .left - s .right) (textWidth t)) (lines t)
     ++ (replicate (s .bottom) (replicate w (getD (s .fills) 3 0))
-    ++ replicate (slack - before (s .vertical) slack) (replicate w 32))))
+    ++ replicate (slack - slackBefore (s .vertical) slack) (replicate w 32))))
 
 -- ---- the block: its marks are as wide as the separator, and its top and bottom lines as many
 
@@ -93,11 +93,11 @@ topLine s l =
 
 -- the lines between the top and the bottom: left marks, body, right marks
 unfoldable pub middle : Settings → Leaf → List (List ℕ)
-unfolding ruled column paired body named mark edge
+unfolding ruled column sideBySide body named mark edge
 middle s l =
     let h = l .size .height in
-    paired (column (sep s) (ruled (named h (l .vertical)) (mark s 13) (mark s 2) 0 h))
-    (paired (body s (l .text) (l .size)) (replicate h (edge (sep s) (l .flags .«last_col») (mark s 3))))
+    sideBySide (column (sep s) (ruled (named h (l .vertical)) (mark s 13) (mark s 2) 0 h))
+    (sideBySide (body s (l .text) (l .size)) (replicate h (edge (sep s) (l .flags .«last_col») (mark s 3))))
 
 -- the bottom line: `print_bottom_line`
 unfoldable pub bottomLine : Settings → Leaf → List ℕ
@@ -113,8 +113,8 @@ unfolding topLine middle bottomLine
 block s l = replicate (sep s) (topLine s l) ++ (middle s l ++ replicate (pick (l .flags .«last_row») (sep s) 0) (bottomLine s l))
 
 -- the lines and columns that a block covers
-unfoldable pub tall : Settings → Size → Flags → ℕ
-tall s z f = sep s + z .height + pick (f .«last_row») (sep s) 0
+unfoldable pub blockHeight : Settings → Size → Flags → ℕ
+blockHeight s z f = sep s + z .height + pick (f .«last_row») (sep s) 0
 
-unfoldable pub wide : Settings → Size → Flags → ℕ
-wide s z f = sep s + z .width + pick (f .«last_col») (sep s) 0
+unfoldable pub blockWidth : Settings → Size → Flags → ℕ
+blockWidth s z f = sep s + z .width + pick (f .«last_col») (sep s) 0

@@ -6,10 +6,10 @@ use Rattle.common.specs.Choice.{pick}
 use Rattle.splits.specs.Splits.{isNamed}
 
 -- two contents side by side, line by line
-unfoldable pub paired : List (List ℕ) → List (List ℕ) → List (List ℕ)
-paired [] y = y
-paired (l ∷ x) [] = l ∷ x
-paired (l ∷ x) (m ∷ y) = (l ++ m) ∷ paired x y
+unfoldable pub sideBySide : List (List ℕ) → List (List ℕ) → List (List ℕ)
+sideBySide [] y = y
+sideBySide (l ∷ x) [] = l ∷ x
+sideBySide (l ∷ x) (m ∷ y) = (l ++ m) ∷ sideBySide x y
 
 -- bytes one under the other, each n times
 unfoldable pub column : ℕ → List ℕ → List (List ℕ)
@@ -23,7 +23,7 @@ ruled ns b c i zero = []
 ruled ns b c i (suc n) = pick (isNamed i ns) b c ∷ ruled ns b c (suc i) n
 
 -- the lines joined by 0A, none at the end
-unfoldable pub feeds : List (List ℕ) → List ℕ
-feeds [] = []
-feeds (l ∷ []) = l
-feeds (l ∷ m ∷ ls) = l ++ (10 ∷ feeds (m ∷ ls))
+unfoldable pub joinLines : List (List ℕ) → List ℕ
+joinLines [] = []
+joinLines (l ∷ []) = l
+joinLines (l ∷ m ∷ ls) = l ++ (10 ∷ joinLines (m ∷ ls))

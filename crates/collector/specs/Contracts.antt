@@ -8,25 +8,25 @@ use lib.ListN.{take, drop, replicate}
 use Rattle.common.specs.Choice.{pick}
 use Rattle.settings.specs.declared.Settings.{Settings}
 use Rattle.tree.specs.Tree.{Tree, Trees, nodes, nodes*}
-use Rattle.tree.specs.Promises.{Is, Are}
+use Rattle.tree.specs.Promises.{Encodes, EncodesAll}
 use Rattle.sizes.specs.Input.{Input, refused, given}
 use Rattle.collector.specs.declared.SizeRecord.{SizeRecord}
-use Rattle.collector.specs.declared.Lent.{Lent}
-use Rattle.collector.specs.declared.Plan.{Plan}
-use Rattle.collector.specs.Records.{recordsOf, Outcome, refusal, collectOf}
-use Rattle.collector.specs.Promises.{noRecord}
+use Rattle.collector.specs.declared.LentSizes.{LentSizes}
+use Rattle.collector.specs.declared.Sizing.{Sizing}
+use Rattle.collector.specs.Records.{recordsOf, Outcome, noCollected, collectOf}
+use Rattle.collector.specs.Promises.{noSizeRecord}
 
 -- s begins with a tree, whose nodes from `node` on have room in a list of the length len
 pub record ReadyBranch (s : List ℕ) (node len : ℕ) : Type 0 where
   pub tree : Tree
-  pub is : Is tree s
+  pub is : Encodes tree s
   pub room : node + nodes tree ≤ len
   pub few : node + nodes tree ≤ 512
 
 -- s is trees, whose nodes have such room
 pub record ReadyBranches (s : List ℕ) (node len : ℕ) : Type 0 where
   pub trees : Trees
-  pub are : Are trees s
+  pub are : EncodesAll trees s
   pub room : node + nodes* trees ≤ len
   pub few : node + nodes* trees ≤ 512
 
@@ -36,23 +36,23 @@ pub record CountsBelow (node n : ℕ) (counts : List ℕ) (r : ℕ) (b₀ b : Li
   pub stored : b ≡ sets b₀ node counts
 
 -- with the first `room` entries of a list lent, and the rest after them
-abbrev pub before : Outcome → List SizeRecord → Lent
-before o rest = record { answer = o .answer; list = o .list ++ rest }
+abbrev pub lentWith : Outcome → List SizeRecord → LentSizes
+lentWith o rest = record { answer = o .answer; list = o .list ++ rest }
 
-abbrev pub lentOf : Input → List SizeRecord → ℕ → Lent
-lentOf x l room = before (collectOf x (take room l)) (drop room l)
+abbrev pub lentOf : Input → List SizeRecord → ℕ → LentSizes
+lentOf x l room = lentWith (collectOf x (take room l)) (drop room l)
 
 abbrev pub noRecords : List SizeRecord
-noRecords = replicate 512 noRecord
+noRecords = replicate 512 noSizeRecord
 
 -- the records of all nodes in an array of 512
 abbrev pub recordArray : Settings → Tree → List SizeRecord
 recordArray s t = recordsOf s t ++ drop (nodes t) noRecords
 
 -- the answer, and the records to write
-abbrev pub refusedPlan : ℕ → Plan
-refusedPlan k = record { answer = refusal k; records = noRecords }
+abbrev pub refusedSizing : ℕ → Sizing
+refusedSizing k = record { answer = noCollected k; records = noRecords }
 
-unfoldable pub planOf : Input → ℕ → Plan
-planOf (refused k) len = refusedPlan k
-planOf (given s t) len = pick (ltb len (nodes t)) (refusedPlan 8) (record { answer = record { number = 0; count = nodes t }; records = recordArray s t })
+unfoldable pub sizingOf : Input → ℕ → Sizing
+sizingOf (refused k) len = refusedSizing k
+sizingOf (given s t) len = pick (ltb len (nodes t)) (refusedSizing 8) (record { answer = record { number = 0; count = nodes t }; records = recordArray s t })

@@ -22,14 +22,14 @@ pastNode bs n = n + 1 + getD bs n 0
 abbrev pub siblingOf : List ℕ → ℕ → ℕ → Option ℕ
 siblingOf bs m n = pick (leb (pastNode bs n) (m + getD bs m 0)) (some (pastNode bs n)) Option.none
 
-abbrev pub noRecord : SizeRecord
-noRecord = record { «natural_width» = 0; «natural_height» = 0; width = 0; height = 0; below = 0 }
+abbrev pub noSizeRecord : SizeRecord
+noSizeRecord = record { «natural_width» = 0; «natural_height» = 0; width = 0; height = 0; below = 0 }
 
 abbrev pub sizesOf : SizeRecord → Sizes
 sizesOf r = record { natural = record { width = r .«natural_width»; height = r .«natural_height» }; allotted = record { width = r .width; height = r .height } }
 
-abbrev pub belowOf : SizeRecord → ℕ
-belowOf r = r .below
+abbrev pub belowIn : SizeRecord → ℕ
+belowIn r = r .below
 
 -- the sizes in the entries that the answer counts
 abbrev pub sizesListed : Outcome → List Sizes
@@ -37,10 +37,10 @@ sizesListed o = map sizesOf (take (o .answer .count) (o .list))
 
 -- and the numbers of nodes below
 abbrev pub belowListed : Outcome → List ℕ
-belowListed o = map belowOf (take (o .answer .count) (o .list))
+belowListed o = map belowIn (take (o .answer .count) (o .list))
 
 -- an accepted call: its settings and tree, and that its list now has their sizes and counts
-pub record Collected (bs ts : List ℕ) (l : List SizeRecord) (o : Outcome) : Type 0 where
+pub record SizesCollected (bs ts : List ℕ) (l : List SizeRecord) (o : Outcome) : Type 0 where
   pub settings : Settings
   pub tree : Tree
   pub input : inputOf bs ts ≡ given settings tree

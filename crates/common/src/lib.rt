@@ -24,19 +24,19 @@ pub fn wide32(x: u32) -> usize
     x as usize
 }
 
-pub fn lesser(a: usize, b: usize) -> usize
+pub fn min(a: usize, b: usize) -> usize
     ensures { λ r. ⌜ r ≡ min a b ⌝ }
 {
     if a < b { a } else { b }
 }
 
-pub fn greater(a: usize, b: usize) -> usize
+pub fn max(a: usize, b: usize) -> usize
     ensures { λ r. ⌜ r ≡ max a b ⌝ }
 {
     if a < b { b } else { a }
 }
 
-pub fn one_if(b: bool) -> usize
+pub fn usize_from_bool(b: bool) -> usize
     ensures { λ r. ⌜ r ≡ choice.pick b 1 0 ⌝ }
     ensures small { λ r. ⌜ r ≤ 1 ⌝ }
 {
@@ -44,7 +44,7 @@ pub fn one_if(b: bool) -> usize
 }
 
 // One less, and 0 of 0.
-pub fn less_one(n: usize) -> usize
+pub fn saturating_dec(n: usize) -> usize
     ensures { λ r. ⌜ r ≡ n - 1 ⌝ }
 {
     if n == 0 { 0 } else { n - 1 }

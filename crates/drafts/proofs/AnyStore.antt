@@ -16,9 +16,9 @@ use Rattle.drafts.specs.Store.{isName, tagFor, hasTag, fieldsOf, fieldBy
 use Rattle.drafts.specs.Promises.{nameIn, OfForm, DraftCall, answerTo, storeAfter, lastSaved, Formed}
 use Rattle.drafts.proofs.Fields.{read-store, fields-without, without-gone, without-shorter, joined-last, fields-last, element-field}
 use Rattle.drafts.proofs.Formed.{store-parsed, used-and-zeros}
-use Rattle.drafts.proofs.Series.{name-tag, is-name, State, state-reads, state-length, other-noted, Next, call-next, series}
+use Rattle.drafts.proofs.Series.{name-tag, is-name, StoreState, state-reads, state-length, other-noted, NextCall, call-next, series}
 
-of-form : {n : ℕ} {o : List ℕ} → State n o → OfForm n o
+of-form : {n : ℕ} {o : List ℕ} → StoreState n o → OfForm n o
 of-form x = record { fields = x .fs; reads = state-reads x; long = state-length x }
 
 -- a store of the form, whoever made it
@@ -35,7 +35,7 @@ module _ (o : List ℕ) (fs : List (List ℕ)) (e : fieldsOf o ≡ some fs) wher
       let z : form .zeros ≡ length o - length (fieldBytes fs) = omega (arith, used-and-zeros o fs form) in
       form .is ∙ ap (λ (k : ℕ). fieldBytes fs ++ replicate k 0) z
 
-  abbrev start : (k : ℕ) (name : isName k ≡ true) → Next (length o) k name o (draftOf (tagFor k) fs)
+  abbrev start : (k : ℕ) (name : isName k ≡ true) → NextCall (length o) k name o (draftOf (tagFor k) fs)
   start k name = record { state = record { fs = fs; good = form .good; room = within; is = packed }; holds = refl }
 
   -- ---- one call

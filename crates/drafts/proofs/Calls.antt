@@ -8,10 +8,10 @@ use mathlib.Core.Option.{Option, some, none}
 use lib.ListN.{length}
 use lib.Dec.{ltb}
 use Rattle.common.specs.Choice.{pick}
-use Rattle.tree.specs.Reading.{ReadOne, readTree, answerOf}
+use Rattle.tree.specs.Reading.{ReadOne, readTree, treeAnswer}
 use Rattle.drafts.specs.Store.{isName, tagFor, hasTag, fieldsOf, fieldBytes, withoutTag, draftOf, StoreAnswer, DraftOut, saveTree, saveIn, saveOf, forgetIn, forgetOf, noReturn, returnFound, returnIn, returnOf}
 use Rattle.drafts.specs.Promises.{TreeRead, DraftCall, save, forget, return, answerTo}
-use Rattle.drafts.proofs.Opens.{tree-read}
+use Rattle.drafts.proofs.OpenedStore.{tree-read}
 
 abbrev Keeps : List ℕ → StoreAnswer → Type 0
 Keeps o a = (a .number ≡ 0 → ⊥) → a .store ≡ o
@@ -78,14 +78,14 @@ pub saved-read : (o : List ℕ) (n : ℕ) (tree : List ℕ) → saveOf o n tree 
 unfolding saveOf
 saved-read o n tree h = tree-read tree (go (fieldsOf o) h)
   where
-    read : (fs : List (List ℕ)) (y : ReadOne) → saveTree o fs (tagFor n) tree y .number ≡ 0 → answerOf y .number ≡ 0
+    read : (fs : List (List ℕ)) (y : ReadOne) → saveTree o fs (tagFor n) tree y .number ≡ 0 → treeAnswer y .number ≡ 0
     read fs (ReadOne.refused k) h = h
     read fs (ReadOne.one t z w) h = refl
 
-    named : (fs : List (List ℕ)) (c : Bool) → pick c (saveTree o fs (tagFor n) tree (readTree tree)) (record { number = 19; store = o }) .number ≡ 0 → answerOf (readTree tree) .number ≡ 0
+    named : (fs : List (List ℕ)) (c : Bool) → pick c (saveTree o fs (tagFor n) tree (readTree tree)) (record { number = 19; store = o }) .number ≡ 0 → treeAnswer (readTree tree) .number ≡ 0
     named fs true h = read fs (readTree tree) h
     named fs false h = absurd (omega arith)
 
-    go : (x : Option (List (List ℕ))) → saveIn o x n tree .number ≡ 0 → answerOf (readTree tree) .number ≡ 0
+    go : (x : Option (List (List ℕ))) → saveIn o x n tree .number ≡ 0 → treeAnswer (readTree tree) .number ≡ 0
     go none h = absurd (omega arith)
     go (some fs) h = named fs (isName n) h

@@ -4,6 +4,6 @@ pub mod AnyStore
 pub mod Copies
 pub mod Scans
 pub mod Formed
-pub mod Opens
+pub mod OpenedStore
 pub mod Calls
-pub mod GivesBack
+pub mod ReturnedTree

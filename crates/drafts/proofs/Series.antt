@@ -46,20 +46,20 @@ is-name = refl
 
 -- ---- a store that calls have left
 
-pub record State (n : ℕ) (o : List ℕ) : Type 0 where
+pub record StoreState (n : ℕ) (o : List ℕ) : Type 0 where
   pub fs : List (List ℕ)
   pub good : Fields fs
   pub room : length (fieldBytes fs) ≤ n
   pub is : o ≡ storeOf n fs
 
-module _ {n : ℕ} {o : List ℕ} (x : State n o) where
+module _ {n : ℕ} {o : List ℕ} (x : StoreState n o) where
   pub state-reads : fieldsOf o ≡ some (x .fs)
   state-reads = ap fieldsOf (x .is) ∙ read-store n (x .fs) (x .good) (x .room)
 
   pub state-length : length o ≡ n
   state-length = ap length (x .is) ∙ store-of-length n (x .fs) (x .room)
 
-pub state-zeros : (n : ℕ) → State n (replicate n 0)
+pub state-zeros : (n : ℕ) → StoreState n (replicate n 0)
 unfolding storeOf fieldBytes
 state-zeros n = let e : n ≡ n - 0 = omega arith in record { fs = []; good = tt; room = omega arith; is = ap (λ (z : ℕ). replicate z 0) e }
 
@@ -72,8 +72,8 @@ other-noted k q (forget j) m d = rw (ne-eqb j k d)
 other-noted k q (return j out) m d = refl
 
 module _ (n k : ℕ) (name : isName k ≡ true) where
-  pub record Next (o : List ℕ) (m : Option (List ℕ)) : Type 0 where
-    pub state : State n o
+  pub record NextCall (o : List ℕ) (m : Option (List ℕ)) : Type 0 where
+    pub state : StoreState n o
     pub holds : draftOf (tagFor k) (state .fs) ≡ m
 
   -- a refusal
@@ -91,18 +91,18 @@ module _ (n k : ℕ) (name : isName k ≡ true) where
       go false = refl
   kept-noted q d (return j out) m = refl
 
-  stay : (o : List ℕ) (m : Option (List ℕ)) → Next o m → (q : ℕ) → (q ≡ 0 → ⊥) → (c : DraftCall) → Next o (noted k q c m)
+  stay : (o : List ℕ) (m : Option (List ℕ)) → NextCall o m → (q : ℕ) → (q ≡ 0 → ⊥) → (c : DraftCall) → NextCall o (noted k q c m)
   stay o m x q d c = record { state = x .state; holds = x .holds ∙ kept-noted q d c m }
 
   abbrev CallNext : StoreAnswer → DraftCall → Option (List ℕ) → Type 0
-  CallNext r c m = Next (r .store) (noted k (r .number) c m)
+  CallNext r c m = NextCall (r .store) (noted k (r .number) c m)
 
-  module _ (o : List ℕ) (m : Option (List ℕ)) (x : Next o m) where
+  module _ (o : List ℕ) (m : Option (List ℕ)) (x : NextCall o m) where
     abbrev fs : List (List ℕ)
     fs = x .state .fs
 
     saved : (j : ℕ) (tree : List ℕ) → isName j ≡ true → length (fieldBytes (withoutTag (tagFor j) fs)) + (3 + length tree) ≤ length o
-        → Next (storeOf (length o) (withoutTag (tagFor j) fs ++ (element (tagFor j) tree ∷ []))) (noted k 0 (save j tree) m)
+        → NextCall (storeOf (length o) (withoutTag (tagFor j) fs ++ (element (tagFor j) tree ∷ []))) (noted k 0 (save j tree) m)
     unfolding noted
     saved j tree p h =
         let g = withoutTag (tagFor j) fs in
@@ -140,7 +140,7 @@ module _ (n k : ℕ) (name : isName k ≡ true) where
         named true p = read (readTree tree) refl p
         named false p = stay o m x 19 (λ z. omega arith) (save j tree)
 
-    forgot : (j : ℕ) → isName j ≡ true → Next (storeOf (length o) (withoutTag (tagFor j) fs)) (noted k 0 (forget j) m)
+    forgot : (j : ℕ) → isName j ≡ true → NextCall (storeOf (length o) (withoutTag (tagFor j) fs)) (noted k 0 (forget j) m)
     unfolding noted
     forgot j p =
         let l = state-length (x .state) in
@@ -175,7 +175,7 @@ module _ (n k : ℕ) (name : isName k ≡ true) where
     call-next (forget j) = forget-next j
     call-next (return j out) = x
 
-  pub series : (cs : List DraftCall) (o : List ℕ) (m : Option (List ℕ)) → Next o m → Next (storeAfter o cs) (lastSaved k o cs m)
+  pub series : (cs : List DraftCall) (o : List ℕ) (m : Option (List ℕ)) → NextCall o m → NextCall (storeAfter o cs) (lastSaved k o cs m)
   unfolding storeAfter lastSaved
   series [] o m x = x
   series (c ∷ cs) o m x = series cs (answerTo o c .store) (noted k (answerTo o c .number) c m) (call-next o m x c)
@@ -189,7 +189,7 @@ module _ (n : ℕ) (cs : List DraftCall) where
   abbrev draft : ℕ → Option (List ℕ)
   draft k = lastSaved k (replicate n 0) cs none
 
-  end : (k : ℕ) (name : isName k ≡ true) → Next n k name store (draft k)
+  end : (k : ℕ) (name : isName k ≡ true) → NextCall n k name store (draft k)
   unfolding draftOf state-zeros
   end k name = series n k name cs (replicate n 0) none (record { state = state-zeros n; holds = refl })
 
@@ -198,7 +198,7 @@ module _ (n : ℕ) (cs : List DraftCall) where
   unfolding returnOf
   return-gives k name out = let e = end k name in rw (state-reads (e .state), name, e .holds)
 
-  pub ours : State n store
+  pub ours : StoreState n store
   ours = end 65 is-name .state
 
   -- no byte is added or lost, and the store is always of the form

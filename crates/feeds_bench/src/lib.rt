@@ -37,7 +37,7 @@ pub extern "C" fn leg_measure_plain(text: &[u8]) -> u64 {
             lines = next(lines);
             n = 0;
         }
-        longest = common::greater(longest, n);
+        longest = common::max(longest, n);
         i += 1;
     }
     answer(longest, lines)
@@ -95,7 +95,7 @@ fn search(text: &[u8]) -> u64
     let mut from = 0;
     while from <= text.len() {
         let end = line_end(text, from);
-        width = common::greater(width, end - from);
+        width = common::max(width, end - from);
         lines = next(lines);
         from = end + 1;
     }
@@ -116,6 +116,6 @@ pub extern "C" fn leg_measure_words(text: &[u8]) -> u64 {
     if 65536 <= text.len() {
         return 0;
     }
-    let z = sizes::text::text_size(text);
+    let z = sizes::measure::text_size(text);
     answer(z.width, z.height)
 }

@@ -9,7 +9,7 @@ use Rattle.sizes.specs.declared.Size.{Size}
 use Rattle.sizes.specs.Sizes.{sep}
 use Rattle.frame.specs.declared.Frame.{Frame}
 use Rattle.frame.specs.Frame.{columnsOf, linesOf}
-use Rattle.frame.specs.Promises.{strideOf, bytesOf}
+use Rattle.frame.specs.Promises.{strideOf, byteCount}
 
 -- the frame around w columns and h lines
 abbrev pub around : Margin → ℕ → ℕ → Frame
@@ -19,7 +19,7 @@ around m w h = record {
   columns = columnsOf m w;
   lines = linesOf m h;
   stride = strideOf (columnsOf m w);
-  bytes = bytesOf (columnsOf m w) (linesOf m h);
+  bytes = byteCount (columnsOf m w) (linesOf m h);
 }
 
 -- by the root's natural size, with a mark at both ends

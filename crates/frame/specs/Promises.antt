@@ -6,5 +6,5 @@ abbrev pub strideOf : ℕ → ℕ
 strideOf w = w + 1
 
 -- the last line has no 0A
-abbrev pub bytesOf : ℕ → ℕ → ℕ
-bytesOf w h = strideOf w * h - 1
+abbrev pub byteCount : ℕ → ℕ → ℕ
+byteCount w h = strideOf w * h - 1

@@ -12,7 +12,7 @@ use Rattle.tree.specs.Tree.{Axis, Tree, cell, group, Trees, none, more, count, 
 use Rattle.sizes.specs.declared.Size.{Size}
 use Rattle.sizes.specs.Sizes.{sep, allot, spareOf, along, Sizes}
 use Rattle.sizes.specs.Promises.{sizesAt}
-use Rattle.block.specs.Block.{tall, wide}
+use Rattle.block.specs.Block.{blockHeight, blockWidth}
 use Rattle.layout.specs.Walk.{Context, child, alongList, besideList, walk, root, Placed, leaves}
 
 unfoldable mutual
@@ -78,11 +78,11 @@ unfolding starts
 startAt s size t n = getD (starts s size 0 origin t) n origin
 
 -- the lines and columns of a context's rectangle
-abbrev pub tallAt : Settings → Context → ℕ
-tallAt s c = tall s (c .size) (c .flags)
+abbrev pub heightAt : Settings → Context → ℕ
+heightAt s c = blockHeight s (c .size) (c .flags)
 
-abbrev pub wideAt : Settings → Context → ℕ
-wideAt s c = wide s (c .size) (c .flags)
+abbrev pub widthAt : Settings → Context → ℕ
+widthAt s c = blockWidth s (c .size) (c .flags)
 
 -- f is the leaf of node n
 pub record LeafAt (s : Settings) (t : Tree) (n : ℕ) (f : Placed) : Type 0 where

@@ -8,11 +8,11 @@ use lib.Seq.{sets, take-at}
 use Rattle.settings.specs.declared.Settings.{Settings}
 use Rattle.sizes.specs.declared.Size.{Size}
 use Rattle.sizes.specs.Sizes.{leafSize}
-use Rattle.sizes.specs.Contracts.{Small, Fits}
+use Rattle.sizes.specs.Contracts.{SmallSize, Fits}
 use Rattle.sizes.specs.Listed.{allottedAt}
 use Rattle.block.specs.declared.Flags.{Flags}
-use Rattle.block.specs.Content.{feeds}
-use Rattle.block.specs.Block.{block, tall, wide}
+use Rattle.block.specs.Content.{joinLines}
+use Rattle.block.specs.Block.{block, blockHeight, blockWidth}
 use Rattle.paint.specs.Contracts.{Room}
 use Rattle.block.proofs.Dimensions.{Dims}
 use Rattle.block.proofs.Dims.{block-dims}
@@ -20,11 +20,11 @@ use Rattle.paint.proofs.Feeds.{fed-pasted}
 use Rattle.layout.specs.Walk.{Placed, leafOf}
 use Rattle.layout.specs.Contracts.{flagsAt}
 use Rattle.entries.specs.declared.entry.Entry.{Entry}
-use Rattle.entries.specs.Contracts.{entryAt, entryOf, Stands, Listing, empty, entry, Begins, Asks, paintAll, PaintsAll}
+use Rattle.entries.specs.Contracts.{entryAt, entryOf, Stands, Listing, empty, entry, BeginsEntry, Asks, paintAll, PaintsAll}
 use Rattle.frame.specs.Printer.{noPrint, printTo}
-use Rattle.frame.proofs.Printers.{Answers}
+use Rattle.frame.proofs.Printers.{PrinterAnswers}
 use Rattle.leaf.specs.Contracts.{blockBytes}
-use Rattle.leaf.proofs.Records.{is, z-is, f-is}
+use Rattle.leaf.proofs.Records.{read-entry-is, record-size-is, f-is}
 use Rattle.leaf.proofs.Bytes.{block-bytes, alone-room, bytes-fit, wide-small, tall-small, to-short, to-whole}
 
 -- the leaf at line 0, column 0
@@ -34,7 +34,7 @@ alone l = record {
   at = record { node = l .at .node; line = 0; column = 0; size = l .at .size; horizontal = l .at .horizontal; vertical = l .at .vertical; flags = l .at .flags; pair = l .at .pair };
 }
 
-module _ {s : Settings} {stride : ℕ} {tree list : List ℕ} {l : Placed} {es : List ℕ} (b : Begins s stride tree list l es) where
+module _ {s : Settings} {stride : ℕ} {tree list : List ℕ} {l : Placed} {es : List ℕ} (b : BeginsEntry s stride tree list l es) where
   -- its entry is the leaf's, but for the first byte
   stands : Stands s tree list (b .at) (alone l)
   stands = record { inside = b .stands .inside; text-is = b .stands .text-is; sizes = b .stands .sizes; few-h = b .stands .few-h; few-v = b .stands .few-v }
@@ -51,48 +51,48 @@ module _ {s : Settings} {stride : ℕ} {tree list : List ℕ} {l : Placed} {es :
 
   -- as the code has it: the entry that was read, the size and the flags that it names, the block's columns and lines
   module _ (e : Entry) (ee : e ≡ entryAt es) (z : Size) (ze : z ≡ allottedAt list (e .spot .node)) (f : Flags) (fe : f ≡ flagsAt (e .spot .flags))
-      (small : Small z) (w : ℕ) (we : w ≡ wide s z f) where
+      (small : SmallSize z) (w : ℕ) (we : w ≡ blockWidth s z f) where
     pub line-low : w + 1 < 65539
     line-low = let h : z .width < 65536 = small .wide in omega (arith, wide-small s z f)
 
-    pub bytes-low : (a : ℕ) → a ≡ tall s z f → a * (w + 1) < 8589934592
+    pub bytes-low : (a : ℕ) → a ≡ blockHeight s z f → a * (w + 1) < 8589934592
     bytes-low a ae =
         let x : z .width < 65536 = small .wide in
         let y : z .height < 65536 = small .tall in
         bytes-fit a w (omega (arith, tall-small s z f .1)) (omega (arith, wide-small s z f))
 
-    module _ (a : ℕ) (ae : a ≡ tall s z f) (fits : Fits (leafSize s (l .text)) (l .at .size)) (n : ℕ) (ne : n ≡ a * (w + 1) - 1) where
+    module _ (a : ℕ) (ae : a ≡ blockHeight s z f) (fits : Fits (leafSize s (l .text)) (l .at .size)) (n : ℕ) (ne : n ≡ a * (w + 1) - 1) where
       size-is : z ≡ l .at .size
-      size-is = z-is b e ee z ze f fe
+      size-is = record-size-is b e ee z ze f fe
 
       flags-are : f ≡ l .at .flags
       flags-are = f-is b e ee z ze f fe
 
-      columns-are : w ≡ wide s (l .at .size) (l .at .flags)
+      columns-are : w ≡ blockWidth s (l .at .size) (l .at .flags)
       columns-are = we ∙ rw (size-is, flags-are)
 
-      lines-are : a ≡ tall s (l .at .size) (l .at .flags)
+      lines-are : a ≡ blockHeight s (l .at .size) (l .at .flags)
       lines-are = ae ∙ rw (size-is, flags-are)
 
       n-is : n ≡ blockBytes s (l .at .size) (l .at .flags)
       unfolding blockBytes
       n-is = ne ∙ rw (columns-are, lines-are)
 
-      bytes-are : length (feeds (block s (leafOf l))) ≡ n
+      bytes-are : length (joinLines (block s (leafOf l))) ≡ n
       bytes-are = block-bytes s (leafOf l) fits ∙ sym n-is
 
-      pub no-room : (o : List ℕ) → length o < n → printTo (feeds (block s (leafOf l))) o ≡ noPrint 8 o
-      no-room o h = to-short (feeds (block s (leafOf l))) o (omega (arith, bytes-are))
+      pub print-no-room : (o : List ℕ) → length o < n → printTo (joinLines (block s (leafOf l))) o ≡ noPrint 8 o
+      print-no-room o h = to-short (joinLines (block s (leafOf l))) o (omega (arith, bytes-are))
 
-      room : (len : ℕ) → n ≤ len → Room 0 (w + 1) (tall s (l .at .size) (l .at .flags)) (wide s (l .at .size) (l .at .flags)) len
+      room : (len : ℕ) → n ≤ len → Room 0 (w + 1) (blockHeight s (l .at .size) (l .at .flags)) (blockWidth s (l .at .size) (l .at .flags)) len
       room len h =
           let x : z .width < 65536 = small .wide in
           let y : z .height < 65536 = small .tall in
           let k : (l .at .size .width < 65536) × (l .at .size .height < 65536) = rw (← size-is) (x, y) in
           rw columns-are (alone-room s (l .text) (l .at .size) (l .at .flags) fits (k .0) (k .1) n len n-is h)
 
-      pub asks : (len : ℕ) → n ≤ len → Asks s (w + 1) len (alone l)
-      asks len h =
+      pub alone-asks : (len : ℕ) → n ≤ len → Asks s (w + 1) len (alone l)
+      alone-asks len h =
           let c : 0 * (w + 1) + 0 ≡ 0 = omega arith in
           record { fits = fits; apart = omega (arith, columns-are); room = rw c (room len h) }
 
@@ -101,18 +101,18 @@ module _ {s : Settings} {stride : ℕ} {tree list : List ℕ} {l : Placed} {es :
         unfoldable pub paints : PaintsAll tree list (take end (set es 2 0)) s (w + 1) len
         paints = record {
           leaves = alone l ∷ [];
-          listing = listing (w + 1) end (d ∙ rw (is b e ee));
+          listing = listing (w + 1) end (d ∙ rw (read-entry-is b e ee));
           short = short;
-          asks = (asks len (omega arith), tt);
+          asks = (alone-asks len (omega arith), tt);
         }
 
-        pub whole : (o₁ o₂ : List ℕ) → o₁ ≡ sets o 0 (replicate n 10) → o₂ ≡ paintAll s (w + 1) o₁ (paints .leaves)
-            → Answers (record { number = 0; count = n }) o₂ (printTo (feeds (block s (leafOf l))) o)
+        pub alone-whole : (o₁ o₂ : List ℕ) → o₁ ≡ sets o 0 (replicate n 10) → o₂ ≡ paintAll s (w + 1) o₁ (paints .leaves)
+            → PrinterAnswers (record { number = 0; count = n }) o₂ (printTo (joinLines (block s (leafOf l))) o)
         unfolding paints
-        whole o₁ o₂ e₁ e₂ =
+        alone-whole o₁ o₂ e₁ e₂ =
             let c : 0 * (w + 1) + 0 ≡ 0 = omega arith in
             let x = block s (leafOf l) in
             let g : Dims x a w = rw (columns-are, lines-are) (block-dims s (leafOf l) fits) in
             let k = fed-pasted x g n (sym bytes-are) o o₁ o₂ h e₁ (e₂ ∙ rw c) in
-            let t = to-whole (feeds x) o (omega (arith, bytes-are)) in
+            let t = to-whole (joinLines x) o (omega (arith, bytes-are)) in
             (rw (t, bytes-are), k ∙ rw (t, bytes-are))

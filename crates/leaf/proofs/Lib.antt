@@ -1,5 +1,5 @@
 -- What the proofs of several functions, and the layers above, use.
-pub mod Seek
+pub mod LeafNumbers
 pub mod Calls
 pub mod Bytes
 pub mod Records

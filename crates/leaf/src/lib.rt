@@ -18,12 +18,12 @@ ghost use mathlib.Core.Path.{_≡_};
 ghost use Prim.Native.Nat.{_≤_};
 ghost use lib.ListN.{length};
 ghost use Rattle.sizes.specs.Input.{inputOf};
-ghost use Rattle.block.specs.Content.{feeds};
+ghost use Rattle.block.specs.Content.{joinLines};
 ghost use Rattle.block.specs.Block as blocks;
 ghost use Rattle.layout.specs.Walk.{leafOf};
 ghost use Rattle.frame.specs.Printer.{printTo};
-ghost use Rattle.leaf.specs.Answers.{noFlags, noRecord, recordOf, leafRecordOf, leafPrintOf};
-ghost use Rattle.leaf.specs.Contracts.{noSought, Shows, Seeks};
+ghost use Rattle.leaf.specs.Answers.{noFlags, noLeafRecord, placedRecord, leafRecordOf, leafPrintOf};
+ghost use Rattle.leaf.specs.Contracts.{noSought, ShowsLeaf, Seeks};
 
 // A leaf's record: node, allotted size, both split lists as handed to the leaf, eight flags, the pair of the cut that its parent made for it; or a refusal with 0 or no elsewhere.
 pub struct LeafRecord {
@@ -52,7 +52,7 @@ fn no_flags() -> Flags
 }
 
 fn no_record(number: u8) -> LeafRecord
-    ensures { λ r. ⌜ r ≡ noRecord number ⌝ }
+    ensures { λ r. ⌜ r ≡ noLeafRecord number ⌝ }
 {
     let h = splits::no_pieces();
     let v = splits::no_pieces();
@@ -74,8 +74,8 @@ fn no_record(number: u8) -> LeafRecord
 
 // The record of the leaf whose entry is at the front of `leaf`.
 fn record_at(tree: &[u8], list: &[u16], leaf: &[u16], s: Settings) -> LeafRecord
-    requires { ⌜ Shows (now tree) (now list) (now leaf) s ⌝ }
-    ensures { λ r. ⌜ ((q : Shows (now (tree .entry)) (now (list .entry)) (now (leaf .entry)) s) → r ≡ recordOf (q .leaf)) ⌝ }
+    requires { ⌜ ShowsLeaf (now tree) (now list) (now leaf) s ⌝ }
+    ensures { λ r. ⌜ ((q : ShowsLeaf (now (tree .entry)) (now (list .entry)) (now (leaf .entry)) s) → r ≡ placedRecord (q .leaf)) ⌝ }
 {
     let e = entry_at(leaf);
     let p = e.spot;
@@ -164,15 +164,15 @@ pub fn leaf_record(settings: &[u8], tree: &[u8], node: usize) -> LeafRecord
 // The block of the leaf whose entry is at the front of `leaf`, its lines joined by 0A, at the start of the output; or 8. It is painted over bytes of 0A, as the only
 // leaf of a sheet would be: its first byte is the output's.
 fn print_block(tree: &[u8], list: &[u16], leaf: &mut [u16], s: Settings, out: &mut [u8]) -> Written
-    requires { ⌜ Shows (now tree) (now list) (now leaf) s ⌝ }
-    ensures { λ r. ⌜ ((q : Shows (now (tree .entry)) (now (list .entry)) (now (leaf .entry)) s) → (r ≡ printTo (feeds (blocks.block s (leafOf (q .leaf)))) (now (out .entry)) .answer) × (now (out .exit) ≡ printTo (feeds (blocks.block s (leafOf (q .leaf)))) (now (out .entry)) .out)) ⌝ }
+    requires { ⌜ ShowsLeaf (now tree) (now list) (now leaf) s ⌝ }
+    ensures { λ r. ⌜ ((q : ShowsLeaf (now (tree .entry)) (now (list .entry)) (now (leaf .entry)) s) → (r ≡ printTo (joinLines (blocks.block s (leafOf (q .leaf)))) (now (out .entry)) .answer) × (now (out .exit) ≡ printTo (joinLines (blocks.block s (leafOf (q .leaf)))) (now (out .entry)) .out)) ⌝ }
 {
     let e = entry_at(leaf);
     let end = FRONT + e.horizontal + e.vertical;
     let size = allotted_at(list, e.spot.node);
     let flags = layout::flags_of(e.spot.flags);
-    let stride = block::block_wide(s, size, flags) + 1;
-    let n = common::less_one(block::block_tall(s, size, flags) * stride);
+    let stride = block::block_width(s, size, flags) + 1;
+    let n = common::saturating_dec(block::block_height(s, size, flags) * stride);
     if out.len() < n {
         return frame::refused(8);
     }

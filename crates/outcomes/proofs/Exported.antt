@@ -11,7 +11,7 @@ use Rattle.common.specs.Choice.{pick}
 use Rattle.settings.specs.declared.Settings.{Settings}
 use Rattle.settings.specs.Reading.{Parsed, readSettings, priorityOf}
 use Rattle.tree.specs.Tree.{nodes}
-use Rattle.tree.specs.Reading.{readTree, answerOf}
+use Rattle.tree.specs.Reading.{readTree, treeAnswer}
 use Rattle.sizes.specs.Input.{Input, refused, given, inputOf}
 use Rattle.collector.specs.Records.{recordsOf}
 use Rattle.leaf.specs.Answers.{leafRecordOf, leafPrintOf}
@@ -25,13 +25,13 @@ use Rattle.widen.specs.Answers.{nearestOf}
 use Rattle.drafts.specs.Store.{returnOf}
 use Rattle.blank.specs.Blank.{oneOf, blankOf}
 use Rattle.typed.specs.Typed.{typedOf}
-use Rattle.numbers.specs.Words.{packed, typedWord}
-use Rattle.numbers.specs.Promises.{numberIn}
-use Rattle.numbers.proofs.TypedWord.{typed-word}
-use Rattle.numbers.specs.Numbers.{Gives, refusal, written, offered, settingsNumbers, marginNumbers, readGiven, sizeNumbers, sizesGiven, recordNumbers, recordGiven}
-use Rattle.numbers.specs.Cuts.{refusedBy, unless, GivesTwo, refusalTwo, writtenTwo, keptGiven, shortGiven, splits3Given, lentGiven, splitsGiven}
-use Rattle.numbers.specs.Places.{placeNumbers, placeGiven}
-use Rattle.numbers.specs.Plans.{endsWord}
+use Rattle.c_encoding.specs.Words.{packed, typedWord}
+use Rattle.c_encoding.specs.Promises.{numberIn}
+use Rattle.c_encoding.proofs.TypedWord.{typed-word}
+use Rattle.c_encoding.specs.Numbers.{Gives, refusal, written, offered, settingsNumbers, marginNumbers, readGiven, sizeNumbers, sizesGiven, recordNumbers, recordGiven}
+use Rattle.c_encoding.specs.Cuts.{refusedBy, unless, GivesTwo, refusalTwo, writtenTwo, keptGiven, shortGiven, splits3Given, lentGiven, splitsGiven}
+use Rattle.c_encoding.specs.Places.{placeNumbers, placeGiven}
+use Rattle.c_encoding.specs.Plans.{endsWord}
 use Rattle.outcomes.specs.Promises.{Among, Answers, inputIn, ofShare, ofSizes, ofRecord, ofLeaf, ofPlace, ofLegSettings, ofLegPlace, ofLegCut, ExportNumbers}
 use Rattle.outcomes.specs.Figures.{leg-settings-met, leg-margin-met, leg-sizes-met, leg-record-met, leg-place-met, leg-splits3-met, leg-lent-met, leg-splits-met, leg-share-met}
 use Rattle.outcomes.proofs.Numbers.{call-numbers, number-of, input-among}
@@ -175,7 +175,7 @@ unfolding small
 export-numbers = record {
   leg-read-settings = record { only = λ x. read-among 28 settingsNumbers (readSettings (x .0)) (x .1); met = leg-settings-met };
   leg-read-margin = record { only = λ x. read-among 8 marginNumbers (readSettings (x .0)) (x .1); met = leg-margin-met };
-  leg-read-tree = packed-answers (call-numbers .read-tree) refl (λ ts. answerOf (readTree ts) .nodes);
+  leg-read-tree = packed-answers (call-numbers .read-tree) refl (λ ts. treeAnswer (readTree ts) .nodes);
   leg-sizes = record { only = λ x. sizes-among (x .settings) (x .tree) (x .rest) (inputIn x) refl; met = leg-sizes-met };
   leg-leaf-record = record { only = λ x. record-among (x .settings) (x .tree) (x .rest .0) (x .rest .1); met = leg-record-met };
   leg-print-leaf = packed-answers (call-numbers .print-leaf) refl (λ x. leafPrintOf (inputIn x) (x .rest .0) (x .rest .1) .answer .count);

@@ -12,9 +12,9 @@ use lib.Dec.{ltb, leb, eqb}
 use Rattle.common.specs.Choice.{pick, both}
 use Rattle.settings.specs.declared.Settings.{Settings}
 use Rattle.settings.specs.declared.Priority.{Priority}
-use Rattle.settings.specs.Reading.{Parsed, readSettings, answerOf as settingsGiven}
+use Rattle.settings.specs.Reading.{Parsed, readSettings, parsedAnswer as settingsGiven}
 use Rattle.tree.specs.Tree.{Tree, nodes}
-use Rattle.tree.specs.Reading.{ReadOne, readTree, answerOf}
+use Rattle.tree.specs.Reading.{ReadOne, readTree, treeAnswer}
 use Rattle.tree.specs.Accepted.{bytesOf, element}
 use Rattle.tree.specs.Planning.{PlanOne, readPlan}
 use Rattle.tree.proofs.Sound.{tree-refusal}
@@ -25,23 +25,23 @@ use Rattle.splits.specs.declared.CutParts.{CutParts}
 use Rattle.splits.specs.declared.ShortParts.{ShortParts}
 use Rattle.splits.specs.Splits.{shortSplits3, shortSplits}
 use Rattle.splits.specs.Lists.{listOf}
-use Rattle.splits.specs.Cuts.{answered, refusedCut, cutOf, keptOf, answeredShort, refusedShort, shortOf}
+use Rattle.splits.specs.Cuts.{cutAnswered, refusedCut, cutOf, inPlaceCut, answeredShort, refusedShort, shortOf}
 use Rattle.sizes.specs.Text.{greatest}
 use Rattle.sizes.specs.declared.sharing.Shared.{Shared}
 use Rattle.sizes.specs.Sizes.{naturals, share}
-use Rattle.sizes.specs.Collecting.{wide}
+use Rattle.sizes.specs.Collecting.{sizeWidth}
 use Rattle.sizes.specs.Sharing.{shareOf}
 use Rattle.sizes.specs.Input.{Input, refused, given, inputOf}
-use Rattle.sizes.proofs.Given.{input-refusal}
+use Rattle.sizes.proofs.MeasuredInput.{input-refusal}
 use Rattle.collector.specs.declared.SizeRecord.{SizeRecord}
-use Rattle.collector.specs.Records.{recordsOf, Outcome, refusal, collectOf}
-use Rattle.block.specs.Content.{feeds}
+use Rattle.collector.specs.Records.{recordsOf, Outcome, noCollected, collectOf}
+use Rattle.block.specs.Content.{joinLines}
 use Rattle.block.specs.Block.{block}
 use Rattle.layout.specs.Walk.{Placed, leafOf, leaves, insideW, insideH}
 use Rattle.frame.specs.Frame.{W, H, tooLarge}
 use Rattle.frame.specs.Printer.{Prints, noPrint, printTo}
 use Rattle.leaf.specs.declared.LeafRecord.{LeafRecord}
-use Rattle.leaf.specs.Answers.{numbered, noRecord, recordFound, leafRecordOf, printFound, leafPrintOf}
+use Rattle.leaf.specs.Answers.{leafNumbered, noLeafRecord, recordFound, leafRecordOf, printFound, leafPrintOf}
 use Rattle.sheet.specs.Sheet.{sheet}
 use Rattle.sheet.specs.Answers.{sheetOf}
 use Rattle.places.specs.declared.LeafPlace.{LeafPlace}
@@ -50,8 +50,8 @@ use Rattle.places.specs.Words.{lineOf, columnOf}
 use Rattle.places.specs.Places.{among, ownerOf, areas, faultOf, noLeafPlace, leafPlaceFound, leafPlaceIn, leafPlaceOf}
 use Rattle.places.specs.Together.{located, wordOf, firstFault, Finds, noFinds, findsTo, findsIn, findsOf}
 use Rattle.fold.specs.Fold.{columns, find, missed}
-use Rattle.fold.specs.Answers.{listed, list?, Folds, noFolds, counts, finds, foldCells, foldOf}
-use Rattle.plan.specs.Answers.{settingsInput, planInput, plannedOf}
+use Rattle.fold.specs.Answers.{listedTrees, list?, Folds, noFolds, counts, finds, foldCells, foldOf}
+use Rattle.plan.specs.Answers.{planSettingsInput, planInput, plannedOf}
 use Rattle.widen.specs.Widening.{treeNeeds, nearestList}
 use Rattle.widen.specs.Listing.{nodesOf, lettersOf}
 use Rattle.widen.specs.Answers.{Nearests, noNearest, nearestOf}
@@ -101,21 +101,21 @@ unfolding oneOf
 settings-case Parsed.refused = refl
 settings-case (Parsed.read s) = refl
 
-tree-case : (ts : List ℕ) (r : ReadOne) → readTree ts ≡ r → Among (answerOf r .number) ofTree
+tree-case : (ts : List ℕ) (r : ReadOne) → readTree ts ≡ r → Among (treeAnswer r .number) ofTree
 unfolding oneOf
 tree-case ts (ReadOne.refused k) e = tree-among ofTree refl refl refl refl ts k e
 tree-case ts (ReadOne.one t z n) e = refl
 
 cut-number : (list : SplitList) (w : ℕ) → Among (cutOf list w .number) ofCut
 unfolding cutOf oneOf
-cut-number list w = number-of (λ (r : CutParts). r .number) ofCut (leb (list .count) 512) (answered (shortSplits3 (listOf list) w)) refusedCut refl refl
+cut-number list w = number-of (λ (r : CutParts). r .number) ofCut (leb (list .count) 512) (cutAnswered (shortSplits3 (listOf list) w)) refusedCut refl refl
 
 short-number : (list : SplitList) (w : ℕ) → Among (shortOf list w .number) ofCut
 unfolding shortOf oneOf
 short-number list w = number-of (λ (r : ShortParts). r .number) ofCut (leb (list .count) 512) (answeredShort (shortSplits (listOf list) w)) refusedShort refl refl
 
-kept-number : (list : SplitList) (w : ℕ) → Among (keptOf list w .answer .number) ofCut
-unfolding keptOf
+kept-number : (list : SplitList) (w : ℕ) → Among (inPlaceCut list w .answer .number) ofCut
+unfolding inPlaceCut
 kept-number list w = cut-number list w
 
 share-number : (spare n : ℕ) (p : Priority) (i : ℕ) → Among (shareOf spare n p i .number) ofShare
@@ -136,7 +136,7 @@ module _ (bs ts : List ℕ) where
   unfolding collectOf oneOf
   collect-in l (refused k) e = input-among ofSizes refl refl refl refl refl bs ts k e
   collect-in l (given s t) e =
-      number-of (λ (c : Outcome). c .answer .number) ofSizes (ltb (length l) (nodes t)) (record { answer = refusal 8; list = l })
+      number-of (λ (c : Outcome). c .answer .number) ofSizes (ltb (length l) (nodes t)) (record { answer = noCollected 8; list = l })
       (record { answer = record { number = 0; count = nodes t }; list = recordsOf s t ++ drop (nodes t) l }) refl refl
 
   found-record : (x : Option Placed) → Among (recordFound x .number) ofRecord
@@ -148,18 +148,18 @@ module _ (bs ts : List ℕ) where
   unfolding leafRecordOf oneOf
   record-in n (refused k) e = input-among ofRecord refl refl refl refl refl bs ts k e
   record-in n (given s t) e =
-      number-of (λ (r : LeafRecord). r .number) ofRecord (tooLarge s t) (noRecord 6) (recordFound (numbered n (leaves s t))) refl (found-record (numbered n (leaves s t)))
+      number-of (λ (r : LeafRecord). r .number) ofRecord (tooLarge s t) (noLeafRecord 6) (recordFound (leafNumbered n (leaves s t))) refl (found-record (leafNumbered n (leaves s t)))
 
   found-print : (s : Settings) (o : List ℕ) (x : Option Placed) → Among (printFound s o x .answer .number) ofLeaf
   unfolding oneOf
   found-print s o none = refl
-  found-print s o (some f) = to-number ofLeaf (feeds (block s (leafOf f))) o refl refl
+  found-print s o (some f) = to-number ofLeaf (joinLines (block s (leafOf f))) o refl refl
 
   leaf-in : (n : ℕ) (o : List ℕ) (x : Input) → inputOf bs ts ≡ x → Among (leafPrintOf x n o .answer .number) ofLeaf
   unfolding leafPrintOf oneOf
   leaf-in n o (refused k) e = input-among ofLeaf refl refl refl refl refl bs ts k e
   leaf-in n o (given s t) e =
-      number-of printed ofLeaf (tooLarge s t) (noPrint 6 o) (printFound s o (numbered n (leaves s t))) refl (found-print s o (numbered n (leaves s t)))
+      number-of printed ofLeaf (tooLarge s t) (noPrint 6 o) (printFound s o (leafNumbered n (leaves s t))) refl (found-print s o (leafNumbered n (leaves s t)))
 
   sheet-in : (o : List ℕ) (x : Input) → inputOf bs ts ≡ x → Among (sheetOf x o .answer .number) ofSheet
   unfolding sheetOf oneOf
@@ -218,11 +218,11 @@ module _ (bs ts : List ℕ) where
   fold-in w budget l (refused k) e = input-among ofFold refl refl refl refl refl bs ts k e
   fold-in w budget l (given s t) e =
       let g : Folds → ℕ = λ r. r .answer .number in
-      let zs = naturals s (listed t) in
+      let zs = naturals s (listedTrees t) in
       let f = find s w zs budget in
       let cs = columns s (f .best) zs in
       number-of g ofFold (list? t) (foldCells s w budget zs l) (noFolds 15 l)
-      (number-of g ofFold (ltb w (greatest (map wide zs))) (noFolds 16 l) (finds s zs l f) refl
+      (number-of g ofFold (ltb w (greatest (map sizeWidth zs))) (noFolds 16 l) (finds s zs l f) refl
       (number-of g ofFold (ltb (length l) (length cs)) (noFolds 8 l)
       (record { answer = record { number = 0; columns = length cs; height = f .best; tries = f .tries; miss = missed s zs f }; list = counts cs ++ drop (length cs) l }) refl refl))
       refl
@@ -236,7 +236,7 @@ module _ (bs ts : List ℕ) where
       let all : Nearests = record { answer = record { number = 0; count = length l }; nodes = nodesOf l ++ drop (length l) ns; letters = lettersOf l ++ drop (length l) ls } in
       number-of g ofSizes (ltb (length ns) (length l)) (noNearest 8 ns ls) (pick (ltb (length ls) (length l)) (noNearest 8 ns ls) all) refl (number-of g ofSizes (ltb (length ls) (length l)) (noNearest 8 ns ls) all refl refl)
 
-  plan-in : (p : Parsed) (x : PlanOne) → readPlan ts ≡ x → Among (plannedOf (settingsInput p x) .number) ofPlan
+  plan-in : (p : Parsed) (x : PlanOne) → readPlan ts ≡ x → Among (plannedOf (planSettingsInput p x) .number) ofPlan
   unfolding oneOf
   plan-in Parsed.refused x e = refl
   plan-in (Parsed.read s) (PlanOne.refused k) e = go (plan-refusal true ts k e)

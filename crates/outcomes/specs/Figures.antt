@@ -12,9 +12,9 @@ use Rattle.tree.specs.Tree.{nodes, count}
 use Rattle.tree.specs.Reading.{readTree, readElement, headerOf, isText}
 use Rattle.tree.specs.Planning.{wholeIn, elementIn, headerIn}
 use Rattle.splits.specs.declared.SplitList.{SplitList}
-use Rattle.splits.specs.Figures.{all}
+use Rattle.splits.specs.Figures.{allTrue}
 use Rattle.splits.specs.Lists.{splitList}
-use Rattle.splits.specs.Cuts.{cutOf, keptOf, shortOf}
+use Rattle.splits.specs.Cuts.{cutOf, inPlaceCut, shortOf}
 use Rattle.sizes.specs.Text.{greatest}
 use Rattle.sizes.specs.Sizes.{sep, naturals, treeSizes}
 use Rattle.sizes.specs.Input.{inputOf}
@@ -33,25 +33,25 @@ use Rattle.widen.specs.Widening.{needs, treeNeeds, ofNumber, nearestFrom, neare
 use Rattle.widen.specs.Answers.{nearestOf}
 use Rattle.drafts.specs.Store.{saveOf, forgetOf, returnOf}
 use Rattle.blank.specs.Blank.{blankOf}
-use Rattle.numbers.specs.Numbers.{refusal, written, readGiven, sizeNumbers, sizesGiven, recordGiven}
-use Rattle.numbers.specs.Cuts.{refusedBy, splits3Given, refusalTwo, writtenTwo, keptGiven, lentGiven, shortGiven, splitsGiven}
-use Rattle.numbers.specs.Places.{placeGiven}
+use Rattle.c_encoding.specs.Numbers.{refusal, written, readGiven, sizeNumbers, sizesGiven, recordGiven}
+use Rattle.c_encoding.specs.Cuts.{refusedBy, splits3Given, refusalTwo, writtenTwo, keptGiven, lentGiven, shortGiven, splitsGiven}
+use Rattle.c_encoding.specs.Places.{placeGiven}
 use Rattle.outcomes.specs.Promises.{Met, Handed, legSettings, legMargin, legSizes, legRecord, legPlace, legSplits3, legLent, legSplits, legShare, ofLegSettings, ofLegPlace, ofLegCut, ofSettings, ofTree, ofCut, ofShare, ofSizes, ofRecord, ofLeaf, ofSheet, ofPlace, ofPlaces, ofFold, ofPlan, ofSave, ofForget, ofReturn, ofBlank, settingsNumber, treeNumber, cutNumber, keptNumber, shortNumber, shareNumber, collectNumber, recordNumber, leafNumber, sheetNumber, placeNumber, placesNumber, foldNumber, planNumber, nearestNumber, saveNumber, forgetNumber, returnNumber, blankNumber}
 
 -- ---- settings
 
 -- every mark is `+`, no padding
-pub plain : List ℕ
-plain = 16 ∷ 0 ∷ 28 ∷ (replicate 15 43 ++ (replicate 4 0 ++ (replicate 4 32 ++ replicate 5 0)))
+pub plainSettings : List ℕ
+plainSettings = 16 ∷ 0 ∷ 28 ∷ (replicate 15 43 ++ (replicate 4 0 ++ (replicate 4 32 ++ replicate 5 0)))
 
 -- the same with a margin of 1 on all sides
-pub edged : List ℕ
-unfolding plain
-edged = plain ++ (17 ∷ 0 ∷ 8 ∷ (replicate 4 1 ++ replicate 4 32))
+pub edgedSettings : List ℕ
+unfolding plainSettings
+edgedSettings = plainSettings ++ (17 ∷ 0 ∷ 8 ∷ (replicate 4 1 ++ replicate 4 32))
 
 pub settings-met : Met settingsNumber ofSettings
-unfolding plain readSettings
-settings-met = record { inputs = plain ∷ [] ∷ []; each = refl }
+unfolding plainSettings readSettings
+settings-met = record { inputs = plainSettings ∷ [] ∷ []; each = refl }
 
 -- ---- trees
 
@@ -83,12 +83,12 @@ unfolding nested
 deep = nested 17
 
 -- a Cell of 159 lines
-pub tall : List ℕ
-tall = 1 ∷ 0 ∷ 158 ∷ replicate 158 10
+pub tallCell : List ℕ
+tallCell = 1 ∷ 0 ∷ 158 ∷ replicate 158 10
 
 -- a Column of one Cell, `a`
-pub listed : List ℕ
-listed = 3 ∷ 0 ∷ 4 ∷ 1 ∷ 0 ∷ 1 ∷ 97 ∷ []
+pub columnOfOne : List ℕ
+columnOfOne = 3 ∷ 0 ∷ 4 ∷ 1 ∷ 0 ∷ 1 ∷ 97 ∷ []
 
 -- a range with a least width above its greatest
 pub noRange : List ℕ
@@ -110,59 +110,59 @@ on s t r = record { settings = s; tree = t; rest = r }
 
 -- refused with 1 to 5; what this opens is enough to read every input below
 pub refusals : {R : Type 0} → R → List (Handed R)
-unfolding plain edged emptyCell forbidden crowded deep tall listed badTrees inputOf readSettings readTree readElement headerOf isText nodes sep
-refusals r = on [] [] r ∷ map (λ (t : List ℕ). on plain t r) badTrees
+unfolding plainSettings edgedSettings emptyCell forbidden crowded deep tallCell columnOfOne badTrees inputOf readSettings readTree readElement headerOf isText nodes sep
+refusals r = on [] [] r ∷ map (λ (t : List ℕ). on plainSettings t r) badTrees
 
 abbrev noSizes : SizeRecord
 noSizes = record { «natural_width» = 0; «natural_height» = 0; width = 0; height = 0; below = 0 }
 
 pub collect-met : Met collectNumber ofSizes
 unfolding refusals collectOf
-collect-met = record { inputs = on plain emptyCell (noSizes ∷ []) ∷ (refusals [] ++ (on plain emptyCell [] ∷ [])); each = refl }
+collect-met = record { inputs = on plainSettings emptyCell (noSizes ∷ []) ∷ (refusals [] ++ (on plainSettings emptyCell [] ∷ [])); each = refl }
 
 pub record-met : Met recordNumber ofRecord
 unfolding refusals leafRecordOf
-record-met = record { inputs = on plain emptyCell 0 ∷ (refusals 0 ++ (on plain tall 0 ∷ on plain emptyCell 1 ∷ [])); each = refl }
+record-met = record { inputs = on plainSettings emptyCell 0 ∷ (refusals 0 ++ (on plainSettings tallCell 0 ∷ on plainSettings emptyCell 1 ∷ [])); each = refl }
 
 pub leaf-met : Met leafNumber ofLeaf
 unfolding refusals leafPrintOf
-leaf-met = record { inputs = on plain emptyCell (0, replicate 8 0) ∷ (refusals (0, []) ++ (on plain tall (0, []) ∷ on plain emptyCell (1, []) ∷ on plain emptyCell (0, []) ∷ [])); each = refl }
+leaf-met = record { inputs = on plainSettings emptyCell (0, replicate 8 0) ∷ (refusals (0, []) ++ (on plainSettings tallCell (0, []) ∷ on plainSettings emptyCell (1, []) ∷ on plainSettings emptyCell (0, []) ∷ [])); each = refl }
 
 pub sheet-met : Met sheetNumber ofSheet
 unfolding refusals sheetOf
-sheet-met = record { inputs = on plain emptyCell (replicate 8 0) ∷ (refusals [] ++ (on plain tall [] ∷ on plain emptyCell [] ∷ [])); each = refl }
+sheet-met = record { inputs = on plainSettings emptyCell (replicate 8 0) ∷ (refusals [] ++ (on plainSettings tallCell [] ∷ on plainSettings emptyCell [] ∷ [])); each = refl }
 
 pub place-met : Met placeNumber ofPlace
 unfolding refusals leafPlaceOf
-place-met = record { inputs = on plain emptyCell (0, 0) ∷ (refusals (0, 0) ++ (on plain tall (0, 0) ∷ on plain emptyCell (3, 0) ∷ on edged emptyCell (0, 0) ∷ [])); each = refl }
+place-met = record { inputs = on plainSettings emptyCell (0, 0) ∷ (refusals (0, 0) ++ (on plainSettings tallCell (0, 0) ∷ on plainSettings emptyCell (3, 0) ∷ on edgedSettings emptyCell (0, 0) ∷ [])); each = refl }
 
 -- line 0, column 0; 257 of it; line 0, column 2; on the margin
 pub places-met : Met placesNumber ofPlaces
 unfolding refusals findsOf
 places-met = record {
   inputs =
-      on plain emptyCell (0 ∷ [], 0 ∷ [])
+      on plainSettings emptyCell (0 ∷ [], 0 ∷ [])
       ∷ (refusals ([], [])
-      ++ (on plain tall ([], [])
-      ∷ on plain emptyCell (replicate 257 0, [])
-      ∷ on plain emptyCell (2 ∷ [], [])
-      ∷ on edged emptyCell (0 ∷ [], [])
-      ∷ on plain emptyCell (0 ∷ [], [])
+      ++ (on plainSettings tallCell ([], [])
+      ∷ on plainSettings emptyCell (replicate 257 0, [])
+      ∷ on plainSettings emptyCell (2 ∷ [], [])
+      ∷ on edgedSettings emptyCell (0 ∷ [], [])
+      ∷ on plainSettings emptyCell (0 ∷ [], [])
       ∷ []));
   each = refl;
 }
 
 pub fold-met : Met foldNumber ofFold
-unfolding refusals foldOf list? cells? count fold.listed foldCells naturals greatest columns folded
-fold-met = record { inputs = on plain listed (1, 0, 0 ∷ []) ∷ (refusals (0, 0, []) ++ (on plain emptyCell (0, 0, []) ∷ on plain listed (0, 0, []) ∷ on plain listed (1, 0, []) ∷ [])); each = refl }
+unfolding refusals foldOf list? cells? count fold.listedTrees foldCells naturals greatest columns folded
+fold-met = record { inputs = on plainSettings columnOfOne (1, 0, 0 ∷ []) ∷ (refusals (0, 0, []) ++ (on plainSettings emptyCell (0, 0, []) ∷ on plainSettings columnOfOne (0, 0, []) ∷ on plainSettings columnOfOne (1, 0, []) ∷ [])); each = refl }
 
 pub nearest-met : Met nearestNumber ofSizes
 unfolding refusals nearestOf nearestList nearestFrom treeNeeds needs ofNumber greatest
-nearest-met = record { inputs = on plain emptyCell (0 ∷ [], 0 ∷ []) ∷ (refusals ([], []) ++ (on plain emptyCell ([], []) ∷ [])); each = refl }
+nearest-met = record { inputs = on plainSettings emptyCell (0 ∷ [], 0 ∷ []) ∷ (refusals ([], []) ++ (on plainSettings emptyCell ([], []) ∷ [])); each = refl }
 
 pub plan-met : Met planNumber ofPlan
 unfolding refusals noRange planInput wholeIn elementIn headerIn
-plan-met = record { inputs = (plain, emptyCell) ∷ ([], []) ∷ (map (λ (t : List ℕ). (plain, t)) badTrees ++ ((plain, noRange) ∷ [])); each = refl }
+plan-met = record { inputs = (plainSettings, emptyCell) ∷ ([], []) ∷ (map (λ (t : List ℕ). (plainSettings, t)) badTrees ++ ((plainSettings, noRange) ∷ [])); each = refl }
 
 -- ---- cuts and shares
 
@@ -175,7 +175,7 @@ unfolding cutOf
 cut-met = record { inputs = (splitList [], 0) ∷ (tooMany, 0) ∷ []; each = refl }
 
 pub kept-met : Met keptNumber ofCut
-unfolding keptOf cutOf
+unfolding inPlaceCut cutOf
 kept-met = record { inputs = (splitList [], 0) ∷ (tooMany, 0) ∷ []; each = refl }
 
 pub short-met : Met shortNumber ofCut
@@ -188,21 +188,21 @@ share-met = record { inputs = (0, 1, Priority.First, 0) ∷ (0, 0, Priority.Firs
 -- ---- drafts and question papers
 
 -- a store with the empty Cell in it as draft A, byte 65
-pub stored : List ℕ
+pub storeOfOne : List ℕ
 unfolding emptyCell
-stored = 32 ∷ 0 ∷ 3 ∷ emptyCell
+storeOfOne = 32 ∷ 0 ∷ 3 ∷ emptyCell
 
 pub save-met : Met saveNumber ofSave
 unfolding refusals saveOf
 save-met = record { inputs = (replicate 6 0, 65, emptyCell) ∷ (1 ∷ [], 65, emptyCell) ∷ ([], 64, emptyCell) ∷ (map (λ (t : List ℕ). ([], 65, t)) badTrees ++ (([], 65, emptyCell) ∷ [])); each = refl }
 
 pub forget-met : Met forgetNumber ofForget
-unfolding stored forgetOf
-forget-met = record { inputs = (stored, 65) ∷ (1 ∷ [], 65) ∷ ([], 65) ∷ []; each = refl }
+unfolding storeOfOne forgetOf
+forget-met = record { inputs = (storeOfOne, 65) ∷ (1 ∷ [], 65) ∷ ([], 65) ∷ []; each = refl }
 
 pub return-met : Met returnNumber ofReturn
-unfolding stored returnOf
-return-met = record { inputs = (stored, 65, replicate 3 0) ∷ (1 ∷ [], 65, []) ∷ ([], 65, []) ∷ (stored, 65, []) ∷ []; each = refl }
+unfolding storeOfOne returnOf
+return-met = record { inputs = (storeOfOne, 65, replicate 3 0) ∷ (1 ∷ [], 65, []) ∷ ([], 65, []) ∷ (storeOfOne, 65, []) ∷ []; each = refl }
 
 pub blank-met : Met blankNumber ofBlank
 unfolding refusals blankOf
@@ -215,38 +215,38 @@ bytes? [] = true
 bytes? (b ∷ s) = pick (ltb b 256) (bytes? s) false
 
 pub areBytes : List Bool
-unfolding bytes? plain edged emptyCell badTrees tall listed noRange stored
-areBytes = map bytes? (plain ∷ edged ∷ emptyCell ∷ tall ∷ listed ∷ noRange ∷ stored ∷ badTrees)
+unfolding bytes? plainSettings edgedSettings emptyCell badTrees tallCell columnOfOne noRange storeOfOne
+areBytes = map bytes? (plainSettings ∷ edgedSettings ∷ emptyCell ∷ tallCell ∷ columnOfOne ∷ noRange ∷ storeOfOne ∷ badTrees)
 
-pub inputs-are-bytes : all areBytes ≡ true
-unfolding all areBytes
+pub inputs-are-bytes : allTrue areBytes ≡ true
+unfolding allTrue areBytes
 inputs-are-bytes = refl
 
 -- ---- C functions that do more than pack a call's answer
 
 pub leg-settings-met : Met legSettings ofLegSettings
 unfolding refusals readGiven
-leg-settings-met = record { inputs = (plain, replicate 28 0) ∷ ([], []) ∷ (plain, []) ∷ []; each = refl }
+leg-settings-met = record { inputs = (plainSettings, replicate 28 0) ∷ ([], []) ∷ (plainSettings, []) ∷ []; each = refl }
 
 pub leg-margin-met : Met legMargin ofLegSettings
 unfolding refusals readGiven
-leg-margin-met = record { inputs = (plain, replicate 8 0) ∷ ([], []) ∷ (plain, []) ∷ []; each = refl }
+leg-margin-met = record { inputs = (plainSettings, replicate 8 0) ∷ ([], []) ∷ (plainSettings, []) ∷ []; each = refl }
 
 pub leg-sizes-met : Met legSizes ofSizes
 unfolding refusals sizesGiven sizeNumbers zipped treeSizes belows
-leg-sizes-met = record { inputs = on plain emptyCell (replicate 5 0) ∷ (refusals [] ++ (on plain emptyCell [] ∷ [])); each = refl }
+leg-sizes-met = record { inputs = on plainSettings emptyCell (replicate 5 0) ∷ (refusals [] ++ (on plainSettings emptyCell [] ∷ [])); each = refl }
 
 pub leg-record-met : Met legRecord ofLeaf
 unfolding refusals leafRecordOf recordGiven
 leg-record-met = record {
-  inputs = on plain emptyCell (0, replicate 1039 0) ∷ (refusals (0, []) ++ (on plain tall (0, []) ∷ on plain emptyCell (1, []) ∷ on plain emptyCell (0, []) ∷ []));
+  inputs = on plainSettings emptyCell (0, replicate 1039 0) ∷ (refusals (0, []) ++ (on plainSettings tallCell (0, []) ∷ on plainSettings emptyCell (1, []) ∷ on plainSettings emptyCell (0, []) ∷ []));
   each = refl;
 }
 
 pub leg-place-met : Met legPlace ofLegPlace
 unfolding refusals leafPlaceOf placeGiven
 leg-place-met = record {
-  inputs = on plain emptyCell (0, 0, replicate 3 0) ∷ (refusals (0, 0, []) ++ (on plain tall (0, 0, []) ∷ on plain emptyCell (3, 0, []) ∷ on edged emptyCell (0, 0, []) ∷ on plain emptyCell (0, 0, []) ∷ []));
+  inputs = on plainSettings emptyCell (0, 0, replicate 3 0) ∷ (refusals (0, 0, []) ++ (on plainSettings tallCell (0, 0, []) ∷ on plainSettings emptyCell (3, 0, []) ∷ on edgedSettings emptyCell (0, 0, []) ∷ on plainSettings emptyCell (0, 0, []) ∷ []));
   each = refl;
 }
 

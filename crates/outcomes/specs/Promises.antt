@@ -6,9 +6,9 @@ use mathlib.Core.Bool.{true}
 use mathlib.Core.List.{List, [], _∷_, map}
 use Rattle.settings.specs.declared.Priority.{Priority}
 use Rattle.settings.specs.Reading.{readSettings, settingsAnswer, priorityOf}
-use Rattle.tree.specs.Reading.{readTree, answerOf}
+use Rattle.tree.specs.Reading.{readTree, treeAnswer}
 use Rattle.splits.specs.declared.SplitList.{SplitList}
-use Rattle.splits.specs.Cuts.{cutOf, keptOf, shortOf}
+use Rattle.splits.specs.Cuts.{cutOf, inPlaceCut, shortOf}
 use Rattle.sizes.specs.Input.{Input, inputOf}
 use Rattle.sizes.specs.Sharing.{shareOf}
 use Rattle.collector.specs.declared.SizeRecord.{SizeRecord}
@@ -23,12 +23,12 @@ use Rattle.widen.specs.Answers.{nearestOf}
 use Rattle.drafts.specs.Store.{saveOf, forgetOf, returnOf}
 use Rattle.blank.specs.Blank.{oneOf, blankOf}
 use Rattle.typed.specs.Typed.{typedOf}
-use Rattle.numbers.specs.Words.{packed, typedWord}
-use Rattle.numbers.specs.Promises.{numberIn}
-use Rattle.numbers.specs.Numbers.{settingsGiven, marginGiven, sizesGiven, recordGiven}
-use Rattle.numbers.specs.Cuts.{splits3Given, lentGiven, splitsGiven}
-use Rattle.numbers.specs.Places.{placeGiven}
-use Rattle.numbers.specs.Plans.{endsWord}
+use Rattle.c_encoding.specs.Words.{packed, typedWord}
+use Rattle.c_encoding.specs.Promises.{numberIn}
+use Rattle.c_encoding.specs.Numbers.{settingsGiven, marginGiven, sizesGiven, recordGiven}
+use Rattle.c_encoding.specs.Cuts.{splits3Given, lentGiven, splitsGiven}
+use Rattle.c_encoding.specs.Places.{placeGiven}
+use Rattle.c_encoding.specs.Plans.{endsWord}
 
 -- ---- what is said of each call
 
@@ -125,14 +125,14 @@ abbrev pub settingsNumber : List ℕ → ℕ
 settingsNumber bs = settingsAnswer bs .number
 
 abbrev pub treeNumber : List ℕ → ℕ
-treeNumber ts = answerOf (readTree ts) .number
+treeNumber ts = treeAnswer (readTree ts) .number
 
 -- a list and a width
 abbrev pub cutNumber : SplitList × ℕ → ℕ
 cutNumber x = cutOf (x .0) (x .1) .number
 
 abbrev pub keptNumber : SplitList × ℕ → ℕ
-keptNumber x = keptOf (x .0) (x .1) .answer .number
+keptNumber x = inPlaceCut (x .0) (x .1) .answer .number
 
 abbrev pub shortNumber : SplitList × ℕ → ℕ
 shortNumber x = shortOf (x .0) (x .1) .number
@@ -222,7 +222,7 @@ abbrev pub legMargin : List ℕ × List ℕ → ℕ
 legMargin x = numberIn (marginGiven (readSettings (x .0)) (x .1) .word)
 
 abbrev pub legTree : List ℕ → ℕ
-legTree ts = numberIn (packed (treeNumber ts) (answerOf (readTree ts) .nodes))
+legTree ts = numberIn (packed (treeNumber ts) (treeAnswer (readTree ts) .nodes))
 
 abbrev pub legSizes : Handed (List ℕ) → ℕ
 legSizes x = numberIn (sizesGiven (inputIn x) (x .rest) .word)

@@ -12,19 +12,19 @@ use Rattle.sizes.specs.Sizes.{leafSize}
 use Rattle.sizes.specs.Contracts.{Fits}
 use Rattle.sizes.proofs.Separator.{sep-one, sep-none}
 use Rattle.block.specs.declared.Flags.{Flags}
-use Rattle.block.specs.Content.{column, paired}
-use Rattle.block.specs.Block.{Leaf, edge, body, topLine, middle, bottomLine, block, tall, wide}
+use Rattle.block.specs.Content.{column, sideBySide}
+use Rattle.block.specs.Block.{Leaf, edge, body, topLine, middle, bottomLine, block, blockHeight, blockWidth}
 use Rattle.block.proofs.Dims.{body-dims, length-ruled}
 
 -- ---- with lines, a separator is one mark wide
 
 module _ (s : Settings) (lined : s .lines ≡ true) (z : Size) (f : Flags) where
-  pub tall-is : tall s z f ≡ suc (z .height + pick (f .«last_row») 1 0)
-  unfolding tall
+  pub tall-is : blockHeight s z f ≡ suc (z .height + pick (f .«last_row») 1 0)
+  unfolding blockHeight
   tall-is = rw (sep-one s lined) (omega arith)
 
-  pub wide-is : wide s z f ≡ suc (z .width + pick (f .«last_col») 1 0)
-  unfolding wide
+  pub wide-is : blockWidth s z f ≡ suc (z .width + pick (f .«last_col») 1 0)
+  unfolding blockWidth
   wide-is = rw (sep-one s lined) (omega arith)
 
 one-line : (b : Bool) (x : List ℕ) → replicate (pick b 1 0) x ≡ pick b (x ∷ []) []
@@ -48,26 +48,26 @@ unfolding column
 column-none [] = refl
 column-none (b ∷ l) = ap (λ (x : List (List ℕ)). [] ∷ x) (column-none l)
 
-none-left : (n : ℕ) (x : List (List ℕ)) → length x ≡ n → paired (replicate n []) x ≡ x
-unfolding paired
+none-left : (n : ℕ) (x : List (List ℕ)) → length x ≡ n → sideBySide (replicate n []) x ≡ x
+unfolding sideBySide
 none-left zero x e = refl
 none-left (suc n) [] e = absurd (omega arith)
 none-left (suc n) (l ∷ x) e = ap (λ (y : List (List ℕ)). l ∷ y) (none-left n x (omega arith))
 
-none-right : (n : ℕ) (x : List (List ℕ)) → length x ≡ n → paired x (replicate n []) ≡ x
-unfolding paired
+none-right : (n : ℕ) (x : List (List ℕ)) → length x ≡ n → sideBySide x (replicate n []) ≡ x
+unfolding sideBySide
 none-right zero [] e = refl
 none-right zero (l ∷ x) e = absurd (omega arith)
 none-right (suc n) [] e = absurd (omega arith)
 none-right (suc n) (l ∷ x) e = rw (append-nil l) (ap (λ (y : List (List ℕ)). l ∷ y) (none-right n x (omega arith)))
 
 module _ (s : Settings) (bare : s .lines ≡ false) where
-  pub bare-tall : (z : Size) (f : Flags) → tall s z f ≡ z .height
-  unfolding tall
+  pub bare-tall : (z : Size) (f : Flags) → blockHeight s z f ≡ z .height
+  unfolding blockHeight
   bare-tall z f = rw (sep-none s bare, none-picked (f .«last_row»)) (omega arith)
 
-  pub bare-wide : (z : Size) (f : Flags) → wide s z f ≡ z .width
-  unfolding wide
+  pub bare-wide : (z : Size) (f : Flags) → blockWidth s z f ≡ z .width
+  unfolding blockWidth
   bare-wide z f = rw (sep-none s bare, none-picked (f .«last_col»)) (omega arith)
 
   bare-middle : (l : Leaf) → Fits (leafSize s (l .text)) (l .size) → middle s l ≡ body s (l .text) (l .size)

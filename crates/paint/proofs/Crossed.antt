@@ -16,7 +16,7 @@ use Rattle.common.proofs.Either.{either}
 use Rattle.common.proofs.Stores.{sets-append, sets-sets}
 use Rattle.splits.specs.Splits.{isNamed}
 use Rattle.block.specs.Content.{ruled, column}
-use Rattle.paint.specs.Contracts.{pasted, spaces, crossed}
+use Rattle.paint.specs.Contracts.{pasted, spaceLines, crossed}
 use Rattle.block.proofs.Dimensions.{Dims, paired-same, dims-lines, dims-replicate}
 use Rattle.paint.proofs.Pasted.{sets-pasted, pasted-beside, pasted-aside}
 use Rattle.block.proofs.Dims.{length-ruled, left-dims}
@@ -132,10 +132,10 @@ stack-crossed ks o at step n b c h = rw (← (column-replicate n c), crossed-col
 
 -- the same with w spaces behind each
 pub marks-crossed : (ks o : List ℕ) (at step n w b c : ℕ) → 1 + w ≤ step
-    → crossed (pasted o at step (replicate n (c ∷ replicate w 32))) at step n ks b ≡ pasted (pasted o at step (column 1 (ruled ks b c 0 n))) (at + 1) step (spaces n w)
+    → crossed (pasted o at step (replicate n (c ∷ replicate w 32))) at step n ks b ≡ pasted (pasted o at step (column 1 (ruled ks b c 0 n))) (at + 1) step (spaceLines n w)
 marks-crossed ks o at step n w b c h =
     let x : List (List ℕ) = replicate n (c ∷ []) in
-    let y : List (List ℕ) = spaces n w in
+    let y : List (List ℕ) = spaceLines n w in
     let marks : Dims x n 1 = dims-lines n (c ∷ []) 1 refl in
     let blanks : Dims y n w = dims-replicate n w 32 in
     let beside : pasted o at step (replicate n (c ∷ replicate w 32)) ≡ pasted (pasted o (at + 1) step y) at step x

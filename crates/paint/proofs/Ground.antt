@@ -7,19 +7,19 @@ use lib.ListN.{length, drop, getD, replicate, length-append, length-replicate, r
 use lib.Seq.{sets, length-sets}
 use Rattle.settings.specs.declared.Settings.{Settings}
 use Rattle.sizes.specs.declared.Size.{Size}
-use Rattle.feeds.specs.Contracts.{firstFeed}
+use Rattle.text.specs.Contracts.{firstFeed}
 use Rattle.sizes.specs.Text.{lines, textHeight}
 use Rattle.common.proofs.Either.{either}
-use Rattle.sizes.proofs.Lines.{rest, rest-none, rest-next, line-in}
-use Rattle.paint.specs.declared.body.Plan.{Plan}
+use Rattle.sizes.proofs.Lines.{linesFrom, rest-none, rest-next, line-in}
+use Rattle.paint.specs.declared.body.BodyRows.{BodyRows}
 use Rattle.block.specs.Block.{indent, textLine, body}
-use Rattle.paint.specs.Contracts.{pasted, Room, spaces, clear, ground, groundLines, Blank, Turned, Over}
+use Rattle.paint.specs.Contracts.{pasted, Room, spaceLines, clear, ground, groundLines, Blank, Turned, LaidOver}
 use Rattle.block.proofs.Dimensions.{Dims, paired-same, dims-append, dims-lines, dims-replicate}
 use Rattle.common.proofs.Stores.{sets-within}
 use Rattle.paint.proofs.Pasted.{pasted-append, sets-pasted, pasted-beside, pasted-over}
 use Rattle.paint.proofs.Room.{room-head, room-next, room-tail}
 use Rattle.block.proofs.TextLine.{lines-height}
-use Rattle.paint.proofs.Planned.{Planned}
+use Rattle.paint.proofs.BodyRows.{BodyFits}
 
 -- ---- the ground
 
@@ -40,46 +40,46 @@ sides-painted s inner n o o₁ o₂ o₃ at stride h e₁ e₂ e₃ =
     ∙ rw (paired-same n (l ++ m) r, append-assoc l m r))
 
 -- where every padding is of spaces, all lines are
-ground-blank : (s : Settings) (k : Plan) (n w h : ℕ) → Blank (s .fills) → s .left + k .inner + s .right ≡ w → groundLines s k n ≡ h → replicate h (replicate w 32) ≡ ground s k n w
+ground-blank : (s : Settings) (k : BodyRows) (n w h : ℕ) → Blank (s .fills) → s .left + k .inner + s .right ≡ w → groundLines s k n ≡ h → replicate h (replicate w 32) ≡ ground s k n w
 unfolding ground clear
 ground-blank s k n w h b wide tall =
     let c : _≡_ {A = List ℕ} (replicate (s .left) 32 ++ (replicate (k .inner) 32 ++ replicate (s .right) 32)) (replicate w 32)
     = rw (replicate-append-replicate {A = ℕ} (k .inner) (s .right) 32, replicate-append-replicate {A = ℕ} (s .left) (k .inner + s .right) 32) (let e : s .left + (k .inner + s .right) ≡ w = omega arith in rw e) in
     rw (b .left-is, b .right-is, b .top-is, b .bottom-is, c, ← tall) (sym (simp replicate-append-replicate))
 
-ground-dims : (s : Settings) (k : Plan) (n w : ℕ) → s .left + k .inner + s .right ≡ w → Dims (ground s k n w) (groundLines s k n) w
+ground-dims : (s : Settings) (k : BodyRows) (n w : ℕ) → s .left + k .inner + s .right ≡ w → Dims (ground s k n w) (groundLines s k n) w
 unfolding ground clear
 ground-dims s k n w e =
     dims-append (dims-append (dims-replicate (k .above) w 32) (dims-replicate (s .top) w _))
     (dims-append (dims-lines n _ w (simp (length-append, length-replicate) (omega arith))) (dims-append (dims-replicate (s .bottom) w _) (dims-replicate (k .below) w 32)))
 
 -- over spaces the ground is already there, or it is painted
-pub turned-blank : (s : Settings) (k : Plan) (n w h at stride : ℕ) (o : List ℕ) → Blank (s .fills) → s .left + k .inner + s .right ≡ w → groundLines s k n ≡ h → Turned (spaces h w) (ground s k n w) at stride o o
+pub turned-blank : (s : Settings) (k : BodyRows) (n w h at stride : ℕ) (o : List ℕ) → Blank (s .fills) → s .left + k .inner + s .right ≡ w → groundLines s k n ≡ h → Turned (spaceLines h w) (ground s k n w) at stride o o
 turned-blank s k n w h at stride o blank wide tall = record { done = λ b e. e ∙ ap (pasted b at stride) (ground-blank s k n w h blank wide tall) }
 
-pub turned-padded : (s : Settings) (k : Plan) (n w h at stride : ℕ) (o o′ : List ℕ) → s .left + k .inner + s .right ≡ w → groundLines s k n ≡ h → w ≤ stride → o′ ≡ pasted o at stride (ground s k n w)
-    → Turned (spaces h w) (ground s k n w) at stride o o′
+pub turned-padded : (s : Settings) (k : BodyRows) (n w h at stride : ℕ) (o o′ : List ℕ) → s .left + k .inner + s .right ≡ w → groundLines s k n ≡ h → w ≤ stride → o′ ≡ pasted o at stride (ground s k n w)
+    → Turned (spaceLines h w) (ground s k n w) at stride o o′
 turned-padded s k n w h at stride o o′ wide tall apart p = record { done = λ b e. p ∙ rw e (pasted-over b at stride (dims-replicate h w 32) (rw tall at (ground-dims s k n w wide)) apart) }
 
 -- ---- the lines of the text still to come, from a place on
 
-pub more-from : (t : List ℕ) (from more : ℕ) → length (rest from t) ≡ more → 0 < more → from ≤ length t
+pub more-from : (t : List ℕ) (from more : ℕ) → length (linesFrom from t) ≡ more → 0 < more → from ≤ length t
 more-from t from more e h = either (suc (length t)) from (λ k. let z = rw (rest-none t from k) at e in absurd (omega (arith, z))) (λ k. omega arith)
 
 -- the last one ends with the text
-pub last-end : (t : List ℕ) (from : ℕ) → from ≤ length t → length (rest from t) ≡ 1 → (e : ℕ) → e ≡ from + firstFeed (drop from t) → e ≡ length t
+pub last-end : (t : List ℕ) (from : ℕ) → from ≤ length t → length (linesFrom from t) ≡ 1 → (e : ℕ) → e ≡ from + firstFeed (drop from t) → e ≡ length t
 last-end t from h one e is = either (length t) e
     (λ k. omega (arith, line-in t from h e is))
     (λ k. let z = rw (rest-next t from h e is, rest-next t (e + 1) (omega arith) _ refl) at one in absurd (omega (arith, z)))
 
 -- ---- the text over it
 
-pub over-none : (g : List ℕ) (f : List ℕ → List ℕ) (at stride : ℕ) (o : List ℕ) → Over g f [] at stride o o
+pub over-none : (g : List ℕ) (f : List ℕ → List ℕ) (at stride : ℕ) (o : List ℕ) → LaidOver g f [] at stride o o
 over-none g f at stride o = record { done = λ b y e. e }
 
 -- the line l, stored at p, makes a line g its own
 pub over-step : (g : List ℕ) (f : List ℕ → List ℕ) (l : List ℕ) (ls : List (List ℕ)) (at p stride : ℕ) (o o′ : List ℕ) → p + length l ≤ at + stride
-    → ((b : List ℕ) → sets (sets b at g) p l ≡ sets b at (f l)) → Over g f ls (at + stride) stride (sets o p l) o′ → Over g f (l ∷ ls) at stride o o′
+    → ((b : List ℕ) → sets (sets b at g) p l ≡ sets b at (f l)) → LaidOver g f ls (at + stride) stride (sets o p l) o′ → LaidOver g f (l ∷ ls) at stride o o′
 unfolding pasted
 over-step g f l ls at p stride o o′ h own k = record {
   done = λ b y e. k .done (sets b at (f l)) y (rw (e, sets-pasted (replicate (length ls) g ++ y) l (sets b at g) p (at + stride) stride h, own b));
@@ -89,13 +89,13 @@ over-step g f l ls at p stride o o′ h own k = record {
 pub record Still (g : List ℕ) (f : List ℕ → List ℕ) (ls rs : List (List ℕ)) (at p stride w : ℕ) (o₀ o : List ℕ) : Type 0 where
   pub room : Room p stride (length rs) w (length o₀)
   pub long : length o ≡ length o₀
-  pub all : (e : List ℕ) → Over g f rs p stride o e → Over g f ls at stride o₀ e
+  pub all : (e : List ℕ) → LaidOver g f rs p stride o e → LaidOver g f ls at stride o₀ e
 
 pub still-start : (g : List ℕ) (f : List ℕ → List ℕ) (ls : List (List ℕ)) (at stride w n : ℕ) (o : List ℕ) → length ls ≡ n → Room at stride n w (length o) → Still g f ls ls at at stride w o o
 still-start g f ls at stride w n o e r = record { room = rw e r; long = refl; all = λ e k. k }
 
 module _ {g : List ℕ} {f : List ℕ → List ℕ} {ls : List (List ℕ)} {at p stride w : ℕ} {o₀ o : List ℕ} where
-  pub still-done : (rs : List (List ℕ)) → length rs ≡ 0 → Still g f ls rs at p stride w o₀ o → Over g f ls at stride o₀ o
+  pub still-done : (rs : List (List ℕ)) → length rs ≡ 0 → Still g f ls rs at p stride w o₀ o → LaidOver g f ls at stride o₀ o
   still-done [] e k = k .all o (over-none g f p stride o)
   still-done (l ∷ rs) e k = absurd (omega arith)
 
@@ -124,9 +124,9 @@ line-over s inner widest l b at h =
     (sets-within (x ++ replicate i 32) (replicate (length l) 32) l (replicate n 32 ++ y) b at (at + (s .left + i)) (length-replicate (length l) 32) (simp (length-append, length-replicate))
     ∙ rw (append-assoc x (replicate i 32) (l ++ (replicate n 32 ++ y)))))
 
-pub body-over : (s : Settings) (t : List ℕ) (z : Size) (k : Plan) → Planned s t z k → (o o₁ o₂ : List ℕ) (at stride : ℕ)
+pub body-over : (s : Settings) (t : List ℕ) (z : Size) (k : BodyRows) → BodyFits s t z k → (o o₁ o₂ : List ℕ) (at stride : ℕ)
     → o₁ ≡ pasted o at stride (ground s k (textHeight t) (z .width))
-    → Over (clear s (k .inner)) (textLine s (k .inner) (k .widest)) (lines t) (at + (k .above + s .top) * stride) stride o₁ o₂
+    → LaidOver (clear s (k .inner)) (textLine s (k .inner) (k .widest)) (lines t) (at + (k .above + s .top) * stride) stride o₁ o₂
     → o₂ ≡ pasted o at stride (body s t z)
 unfolding ground
 body-over s t z k h o o₁ o₂ at stride e w =

@@ -4,9 +4,9 @@ pub mod Feeds
 pub mod Cases
 pub mod Places
 pub mod Room
-pub mod Left
+pub mod LinesLeft
 pub mod Crossed
-pub mod Planned
+pub mod BodyRows
 pub mod Ground
 pub mod Corners
 pub mod Painted

@@ -14,15 +14,15 @@ use Rattle.sizes.specs.Sizes.{leafSize}
 use Rattle.sizes.specs.Contracts.{Fits}
 use Rattle.block.specs.declared.Flags.{Flags}
 use Rattle.paint.specs.declared.borders.Borders.{Borders}
-use Rattle.block.specs.Block.{Leaf, body, topLine, middle, bottomLine, block, tall, wide}
+use Rattle.block.specs.Block.{Leaf, body, topLine, middle, bottomLine, block, blockHeight, blockWidth}
 use Rattle.paint.specs.Paint.{Wrote}
-use Rattle.paint.specs.Contracts.{pasted, Room, leafWith, Paintable, spaces, bordersOf, topOf, leftOf, rightOf, bottomOf, columnsIn, Lined, begunOf, Begins, Rest, endedOf, middleOf}
+use Rattle.paint.specs.Contracts.{pasted, Room, leafWith, Paintable, spaceLines, bordersOf, topOf, leftOf, rightOf, bottomOf, columnsIn, Lined, begunOf, BodyBegins, Rest, endedOf, middleOf}
 use Rattle.paint.specs.declared.Begun.{Begun}
 use Rattle.block.proofs.Dimensions.{dims-paired}
 use Rattle.block.proofs.Dims.{body-dims, left-dims, edges-dims, middle-dims}
 use Rattle.paint.proofs.Pasted.{pasted-beside}
 use Rattle.paint.proofs.Cases.{tall-is, wide-is, block-lined, bare-tall, bare-wide, block-bare}
-use Rattle.paint.proofs.Left.{then-pasted, pasted-first}
+use Rattle.paint.proofs.LinesLeft.{then-pasted, pasted-first}
 use Rattle.paint.proofs.Corners.{top-is, middle-is, bottom-is}
 use Rattle.paint.proofs.Places.{paintable-fits}
 
@@ -57,12 +57,12 @@ module _ {b : Borders} {z : Size} {h v : List ℕ} {base stride len : ℕ} (k : 
 
 module _ (lines : Bool) (b : Borders) (z : Size) (h v : List ℕ) (base stride : ℕ) where
   pub begun-lined : lines ≡ true → (next : ℕ) (o o₁ o₂ : List ℕ) → o₁ ≡ sets o base (topOf b (z .width) h)
-      → Wrote next (base + stride + z .height * stride) o₂ (pasted (pasted o₁ (base + stride) stride (leftOf b (z .height) v)) (base + stride + 1) stride (spaces (z .height) (z .width)))
-      → Begins lines b z h v base stride (record { at = base + stride + 1; next = next }) o o₂
+      → Wrote next (base + stride + z .height * stride) o₂ (pasted (pasted o₁ (base + stride) stride (leftOf b (z .height) v)) (base + stride + 1) stride (spaceLines (z .height) (z .width)))
+      → BodyBegins lines b z h v base stride (record { at = base + stride + 1; next = next }) o o₂
   unfolding begunOf
   begun-lined l next o o₁ o₂ e w = rw l (record { at-is = omega arith; next-is = λ y. w .end-is; out-is = w .out-is ∙ rw e })
 
-  pub begun-bare : lines ≡ false → (o o₁ : List ℕ) → o₁ ≡ pasted o base stride (spaces (z .height) (z .width)) → Begins lines b z h v base stride (record { at = base; next = base }) o o₁
+  pub begun-bare : lines ≡ false → (o o₁ : List ℕ) → o₁ ≡ pasted o base stride (spaceLines (z .height) (z .width)) → BodyBegins lines b z h v base stride (record { at = base; next = base }) o o₁
   unfolding begunOf
   begun-bare l o o₁ e = rw l (record { at-is = omega arith; next-is = λ y. let w : _≡_ {A = ℕ} 0 1 = cc in absurd (omega arith); out-is = e })
 
@@ -94,7 +94,7 @@ middle-painted s t z b ps fits o o₂ o₃ at stride h e₂ e₃ =
     e₃ ∙ rw e₂ (pasted-beside (pasted o at stride (leftOf b (z .height) ps)) (at + 1) stride text right (omega arith) ∙ pasted-beside o at stride left (dims-paired text right) h)
 
 pub body-apart : {s : Settings} {t : List ℕ} {n z : Size} {f : Flags} {h v : List ℕ} {base stride len : ℕ} → Paintable s t n z f h v base stride len → z .width ≤ stride
-unfolding wide
+unfolding blockWidth
 body-apart k = omega (arith, k .apart)
 
 module _ {s : Settings} {t : List ℕ} {n z : Size} {f : Flags} {h v : List ℕ} {base stride len : ℕ} (k : Paintable s t n z f h v base stride len) (b : Borders) (is : b ≡ bordersOf s f) (long : length (s .marks) ≡ 15) where
@@ -112,8 +112,8 @@ module _ {s : Settings} {t : List ℕ} {n z : Size} {f : Flags} {h v : List ℕ}
   -- with lines the marks have room
   pub lined : s .lines ≡ true → Lined b z h v base stride len
   lined l =
-      let w : wide s z f ≡ columnsIn b z = rw right-is (omega (arith, wide-is s l z f)) in
-      let a : tall s z f ≡ 1 + (z .height + pick (b .bottom) 1 0) = rw bottom-is-last (omega (arith, tall-is s l z f)) in
+      let w : blockWidth s z f ≡ columnsIn b z = rw right-is (omega (arith, wide-is s l z f)) in
+      let a : blockHeight s z f ≡ 1 + (z .height + pick (b .bottom) 1 0) = rw bottom-is-last (omega (arith, tall-is s l z f)) in
       record {
         width-small = k .width-small;
         height-small = k .height-small;
@@ -133,7 +133,7 @@ module _ {s : Settings} {t : List ℕ} {n z : Size} {f : Flags} {h v : List ℕ}
       let r = bare-room l in
       record { fits = omega (arith, r .fits); small = omega (arith, r .small) }
 
-  pub after-room : (lines : Bool) → s .lines ≡ lines → (p : Begun) (o o₁ : List ℕ) → Begins lines b z h v base stride p o o₁ → lines ≡ true → {len′ : ℕ} → len′ ≡ len → Rest b z p stride len′
+  pub after-room : (lines : Bool) → s .lines ≡ lines → (p : Begun) (o o₁ : List ℕ) → BodyBegins lines b z h v base stride p o o₁ → lines ≡ true → {len′ : ℕ} → len′ ≡ len → Rest b z p stride len′
   after-room true l p o o₁ g y q = rest-room (lined l) p (g .at-is) (g .next-is refl) q
   after-room false l p o o₁ g y q = let w : _≡_ {A = ℕ} 0 1 = cc in absurd (omega arith)
 
@@ -158,7 +158,7 @@ module _ {s : Settings} {t : List ℕ} {n z : Size} {f : Flags} {h v : List ℕ}
         ∙ sym (whole true e)
     closed false e q m = middles m ∙ pasted-first (topLine s leaf) (middle s leaf) o _ base stride refl ∙ sym (whole false e ∙ rw append-nil)
 
-  pub block-painted : (lines : Bool) → s .lines ≡ lines → (p : Begun) (o o₁ o₂ o₃ : List ℕ) → Begins lines b z h v base stride p o o₁
+  pub block-painted : (lines : Bool) → s .lines ≡ lines → (p : Begun) (o o₁ o₂ o₃ : List ℕ) → BodyBegins lines b z h v base stride p o o₁
       → o₂ ≡ pasted (begunOf lines b z h v base stride o) (p .at) stride (body s t z) → o₃ ≡ endedOf lines b z stride p o₂ → o₃ ≡ pasted o base stride (block s leaf)
   unfolding begunOf endedOf
   block-painted true l p o o₁ o₂ o₃ g e₂ e₃ =

@@ -7,7 +7,7 @@ use lib.ListN.{length, getD}
 use lib.Seq.{sets, length-sets}
 use Rattle.common.proofs.Either.{either}
 use Rattle.common.proofs.Stores.{sets-append, sets-sets, sets-over, getD-before, getD-after, getD-in}
-use Rattle.block.specs.Content.{paired}
+use Rattle.block.specs.Content.{sideBySide}
 use Rattle.paint.specs.Contracts.{pasted}
 use Rattle.common.specs.Every.{Every}
 use Rattle.block.proofs.Dimensions.{Dims}
@@ -34,8 +34,8 @@ sets-pasted (l ∷ x) us o i at stride h = sets-pasted x us (sets o at l) i (at 
 
 -- side by side
 pub pasted-paired : (x y : List (List ℕ)) (o : List ℕ) (at w v stride : ℕ) → length x ≡ length y → Every (λ l. length l ≡ w) x → Every (λ l. length l ≡ v) y → w + v ≤ stride
-    → pasted (pasted o at stride x) (at + w) stride y ≡ pasted o at stride (paired x y)
-unfolding pasted paired
+    → pasted (pasted o at stride x) (at + w) stride y ≡ pasted o at stride (sideBySide x y)
+unfolding pasted sideBySide
 pasted-paired [] [] o at w v stride e p q h = refl
 pasted-paired [] (m ∷ y) o at w v stride e p q h = absurd (omega arith)
 pasted-paired (l ∷ x) [] o at w v stride e p q h = absurd (omega arith)
@@ -43,10 +43,10 @@ pasted-paired (l ∷ x) (m ∷ y) o at w v stride e p q h =
     let d : at + w + stride ≡ at + stride + w = omega arith in
     rw (sets-pasted x m (sets o at l) (at + w) (at + stride) stride (omega (arith, q .0)), d)
     (pasted-paired x y (sets (sets o at l) (at + w) m) (at + stride) w v stride (omega arith) (p .1) (q .1) h
-    ∙ ap (λ (k : List ℕ). pasted k (at + stride) stride (paired x y)) (rw (sets-append l m o at, p .0)))
+    ∙ ap (λ (k : List ℕ). pasted k (at + stride) stride (sideBySide x y)) (rw (sets-append l m o at, p .0)))
 
 pub pasted-beside : {x y : List (List ℕ)} {h w v : ℕ} (o : List ℕ) (at stride : ℕ) → Dims x h w → Dims y h v → w + v ≤ stride
-    → pasted (pasted o at stride x) (at + w) stride y ≡ pasted o at stride (paired x y)
+    → pasted (pasted o at stride x) (at + w) stride y ≡ pasted o at stride (sideBySide x y)
 pasted-beside {x} {y} {w = w} {v} o at stride d e h = pasted-paired x y o at w v stride (d .lines ∙ sym (e .lines)) (d .columns) (e .columns) h
 
 -- first those on the left, or first those on the right

@@ -13,9 +13,9 @@ use Rattle.sizes.specs.declared.Size.{Size}
 use Rattle.sizes.specs.Sizes.{leafSize}
 use Rattle.sizes.specs.Contracts.{Fits}
 use Rattle.block.specs.declared.Flags.{Flags}
-use Rattle.block.specs.Block.{Leaf, tall, wide, topLeft, topRight, bottomLeft, edge, before, body}
-use Rattle.block.specs.Content.{ruled, column, paired}
-use Rattle.paint.specs.declared.body.Plan.{Plan}
+use Rattle.block.specs.Block.{Leaf, blockHeight, blockWidth, topLeft, topRight, bottomLeft, edge, slackBefore, body}
+use Rattle.block.specs.Content.{ruled, column, sideBySide}
+use Rattle.paint.specs.declared.body.BodyRows.{BodyRows}
 use Rattle.paint.specs.declared.borders.Borders.{Borders}
 use Rattle.paint.specs.declared.Begun.{Begun}
 
@@ -42,8 +42,8 @@ pub record Paintable (s : Settings) (t : List ℕ) (n z : Size) (f : Flags) (h v
   pub height-small : z .height < 65536
   pub few-horizontal : length h ≤ 512
   pub few-vertical : length v ≤ 512
-  pub apart : wide s z f ≤ stride
-  pub room : Room base stride (tall s z f) (wide s z f) len
+  pub apart : blockWidth s z f ≤ stride
+  pub room : Room base stride (blockHeight s z f) (blockWidth s z f) len
 
 -- of n places, `step` apart from `at` on, those named become b
 unfoldable pub crossed : List ℕ → ℕ → ℕ → ℕ → List ℕ → ℕ → List ℕ
@@ -51,32 +51,32 @@ crossed o at step n [] b = o
 crossed o at step n (k ∷ ks) b = crossed (pick (ltb k n) (set o (at + k * step) b) o) at step n ks b
 
 -- how a text of natural size n lies in the size z
-unfoldable pub planOf : Settings → Size → Size → Plan
-unfolding before
-planOf s n z = record {
-  above = before (s .vertical) (z .height - n .height);
-  below = z .height - n .height - before (s .vertical) (z .height - n .height);
+unfoldable pub bodyRowsOf : Settings → Size → Size → BodyRows
+unfolding slackBefore
+bodyRowsOf s n z = record {
+  above = slackBefore (s .vertical) (z .height - n .height);
+  below = z .height - n .height - slackBefore (s .vertical) (z .height - n .height);
   inner = z .width - s .left - s .right;
   widest = n .width - s .left - s .right;
 }
 
 -- n lines of w spaces
-abbrev pub spaces : ℕ → ℕ → List (List ℕ)
-spaces n w = replicate n (replicate w 32)
+abbrev pub spaceLines : ℕ → ℕ → List (List ℕ)
+spaceLines n w = replicate n (replicate w 32)
 
 -- a line of the body without its text
 unfoldable pub clear : Settings → ℕ → List ℕ
 clear s inner = replicate (s .left) (getD (s .fills) 0 0) ++ (replicate inner 32 ++ replicate (s .right) (getD (s .fills) 1 0))
 
 -- the body without its text, which has n lines
-unfoldable pub ground : Settings → Plan → ℕ → ℕ → List (List ℕ)
+unfoldable pub ground : Settings → BodyRows → ℕ → ℕ → List (List ℕ)
 unfolding clear
 ground s k n w =
     (replicate (k .above) (replicate w 32) ++ replicate (s .top) (replicate w (getD (s .fills) 2 0)))
     ++ (replicate n (clear s (k .inner))
     ++ (replicate (s .bottom) (replicate w (getD (s .fills) 3 0)) ++ replicate (k .below) (replicate w 32)))
 
-abbrev pub groundLines : Settings → Plan → ℕ → ℕ
+abbrev pub groundLines : Settings → BodyRows → ℕ → ℕ
 groundLines s k n = k .above + s .top + (n + (s .bottom + k .below))
 
 -- every padding is of spaces
@@ -117,7 +117,7 @@ pub record Turned (x y : List (List ℕ)) (at stride : ℕ) (o o′ : List ℕ) 
   pub done : (b : List ℕ) → o ≡ pasted b at stride x → o′ ≡ pasted b at stride y
 
 -- over lines g, whatever lines follow them, stand the lines ls as f makes them
-pub record Over (g : List ℕ) (f : List ℕ → List ℕ) (ls : List (List ℕ)) (at stride : ℕ) (o o′ : List ℕ) : Type 0 where
+pub record LaidOver (g : List ℕ) (f : List ℕ → List ℕ) (ls : List (List ℕ)) (at stride : ℕ) (o o′ : List ℕ) : Type 0 where
   pub done : (b : List ℕ) (y : List (List ℕ)) → o ≡ pasted b at stride (replicate (length ls) g ++ y) → o′ ≡ pasted b at stride (map f ls ++ y)
 
 -- a block's columns with lines
@@ -139,10 +139,10 @@ unfolding pasted topOf leftOf
 begunOf lines b z h v base stride o = pick lines (pasted (sets o base (topOf b (z .width) h)) (base + stride) stride (leftOf b (z .height) v)) o
 
 -- these are written, and the body begins behind them, where spaces stand
-pub record Begins (lines : Bool) (b : Borders) (z : Size) (h v : List ℕ) (base stride : ℕ) (r : Begun) (o o′ : List ℕ) : Type 0 where
+pub record BodyBegins (lines : Bool) (b : Borders) (z : Size) (h v : List ℕ) (base stride : ℕ) (r : Begun) (o o′ : List ℕ) : Type 0 where
   pub at-is : r .at ≡ base + pick lines (stride + 1) 0
   pub next-is : lines ≡ true → r .next ≡ base + stride + z .height * stride
-  pub out-is : o′ ≡ pasted (begunOf lines b z h v base stride o) (r .at) stride (spaces (z .height) (z .width))
+  pub out-is : o′ ≡ pasted (begunOf lines b z h v base stride o) (r .at) stride (spaceLines (z .height) (z .width))
 
 -- what the marks after the body ask for
 pub record Rest (b : Borders) (z : Size) (p : Begun) (stride len : ℕ) : Type 0 where
@@ -159,5 +159,5 @@ endedOf lines b z stride p o =
 
 -- the lines between them
 unfoldable pub middleOf : Settings → List ℕ → Size → Borders → List ℕ → List (List ℕ)
-unfolding leftOf rightOf body paired
-middleOf s t z b ps = paired (leftOf b (z .height) ps) (paired (body s t z) (rightOf b (z .height)))
+unfolding leftOf rightOf body sideBySide
+middleOf s t z b ps = sideBySide (leftOf b (z .height) ps) (sideBySide (body s t z) (rightOf b (z .height)))

@@ -8,14 +8,14 @@ ghost use Rattle.sizes.specs.Sizes.{leafSize};
 ghost use Rattle.sizes.specs.Contracts.{Fits};
 ghost use Rattle.block.specs.Block.{body};
 ghost use Rattle.paint.specs.Paint.{Wrote};
-ghost use Rattle.paint.specs.Contracts.{pasted, Room, planOf, spaces, clear, ground, groundLines, Blank, Turned};
+ghost use Rattle.paint.specs.Contracts.{pasted, Room, bodyRowsOf, spaceLines, clear, ground, groundLines, Blank, Turned};
 use crate::bytes;
-use crate::text;
+use crate::text_lines;
 use settings::Settings;
 use sizes::Size;
 
 // How a text lies in its allotted size: the lines of spaces above and below it and its padding, the columns between the paddings, the longest line.
-struct Plan {
+struct BodyRows {
     above: usize,
     below: usize,
     inner: usize,
@@ -23,13 +23,13 @@ struct Plan {
 }
 
 // All differences at once (`indent_vertical`, `indent_horizontal`).
-fn plan_body(s: Settings, natural: Size, size: Size) -> Plan
+fn plan_body(s: Settings, natural: Size, size: Size) -> BodyRows
     requires { ⌜ Fits natural size × (s .left + s .right ≤ natural .width) ⌝ }
-    ensures { λ r. ⌜ r ≡ planOf s natural size ⌝ }
+    ensures { λ r. ⌜ r ≡ bodyRowsOf s natural size ⌝ }
 {
     let al = s.vertical;
-    let above = text::indent_start(al, size.height, natural.height);
-    Plan {
+    let above = text_lines::indent_start(al, size.height, natural.height);
+    BodyRows {
         above: above,
         below: size.height - natural.height - above,
         inner: size.width - s.left - s.right,
@@ -98,7 +98,7 @@ fn paint_padded(
     at: usize,
     stride: usize,
     s: Settings,
-    plan: Plan,
+    plan: BodyRows,
     n: usize,
     w: usize,
 )
@@ -117,13 +117,13 @@ fn paint_ground(
     at: usize,
     stride: usize,
     s: Settings,
-    plan: Plan,
+    plan: BodyRows,
     n: usize,
     size: Size,
 )
     requires { ⌜ (s .left + plan .inner + s .right ≡ size .width) × (size .width ≤ stride) × (groundLines s plan n ≡ size .height) ⌝ }
     requires { ⌜ Room at stride (size .height) (size .width) (length (now out)) ⌝ }
-    ensures { λ _. ⌜ Turned (spaces (size .height) (size .width)) (ground s plan n (size .width)) at stride (now (out .entry)) (now (out .exit)) ⌝ }
+    ensures { λ _. ⌜ Turned (spaceLines (size .height) (size .width)) (ground s plan n (size .width)) at stride (now (out .entry)) (now (out .exit)) ⌝ }
 {
     let fills = s.fills;
     if is_blank(fills) {
@@ -144,11 +144,11 @@ pub fn paint_body(
 )
     requires { ⌜ (length (now text) < 65536) × (natural ≡ leafSize s (now text)) × Fits natural size × (size .width ≤ stride) ⌝ }
     requires { ⌜ Room at stride (size .height) (size .width) (length (now out)) ⌝ }
-    ensures { λ _. ⌜ Turned (spaces (size .height) (size .width)) (body s (now (text .entry)) size) at stride (now (out .entry)) (now (out .exit)) ⌝ }
+    ensures { λ _. ⌜ Turned (spaceLines (size .height) (size .width)) (body s (now (text .entry)) size) at stride (now (out .entry)) (now (out .exit)) ⌝ }
 {
     let plan = plan_body(s, natural, size);
     let n = natural.height - s.top - s.bottom;
     paint_ground(out, at, stride, s, plan, n, size);
     let p = at + (plan.above + s.top) * stride;
-    text::text_lines(out, p, stride, s, plan.inner, plan.widest, n, text);
+    text_lines::text_lines(out, p, stride, s, plan.inner, plan.widest, n, text);
 }

@@ -3,14 +3,14 @@ mod body;
 mod borders;
 pub mod bytes;
 mod marks;
-mod text;
+mod text_lines;
 
 ghost use mathlib.Core.Path.{_≡_};
 ghost use Prim.Native.Nat.{_+_, _*_, _<_, _≤_};
 ghost use mathlib.Core.Bool.{true, false};
 ghost use lib.ListN.{length};
 ghost use Rattle.block.specs.Block.{block};
-ghost use Rattle.paint.specs.Contracts.{pasted, Room, leafWith, Paintable, Lined, Begins, Rest, endedOf};
+ghost use Rattle.paint.specs.Contracts.{pasted, Room, leafWith, Paintable, Lined, BodyBegins, Rest, endedOf};
 use block::Flags;
 use borders::Borders;
 use settings::Settings;
@@ -42,7 +42,7 @@ fn paint_before(
 ) -> Begun
     requires { ⌜ (lines ≡ true → Lined b size (now horizontal) (now vertical) base stride (length (now out))) ⌝ }
     requires { ⌜ (lines ≡ false → Room base stride (size .height) (size .width) (length (now out))) ⌝ }
-    ensures { λ r. ⌜ Begins lines b size (now (horizontal .entry)) (now (vertical .entry)) base stride r (now (out .entry)) (now (out .exit)) ⌝ }
+    ensures { λ r. ⌜ BodyBegins lines b size (now (horizontal .entry)) (now (vertical .entry)) base stride r (now (out .entry)) (now (out .exit)) ⌝ }
 {
     if lines {
         let h = size.height;

@@ -11,9 +11,9 @@ use Rattle.sizes.specs.declared.Measured.{Measured}
 use Rattle.sizes.specs.declared.Size.{Size}
 use Rattle.sizes.specs.Sizes.{sep}
 use Rattle.sizes.specs.Contracts.{naturalAt}
-use Rattle.sizes.proofs.Whole.{here-of}
+use Rattle.sizes.proofs.WholeTree.{here-of}
 use Rattle.sizes.specs.Input.{Input, refused, given, inputOf}
-use Rattle.sizes.proofs.Given.{Takes, takes}
+use Rattle.sizes.proofs.MeasuredInput.{Takes, takes}
 use Rattle.sizes.proofs.Separator.{sep-small}
 use Rattle.frame.specs.declared.Frame.{Frame}
 use Rattle.frame.specs.Frame.{W, H, tooLarge}
@@ -27,7 +27,7 @@ use Rattle.places.specs.Contracts.{checkedOf, Frames, TreeAsks, Locates}
 use Rattle.places.specs.Promises.{unpacked}
 use Rattle.places.proofs.Owners.{Owners, ownWord, answers-are}
 use Rattle.places.proofs.Reverse.{within-sheet, forward-at, number-is, word-owned}
-use Rattle.places.proofs.Checked.{Checked, chosen}
+use Rattle.places.proofs.Checked.{Checked, refusal-chosen}
 use Rattle.places.proofs.Roots.{areas-are}
 
 -- ---- as the call has it: m is what was measured
@@ -73,7 +73,7 @@ module _ {bs ts : List ℕ} {m : Measured} {sizes : List ℕ} (q : Checked bs ts
 place-no : (x : Input) (l k : ℕ) (m : Measured) → m ≡ checkedOf x → (m .number ≡ 0 → ⊥) → leafPlaceOf x l k ≡ noLeafPlace (m .number)
 unfolding leafPlaceOf checkedOf
 place-no (refused n) l k m e h = rw e
-place-no (given s t) l k m e h = chosen (tooLarge s t) noLeafPlace (leafPlaceIn s t l k) (m .number) (ap (λ (y : Measured). y .number) e) h
+place-no (given s t) l k m e h = refusal-chosen (tooLarge s t) noLeafPlace (leafPlaceIn s t l k) (m .number) (ap (λ (y : Measured). y .number) e) h
 
 pub place-refused : (bs ts : List ℕ) (l k : ℕ) (m : Measured) → m ≡ checkedOf (inputOf bs ts) → (m .number ≡ 0 → ⊥) → leafPlaceOf (inputOf bs ts) l k ≡ noLeafPlace (m .number)
 place-refused bs ts l k m e h = place-no (inputOf bs ts) l k m e h
@@ -106,9 +106,9 @@ module _ {bs ts : List ℕ} {m : Measured} {sizes : List ℕ} (q : Checked bs ts
 
   module _ (h : n ≡ 0) where
     -- a place that is not refused is small
-    pub low : (l < 160) × (k < 400)
+    pub place-low : (l < 160) × (k < 400)
     unfolding tooLarge W H
-    low =
+    place-low =
         let w = within-sheet (s q) (t q) l k (fault ∙ h) in
         let x = large-no (W (s q) (t q)) (H (s q) (t q)) (q .large) in
         (omega (arith, w .to-line, x .1), omega (arith, w .to-column, x .0))
@@ -116,16 +116,16 @@ module _ {bs ts : List ℕ} {m : Measured} {sizes : List ℕ} (q : Checked bs ts
     inside : let r = leafPlaceIn (s q) (t q) l k in (r .line < 65536) × (r .column < 65536)
     inside =
         let x = forward-at (s q) (t q) l k (within-sheet (s q) (t q) l k (fault ∙ h)) (leafPlaceIn (s q) (t q) l k) refl in
-        (omega (arith, x .line-is, low .0), omega (arith, x .column-is, low .1))
+        (omega (arith, x .line-is, place-low .0), omega (arith, x .column-is, place-low .1))
 
     -- the place as one number, and its answer, taken apart
     module _ (p : ℕ) (pe : p ≡ l * 4294967296 + k) where
       pub place-owners : Owners (areas (s q) (t q)) (p ∷ [])
-      place-owners = let w = word-place l k (omega (arith, low)) in (word-owned (s q) (t q) p (rw (pe, w .0, w .1) (fault ∙ h)) .owner, tt)
+      place-owners = let w = word-place l k (omega (arith, place-low)) in (word-owned (s q) (t q) p (rw (pe, w .0, w .1) (fault ∙ h)) .owner, tt)
 
       pub place-found : (fs : List ℕ) → fs ≡ map (ownWord (areas (s q) (t q))) (p ∷ []) → unpacked (getD fs 0 0) ≡ leafPlaceOf (inputOf bs ts) l k
       place-found fs d =
-          let w = word-place l k (omega (arith, low)) in
+          let w = word-place l k (omega (arith, place-low)) in
           let le : lineOf p ≡ l = rw pe (w .0) in
           let ke : columnOf p ≡ k = rw pe (w .1) in
           let a = word-owned (s q) (t q) p (rw (le, ke) (fault ∙ h)) in

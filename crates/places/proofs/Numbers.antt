@@ -12,7 +12,7 @@ use Rattle.common.specs.Choice.{pick, both}
 use Rattle.settings.specs.declared.Settings.{Settings}
 use Rattle.tree.specs.Tree.{Tree}
 use Rattle.sizes.specs.Input.{Input, refused, given, inputOf}
-use Rattle.sizes.proofs.Given.{input-refusal}
+use Rattle.sizes.proofs.MeasuredInput.{input-refusal}
 use Rattle.layout.specs.Walk.{insideW, insideH}
 use Rattle.frame.specs.Frame.{W, H, tooLarge}
 use Rattle.places.specs.declared.area.Area.{Area}

@@ -11,7 +11,7 @@ use Rattle.tree.specs.Tree.{Tree, nodes}
 use Rattle.sizes.specs.Input.{given, inputOf, Input}
 use Rattle.sizes.specs.Text.{lines}
 use Rattle.layout.specs.Walk.{insideW, insideH, Placed}
-use Rattle.layout.specs.Promises.{tallAt, wideAt, LeafAt}
+use Rattle.layout.specs.Promises.{heightAt, widthAt, LeafAt}
 use Rattle.frame.specs.Frame.{W, H, tooLarge}
 use Rattle.places.specs.declared.LeafPlace.{LeafPlace}
 use Rattle.places.specs.Words.{lineOf, columnOf, placeWord}
@@ -60,8 +60,8 @@ pub record EachAsAlone (bs ts ps : List ℕ) (r : Finds) : Type 0 where
 pub record Forward (s : Settings) (t : Tree) (l k : ℕ) (r : LeafPlace) : Type 0 where
   pub leaf : Placed
   pub named : LeafAt s t (r .node) leaf
-  pub lines : r .line < tallAt s (leaf .at)
-  pub columns : r .column < wideAt s (leaf .at)
+  pub lines : r .line < heightAt s (leaf .at)
+  pub columns : r .column < widthAt s (leaf .at)
   pub line-is : s .margin .top + (leaf .at .line + r .line) ≡ l
   pub column-is : s .margin .left + (leaf .at .column + r .column) ≡ k
 

@@ -115,7 +115,7 @@ mutual
 -- ---- the theorem
 
 -- W and H of a choice lie between the least and the greatest
-pub record Bounded (s : Settings) (p : Plan) (t : Tree) : Type 0 where
+pub record BetweenEnds (s : Settings) (p : Plan) (t : Tree) : Type 0 where
   pub least : Fits (outer s (endSize s false p)) (outer s (natural s t))
   pub greatest : Fits (outer s (natural s t)) (outer s (endSize s true p))
 
@@ -123,5 +123,5 @@ outer-fits : (s : Settings) (n z : Size) → Fits n z → Fits (outer s n) (oute
 unfolding outer
 outer-fits s n z f = record { wide = omega (arith, f .wide); tall = omega (arith, f .tall) }
 
-pub plan-bounds : (s : Settings) (p : Plan) (t : Tree) → Chooses p t → Bounded s p t
+pub plan-bounds : (s : Settings) (p : Plan) (t : Tree) → Chooses p t → BetweenEnds s p t
 plan-bounds s p t k = let h = between s p t k in record { least = outer-fits s _ _ (h .least); greatest = outer-fits s _ _ (h .greatest) }

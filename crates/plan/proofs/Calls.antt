@@ -11,7 +11,7 @@ use Rattle.tree.specs.Tree.{Tree}
 use Rattle.tree.specs.Reading.{ReadOne, readTree}
 use Rattle.tree.specs.Planning.{Plan, Plans, PlanOne, readPlan}
 use Rattle.tree.specs.Promises.{Allowed, Allowed*, treeOf, treesOf}
-use Rattle.tree.proofs.Plain.{no-range}
+use Rattle.tree.proofs.PlainPlans.{no-range}
 use Rattle.tree.proofs.Sound.{read-as}
 use Rattle.tree.proofs.PlanComplete.{read-wider}
 use Rattle.tree.proofs.PlanSound.{refusal-low, plan-sound, plan-refusal}
@@ -23,7 +23,7 @@ use Rattle.frame.specs.Frame.{W, H}
 use Rattle.plan.specs.declared.Planned.{Planned}
 use Rattle.plan.specs.Promises.{Between, Reaches, PlanHolds, treePlanned, Chooses}
 use Rattle.plan.specs.Ends.{noPlans?, endSize, endSizes, outer}
-use Rattle.plan.specs.Answers.{planInput, treeInput, settingsInput, plannedOf, answered}
+use Rattle.plan.specs.Answers.{planInput, planTreeInput, planSettingsInput, plannedOf, endsAnswered}
 use Rattle.plan.proofs.Bounds.{plan-bounds}
 use Rattle.plan.proofs.Reached.{plan-reached}
 
@@ -45,7 +45,7 @@ module _ (s : Settings) (p : Plan) (k : Allowed true p) where
   reached-height : (m : Bool) → Reaches p (H s) (outer s (endSize s m p) .height)
   reached-height m = let r = plan-reached s m p k in record { tree = r .tree; chooses = r .chooses; texts = r .texts; is = sym (outer-height s (r .tree)) ∙ ap (λ (z : Size). outer s z .height) (r .size) }
 
-between : (s : Settings) (p : Plan) (t : Tree) → Chooses p t → Between s (answered (outer s (endSize s false p)) (outer s (endSize s true p))) t
+between : (s : Settings) (p : Plan) (t : Tree) → Chooses p t → Between s (endsAnswered (outer s (endSize s false p)) (outer s (endSize s true p))) t
 between s p t c =
     let b = plan-bounds s p t c in
     let x = outer-width s t in
@@ -58,7 +58,7 @@ between s p t c =
     }
 
 module _ (bs ts : List ℕ) (o : Planned) where
-  case : (x : Parsed) (y : PlanOne) → readSettings bs ≡ x → readPlan ts ≡ y → planInput bs ts ≡ settingsInput x y → o ≡ plannedOf (settingsInput x y) → o .number ≡ 0 → PlanHolds bs ts o
+  case : (x : Parsed) (y : PlanOne) → readSettings bs ≡ x → readPlan ts ≡ y → planInput bs ts ≡ planSettingsInput x y → o ≡ plannedOf (planSettingsInput x y) → o .number ≡ 0 → PlanHolds bs ts o
   case Parsed.refused y f g i e h = let z : o .number ≡ 1 = ap (λ (u : Planned). u .number) e in absurd (omega arith)
   case (Parsed.read s) (PlanOne.refused k) f g i e h = let z : o .number ≡ k = ap (λ (u : Planned). u .number) e in absurd (omega (arith, refusal-low true k (plan-refusal true ts k g)))
   case (Parsed.read s) (PlanOne.one p size n) f g i e h =
@@ -101,16 +101,16 @@ mutual
   plain-sizes s m Plans.none k = refl
   plain-sizes s m (Plans.more p ps) k = rw (plain-size s m p (k .0), plain-sizes s m ps (k .1))
 
-outer-planned : (s : Settings) (t : Tree) → answered (outer s (natural s t)) (outer s (natural s t)) ≡ treePlanned s t
+outer-planned : (s : Settings) (t : Tree) → endsAnswered (outer s (natural s t)) (outer s (natural s t)) ≡ treePlanned s t
 outer-planned s t = rw (outer-width s t, outer-height s t)
 
-plain-case : (s : Settings) (ts : List ℕ) (t : Tree) (size n : ℕ) → readTree ts ≡ ReadOne.one t size n → plannedOf (treeInput s (readPlan ts)) ≡ treePlanned s t
+plain-case : (s : Settings) (ts : List ℕ) (t : Tree) (size n : ℕ) → readTree ts ≡ ReadOne.one t size n → plannedOf (planTreeInput s (readPlan ts)) ≡ treePlanned s t
 plain-case s ts t size n e =
     let r = read-as ts t size n e in
     let z : (m : Bool) → endSize s m (r .plan) ≡ natural s t = λ m. plain-size s m (r .plan) (r .leaves) ∙ ap (natural s) (r .tree-is) in
     rw (read-wider ts (r .plan) size n (r .is), z false, z true) (outer-planned s t)
 
-input-case : (bs ts : List ℕ) (s : Settings) (t : Tree) (x : Parsed) (y : ReadOne) → readSettings bs ≡ x → readTree ts ≡ y → sizes.settingsInput x y ≡ sizes.given s t → plannedOf (settingsInput x (readPlan ts)) ≡ treePlanned s t
+input-case : (bs ts : List ℕ) (s : Settings) (t : Tree) (x : Parsed) (y : ReadOne) → readSettings bs ≡ x → readTree ts ≡ y → sizes.settingsInput x y ≡ sizes.given s t → plannedOf (planSettingsInput x (readPlan ts)) ≡ treePlanned s t
 input-case bs ts s t Parsed.refused y f g e = let z : _≡_ {A = ℕ} 0 1 = cc in absurd (omega arith)
 input-case bs ts s t (Parsed.read s₁) (ReadOne.refused k) f g e = let z : _≡_ {A = ℕ} 0 1 = cc in absurd (omega arith)
 input-case bs ts s t (Parsed.read s₁) (ReadOne.one t₁ size n) f g e =

@@ -13,7 +13,7 @@ use Rattle.settings.specs.declared.Settings.{Settings}
 use Rattle.tree.specs.declared.front.Front.{Front}
 use Rattle.tree.specs.Tree.{Axis, across}
 use Rattle.tree.specs.Bytes.{lengthAt, axisOf}
-use Rattle.tree.specs.Promises.{contents, PlanIs, PlanAre}
+use Rattle.tree.specs.Promises.{contents, PlanEncodes, PlanEncodesAll}
 use Rattle.tree.specs.Contracts.{frontOf}
 use Rattle.tree.specs.Planning.{Plan, Plans}
 use Rattle.tree.proofs.Fronts.{contents-length, no-contents, tag-low, tag-high, axis-of, front-leaf, front-group, front-end}
@@ -28,21 +28,21 @@ pub record RangeIs (S : Settings) (most : Bool) (p : Plan) (r : List ℕ) : Type
   pub four : length r ≡ 4
   pub size : endSize S most p ≡ endOf S most r
 
-range-is : (S : Settings) (most : Bool) (p : Plan) (s : List ℕ) → PlanIs p s → getD s 0 0 ≡ 4 → RangeIs S most p (contents s)
-unfolding PlanIs endSize
+range-is : (S : Settings) (most : Bool) (p : Plan) (s : List ℕ) → PlanEncodes p s → getD s 0 0 ≡ 4 → RangeIs S most p (contents s)
+unfolding PlanEncodes endSize
 range-is S most (Plan.cell text) s k h = absurd (omega (arith, k .1))
 range-is S most (Plan.range a b c d) s k h = rw (k .2) (record { four = refl; size = refl })
 range-is S most (Plan.group x ps) s k h = absurd (omega (arith, k .1, tag-high x))
 
 -- ---- a leaf: a Cell, or a Row or Column without children, whose text is empty
 
-empty-group : (S : Settings) (most : Bool) (x : Axis) (ps : Plans) (s : List ℕ) → PlanAre ps s → s ≡ [] → endSize S most (Plan.group x ps) ≡ leafSize S s
-unfolding PlanIs endSize noPlans?
+empty-group : (S : Settings) (most : Bool) (x : Axis) (ps : Plans) (s : List ℕ) → PlanEncodesAll ps s → s ≡ [] → endSize S most (Plan.group x ps) ≡ leafSize S s
+unfolding PlanEncodes endSize noPlans?
 empty-group S most x Plans.none s k e = rw e
 empty-group S most x (Plans.more p ps) s k e = absurd (omega (arith, plan-whole p s (k .0), ap length e))
 
-plan-leaf-is : (S : Settings) (most : Bool) (p : Plan) (s : List ℕ) → PlanIs p s → (getD s 0 0 ≡ 4 → ⊥) → (eqb (getD s 0 0) 1 ≡ true) ⊎ (eqb (lengthAt s) 0 ≡ true) → endSize S most p ≡ leafSize S (contents s)
-unfolding PlanIs endSize
+plan-leaf-is : (S : Settings) (most : Bool) (p : Plan) (s : List ℕ) → PlanEncodes p s → (getD s 0 0 ≡ 4 → ⊥) → (eqb (getD s 0 0) 1 ≡ true) ⊎ (eqb (lengthAt s) 0 ≡ true) → endSize S most p ≡ leafSize S (contents s)
+unfolding PlanEncodes endSize
 plan-leaf-is S most (Plan.cell text) s k n h = rw (k .2)
 plan-leaf-is S most (Plan.range a b c d) s k n h = absurd (n (k .1))
 plan-leaf-is S most (Plan.group x ps) s k n (inl h) = absurd (omega (arith, k .1, tag-low x, eqb-true (getD s 0 0) 1 h))
@@ -50,19 +50,19 @@ plan-leaf-is S most (Plan.group x ps) s k n (inr h) = empty-group S most x ps (c
 
 -- ---- a group
 
-some-plans : (ps : Plans) (s : List ℕ) → PlanAre ps s → (length s ≡ 0 → ⊥) → noPlans? ps ≡ false
-unfolding PlanIs noPlans?
+some-plans : (ps : Plans) (s : List ℕ) → PlanEncodesAll ps s → (length s ≡ 0 → ⊥) → noPlans? ps ≡ false
+unfolding PlanEncodes noPlans?
 some-plans Plans.none s k h = absurd (h k)
 some-plans (Plans.more p ps) s k h = refl
 
 pub record PlanGroupIs (p : Plan) (a : Bool) (r : List ℕ) : Type 0 where
   pub plans : Plans
   pub is : p ≡ Plan.group (axisOf a) plans
-  pub are : PlanAre plans r
+  pub are : PlanEncodesAll plans r
   pub some : noPlans? plans ≡ false
 
-plan-group-is : (p : Plan) (s : List ℕ) → PlanIs p s → (getD s 0 0 ≡ 4 → ⊥) → eqb (getD s 0 0) 1 ≡ false → eqb (lengthAt s) 0 ≡ false → PlanGroupIs p (eqb (getD s 0 0) 2) (contents s)
-unfolding PlanIs
+plan-group-is : (p : Plan) (s : List ℕ) → PlanEncodes p s → (getD s 0 0 ≡ 4 → ⊥) → eqb (getD s 0 0) 1 ≡ false → eqb (lengthAt s) 0 ≡ false → PlanGroupIs p (eqb (getD s 0 0) 2) (contents s)
+unfolding PlanEncodes
 plan-group-is (Plan.cell text) s k n h z = absurd (eqb-false (getD s 0 0) 1 h (k .1))
 plan-group-is (Plan.range a b c d) s k n h z = absurd (n (k .1))
 plan-group-is (Plan.group x ps) s k n h z = record {
@@ -74,7 +74,7 @@ plan-group-is (Plan.group x ps) s k n h z = record {
 
 -- ---- as the code has them: the front, and the part with the contents
 
-module _ (p : Plan) (s : List ℕ) (k : PlanIs p s) where
+module _ (p : Plan) (s : List ℕ) (k : PlanEncodes p s) where
   pub front-asks : 2 < length s
   front-asks = omega (arith, plan-whole p s k)
 

@@ -8,7 +8,7 @@ use Rattle.settings.specs.declared.Settings.{Settings}
 use Rattle.settings.specs.declared.ReadSettings.{ReadSettings}
 use Rattle.settings.specs.Reading as settings
 use Rattle.settings.specs.Reading.{Parsed, readSettings}
-use Rattle.settings.proofs.Small.{settings-small}
+use Rattle.settings.proofs.Ranges.{settings-small}
 use Rattle.tree.specs.declared.ReadTree.{ReadTree}
 use Rattle.tree.specs.Planning.{Plan, PlanOne, readPlan}
 use Rattle.tree.specs.Promises.{GotPlan}
@@ -18,18 +18,18 @@ use Rattle.sizes.specs.declared.Size.{Size}
 use Rattle.sizes.proofs.Inputs.{settings-yes}
 use Rattle.plan.specs.Ends.{endSize, outer}
 use Rattle.plan.specs.Contracts.{ReadyPlan}
-use Rattle.plan.specs.Answers.{PlanInput, treeInput, settingsInput, planInput, noPlanned, answered, plannedOf}
+use Rattle.plan.specs.Answers.{PlanInput, planTreeInput, planSettingsInput, planInput, noPlanned, endsAnswered, plannedOf}
 use Rattle.plan.proofs.Large.{LowBytes, end-short}
 
 -- ---- the settings
 
-settings-no : (x : Parsed) (r : ReadSettings) → r ≡ settings.answerOf x → (r .number ≡ 0 → ⊥) → (y : PlanOne) → settingsInput x y ≡ PlanInput.refused (r .number)
+settings-no : (x : Parsed) (r : ReadSettings) → r ≡ settings.parsedAnswer x → (r .number ≡ 0 → ⊥) → (y : PlanOne) → planSettingsInput x y ≡ PlanInput.refused (r .number)
 settings-no Parsed.refused r e h y = rw (ap (λ (u : ReadSettings). u .number) e)
 settings-no (Parsed.read s) r e h y = absurd (h (ap (λ (u : ReadSettings). u .number) e))
 
 -- ---- the planning tree
 
-plan-no : (y : PlanOne) (t : ReadTree) → t ≡ planAnswer y → (t .number ≡ 0 → ⊥) → (s : Settings) → treeInput s y ≡ PlanInput.refused (t .number)
+plan-no : (y : PlanOne) (t : ReadTree) → t ≡ planAnswer y → (t .number ≡ 0 → ⊥) → (s : Settings) → planTreeInput s y ≡ PlanInput.refused (t .number)
 plan-no (PlanOne.refused k) t e h s = rw (ap (λ (u : ReadTree). u .number) e)
 plan-no (PlanOne.one p size n) t e h s = absurd (h (ap (λ (u : ReadTree). u .number) e))
 
@@ -72,6 +72,6 @@ module _ (l b : List ℕ) (r : ReadSettings) (e : r ≡ settings.settingsAnswer 
         short = end-short (r .settings) m (accepted .plan) b _ _ (settings-small l (r .settings) settings-are) low got;
       }
 
-      pub planned-is : (x y : Size) → x ≡ outer (r .settings) (endSize (r .settings) false (root-ready false .plan)) → y ≡ outer (r .settings) (endSize (r .settings) true (root-ready true .plan)) → answered x y ≡ plannedOf (planInput l b)
+      pub planned-is : (x y : Size) → x ≡ outer (r .settings) (endSize (r .settings) false (root-ready false .plan)) → y ≡ outer (r .settings) (endSize (r .settings) true (root-ready true .plan)) → endsAnswered x y ≡ plannedOf (planInput l b)
       unfolding root-ready planInput
       planned-is x y p q = rw (settings-are, accepted .is, p, q)

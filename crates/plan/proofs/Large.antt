@@ -11,7 +11,7 @@ use Rattle.settings.specs.declared.Settings.{Settings}
 use Rattle.settings.specs.Promises.{Ranges}
 use Rattle.tree.specs.Tree.{Axis, across, down}
 use Rattle.tree.specs.Bytes.{lengthAt}
-use Rattle.tree.specs.Promises.{contents, PlanIs, PlanAre, GotPlan}
+use Rattle.tree.specs.Promises.{contents, PlanEncodes, PlanEncodesAll, GotPlan}
 use Rattle.tree.specs.Planning.{Plan, Plans}
 use Rattle.tree.proofs.PlanSound.{plan-whole}
 use Rattle.sizes.specs.Text.{total}
@@ -19,7 +19,7 @@ use Rattle.sizes.specs.Sizes.{along, sep}
 use Rattle.sizes.proofs.Bounds.{each, leaf-le, sep-le, span-le}
 use Rattle.sizes.proofs.Limits.{contents-le, each-small}
 use Rattle.plan.specs.Ends.{noPlans?, rangeSize, endSize, endSizes}
-use Rattle.plan.specs.Contracts.{Short}
+use Rattle.plan.specs.Contracts.{ShortSize}
 
 -- ---- a range's numbers are bytes
 
@@ -56,14 +56,14 @@ module _ (s : Settings) (m : Bool) (d : Axis) (h : each s d ≤ 34) where
   group-le a (Plans.more p ps) n i = omega (arith, span-le s d a (endSizes s m (Plans.more p ps)), sep-le s d)
 
   mutual
-    unfolding PlanIs endSize total
+    unfolding PlanEncodes endSize total
 
-    end-le : (p : Plan) (b : List ℕ) → PlanIs p b → LowBytes b → along d (endSize s m p) + sep s ≤ 42 * (3 + lengthAt b)
+    end-le : (p : Plan) (b : List ℕ) → PlanEncodes p b → LowBytes b → along d (endSize s m p) + sep s ≤ 42 * (3 + lengthAt b)
     end-le (Plan.cell t) b k l = omega (arith, leaf-le s d t, contents-le b, ap length (k .2))
     end-le (Plan.range x y z w) b k l = omega (arith, range-le s d m x y z w (contents b) (k .2) (contents-low b l), contents-le b, ap length (k .2))
     end-le (Plan.group a ps) b k l = group-le a ps (lengthAt b) (omega (arith, contents-le b, ends-le ps (contents b) (k .2) (contents-low b l)))
 
-    ends-le : (ps : Plans) (b : List ℕ) → PlanAre ps b → LowBytes b → total (map (along d) (endSizes s m ps)) + length (endSizes s m ps) * sep s ≤ 42 * length b
+    ends-le : (ps : Plans) (b : List ℕ) → PlanEncodesAll ps b → LowBytes b → total (map (along d) (endSizes s m ps)) + length (endSizes s m ps) * sep s ≤ 42 * length b
     ends-le Plans.none b k l = omega arith
     ends-le (Plans.more p ps) b k l =
         let n = 3 + lengthAt b in
@@ -74,6 +74,6 @@ module _ (s : Settings) (m : Bool) (p : Plan) (b : List ℕ) (size n : ℕ) (r :
   side-short : (d : Axis) → along d (endSize s m p) < 2097152
   side-short d = omega (arith, end-le s m d (each-small s d r) p b (g .is) low, g .short, g .ends)
 
-  pub end-short : Short (endSize s m p)
+  pub end-short : ShortSize (endSize s m p)
   unfolding along
   end-short = record { wide = side-short across; tall = side-short down }

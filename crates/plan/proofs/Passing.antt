@@ -7,13 +7,13 @@ use lib.ListN.{length, drop, length-drop}
 use lib.Seq.{drop-drop}
 use Rattle.tree.specs.Bytes.{lengthAt}
 use Rattle.tree.specs.Planning.{Plan, Plans}
-use Rattle.tree.specs.Promises.{PlanIs, PlanAre}
+use Rattle.tree.specs.Promises.{PlanEncodes, PlanEncodesAll}
 use Rattle.tree.proofs.PlanSound.{plan-whole}
 
 -- at byte `at` of s, where the plans `rest` are still to come
 pub record PassingPlans (s : List ℕ) (at : ℕ) (rest : Plans) : Type 0 where
   pub within : at ≤ length s
-  pub are : PlanAre rest (drop at s)
+  pub are : PlanEncodesAll rest (drop at s)
 
 -- what holds of the plans still to come, whichever they are; and where there is one more, or none
 pub record SomePlans (P : Plans → Type 0) : Type 0 where
@@ -27,11 +27,11 @@ pub record MorePlans (P : Plans → Type 0) : Type 0 where
 
 module _ (s : List ℕ) (at : ℕ) where
   no-more : at < length s → PassingPlans s at Plans.none → ⊥
-  unfolding PlanIs
+  unfolding PlanEncodes
   no-more h p = let z : length s - at ≡ 0 = rw length-drop at (p .are) in omega arith
 
   one-more : {t : Plan} {ts : Plans} → PassingPlans s at (Plans.more t ts) → at + (3 + lengthAt (drop at s)) ≤ length s
-  unfolding PlanIs
+  unfolding PlanEncodes
   one-more {t} p =
       let z : length (drop at s) ≡ length s - at = length-drop at s in
       omega (arith, plan-whole t (drop at s) (p .are .0), p .within)
@@ -53,16 +53,16 @@ module _ (s : List ℕ) (at : ℕ) where
 
   -- the next plan, in the part p that starts there
   module _ {t : Plan} {ts : Plans} (k : PassingPlans s at (Plans.more t ts)) (p : List ℕ) (e : p ≡ drop at s) where
-    pub next-is : PlanIs t p
-    unfolding PlanIs
+    pub next-is : PlanEncodes t p
+    unfolding PlanEncodes
     next-is = rw e (k .are .0)
 
     pub next-whole : (3 + lengthAt p ≤ length p) × (at + (3 + lengthAt p) ≤ length s)
     next-whole = (plan-whole t p next-is, rw e (one-more k))
 
     pub passed : PassingPlans s (at + (3 + lengthAt p)) ts
-    unfolding PlanIs
+    unfolding PlanEncodes
     passed = record { within = next-whole .1; are = rw (e, ← drop-drop (3 + lengthAt (drop at s)) at s) (k .are .1) }
 
-pub begin : (s : List ℕ) (ps : Plans) → PlanAre ps s → PassingPlans s 0 ps
+pub begin : (s : List ℕ) (ps : Plans) → PlanEncodesAll ps s → PassingPlans s 0 ps
 begin s ps k = record { within = omega arith; are = k }

@@ -47,9 +47,9 @@ pub text-width : (w h : ℕ) → textWidth (textOf w h) ≡ w
 unfolding textWidth textOf greatest
 text-width w h = ap greatest (letters w (h - 1)) ∙ omega (arith, zeros-greatest (h - 1))
 
-pub text-height : (w h : ℕ) → 1 ≤ h → textHeight (textOf w h) ≡ h
+pub textOf-height : (w h : ℕ) → 1 ≤ h → textHeight (textOf w h) ≡ h
 unfolding textHeight textOf
-text-height w h k = ap length (letters w (h - 1)) ∙ omega (arith, length-replicate {A = ℕ} (h - 1) 0)
+textOf-height w h k = ap length (letters w (h - 1)) ∙ omega (arith, length-replicate {A = ℕ} (h - 1) 0)
 
 feeds-text : (k : ℕ) → isText (replicate k 10) ≡ true
 unfolding isText
@@ -68,8 +68,8 @@ text-allowed w h = letters-text w (h - 1)
 -- ---- the choice at an end
 
 within-case : (most : Bool) (a b c d : ℕ) → GoodRange a b c d → WithinRange a b c d (textOf (pick most b a) (pick most d c))
-within-case true a b c d g = record { least-width = omega (arith, text-width b d, g .widths); greatest-width = omega (arith, text-width b d); least-lines = omega (arith, text-height b d (omega (arith, g .some, g .lines)), g .lines); greatest-lines = omega (arith, text-height b d (omega (arith, g .some, g .lines))) }
-within-case false a b c d g = record { least-width = omega (arith, text-width a c); greatest-width = omega (arith, text-width a c, g .widths); least-lines = omega (arith, text-height a c (g .some)); greatest-lines = omega (arith, text-height a c (g .some), g .lines) }
+within-case true a b c d g = record { least-width = omega (arith, text-width b d, g .widths); greatest-width = omega (arith, text-width b d); least-lines = omega (arith, textOf-height b d (omega (arith, g .some, g .lines)), g .lines); greatest-lines = omega (arith, textOf-height b d (omega (arith, g .some, g .lines))) }
+within-case false a b c d g = record { least-width = omega (arith, text-width a c); greatest-width = omega (arith, text-width a c, g .widths); least-lines = omega (arith, textOf-height a c (g .some)); greatest-lines = omega (arith, textOf-height a c (g .some), g .lines) }
 
 lines-low : (most : Bool) (a b c d : ℕ) → GoodRange a b c d → 1 ≤ pick most d c
 lines-low true a b c d g = omega (arith, g .some, g .lines)
@@ -77,7 +77,7 @@ lines-low false a b c d g = g .some
 
 range-size : (s : Settings) (w h : ℕ) → 1 ≤ h → leafSize s (textOf w h) ≡ rangeSize s w h
 unfolding leafSize rangeSize
-range-size s w h k = rw (text-width w h, text-height w h k)
+range-size s w h k = rw (text-width w h, textOf-height w h k)
 
 -- a choice of allowed texts whose size is that end, in both directions
 pub record EndReached (s : Settings) (most : Bool) (p : Plan) : Type 0 where

@@ -11,7 +11,7 @@ use Rattle.tree.specs.Bytes.{lengthAt, axisOf}
 use Rattle.tree.specs.Contracts.{frontOf}
 use Rattle.tree.specs.declared.front.Front.{Front}
 use Rattle.tree.specs.Planning.{Plan, Plans}
-use Rattle.tree.specs.Promises.{PlanIs, PlanAre}
+use Rattle.tree.specs.Promises.{PlanEncodes, PlanEncodesAll}
 use Rattle.tree.proofs.PlanSound.{plan-whole}
 use Rattle.sizes.specs.declared.Size.{Size}
 use Rattle.sizes.specs.declared.natural.Span.{Span}
@@ -20,18 +20,18 @@ use Rattle.sizes.specs.Sizes.{along, beside, sized, sep, spanned, leafSize}
 use Rattle.sizes.specs.Contracts.{withChild, spanOf, WideChild, WideSpan}
 use Rattle.sizes.proofs.Fill.{along-sized, beside-sized}
 use Rattle.plan.specs.Ends.{noPlans?, endSize, endSizes}
-use Rattle.plan.specs.Contracts.{Short, endOf, ReadyPlan, ReadyPlans}
+use Rattle.plan.specs.Contracts.{ShortSize, endOf, ReadyPlan, ReadyPlans}
 use Rattle.plan.proofs.Fronts.{RangeIs, PlanGroupIs, inside-shorter, range-at, leaf-at, group-at}
 use Rattle.plan.proofs.Passing.{PassingPlans, begin, SomePlans, next-is, passed}
 
 -- ---- short sizes by their axis
 
-short-sides : (a : Axis) (z : Size) → along a z < 2097152 → beside a z < 2097152 → Short z
+short-sides : (a : Axis) (z : Size) → along a z < 2097152 → beside a z < 2097152 → ShortSize z
 unfolding along beside
 short-sides across z h k = record { wide = h; tall = k }
 short-sides down z h k = record { wide = k; tall = h }
 
-sides-short : (a : Axis) (z : Size) → Short z → (along a z < 2097152) × (beside a z < 2097152)
+sides-short : (a : Axis) (z : Size) → ShortSize z → (along a z < 2097152) × (beside a z < 2097152)
 unfolding along beside
 sides-short across z k = (k .wide, k .tall)
 sides-short down z k = (k .tall, k .wide)
@@ -44,8 +44,8 @@ some-sizes S m Plans.none e = let z : _≡_ {A = ℕ} 0 1 = cc in absurd (omega 
 some-sizes S m (Plans.more p ps) e = omega arith
 
 -- no more plans than bytes
-sizes-few : (S : Settings) (m : Bool) (ps : Plans) (s : List ℕ) → PlanAre ps s → length (endSizes S m ps) ≤ length s
-unfolding PlanIs endSizes
+sizes-few : (S : Settings) (m : Bool) (ps : Plans) (s : List ℕ) → PlanEncodesAll ps s → length (endSizes S m ps) ≤ length s
+unfolding PlanEncodes endSizes
 sizes-few S m Plans.none s k = omega arith
 sizes-few S m (Plans.more p ps) s k = omega (arith, sizes-few S m ps (drop (3 + lengthAt s) s) (k .1), length-drop (3 + lengthAt s) s, plan-whole p s (k .0))
 
@@ -141,7 +141,7 @@ module _ (S : Settings) (m : Bool) (s : List ℕ) (q : ReadyPlan S m s) (v : Fro
     range : RangeIs S m (q .plan) inside
     range = range-at (q .plan) s (q .is) v ve S m h
 
-    pub range-asks : (length inside ≡ 4) × Short (endOf S m inside)
+    pub range-asks : (length inside ≡ 4) × ShortSize (endOf S m inside)
     range-asks = (range .four, rw (range .size) at (q .short))
 
     pub range-gives : (z : Size) → z ≡ endOf S m inside → z ≡ endSize S m (q .plan)
@@ -152,7 +152,7 @@ module _ (S : Settings) (m : Bool) (s : List ℕ) (q : ReadyPlan S m s) (v : Fro
       leaf : endSize S m (q .plan) ≡ leafSize S inside
       leaf = leaf-at (q .plan) s (q .is) v ve n S m h
 
-      pub leaf-asks : length s < 18446744073709551616 → (length inside + 1 < 18446744073709551616) × Short (leafSize S inside)
+      pub leaf-asks : length s < 18446744073709551616 → (length inside + 1 < 18446744073709551616) × ShortSize (leafSize S inside)
       leaf-asks b = (omega (arith, inside-shorter (q .plan) s (q .is) v ve), rw leaf at (q .short))
 
       pub leaf-gives : (z : Size) → z ≡ leafSize S inside → z ≡ endSize S m (q .plan)

@@ -8,12 +8,12 @@ use Rattle.common.specs.Choice.{pick}
 use Rattle.settings.specs.declared.Settings.{Settings}
 use Rattle.tree.specs.Bytes.{axisOf}
 use Rattle.tree.specs.Planning.{Plan, Plans}
-use Rattle.tree.specs.Promises.{PlanIs, PlanAre}
+use Rattle.tree.specs.Promises.{PlanEncodes, PlanEncodesAll}
 use Rattle.sizes.specs.declared.Size.{Size}
 use Rattle.plan.specs.Ends.{noPlans?, rangeSize, endSize}
 
 -- a size of at most 21 bits: 42 for each byte of a planning tree
-pub record Short (z : Size) : Type 0 where
+pub record ShortSize (z : Size) : Type 0 where
   pub wide : z .width < 2097152
   pub tall : z .height < 2097152
 
@@ -29,12 +29,12 @@ endOf s most r = rangeSize s (pick most (getD r 1 0) (getD r 0 0)) (pick most (g
 -- the bytes begin with a plan whose size at that end is short
 pub record ReadyPlan (s : Settings) (most : Bool) (bytes : List ℕ) : Type 0 where
   pub plan : Plan
-  pub is : PlanIs plan bytes
-  pub short : Short (endSize s most plan)
+  pub is : PlanEncodes plan bytes
+  pub short : ShortSize (endSize s most plan)
 
 -- the bytes are the children, at least one, of a group whose size at that end is short
 pub record ReadyPlans (s : Settings) (most a : Bool) (bytes : List ℕ) : Type 0 where
   pub plans : Plans
-  pub are : PlanAre plans bytes
+  pub are : PlanEncodesAll plans bytes
   pub some : noPlans? plans ≡ false
-  pub short : Short (endSize s most (Plan.group (axisOf a) plans))
+  pub short : ShortSize (endSize s most (Plan.group (axisOf a) plans))

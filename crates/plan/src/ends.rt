@@ -2,10 +2,10 @@
 use settings::Settings;
 use sizes::Size;
 use sizes::axis::separator;
+use sizes::measure::text_size;
 use sizes::natural::Span;
 use sizes::natural::span_size;
 use sizes::natural::with_child;
-use sizes::text::text_size;
 ghost use mathlib.Core.Path.{_≡_};
 ghost use Prim.Native.Nat.{_+_, _<_};
 ghost use lib.ListN.{length};
@@ -13,7 +13,7 @@ ghost use Rattle.tree.specs.Planning.{Plan};
 ghost use Rattle.tree.specs.Bytes.{axisOf};
 ghost use Rattle.sizes.specs.Sizes.{leafSize};
 ghost use Rattle.plan.specs.Ends.{rangeSize, endSize, outer};
-ghost use Rattle.plan.specs.Contracts.{Short, Wide, endOf, ReadyPlan, ReadyPlans};
+ghost use Rattle.plan.specs.Contracts.{ShortSize, Wide, endOf, ReadyPlan, ReadyPlans};
 
 // A text of that width and line count, with the padding around it.
 fn padded(settings: Settings, width: usize, height: usize) -> Size
@@ -27,7 +27,7 @@ fn padded(settings: Settings, width: usize, height: usize) -> Size
 }
 
 fn text_end(settings: Settings, text: &[u8]) -> Size
-    requires { ⌜ (length (now text) + 1 < 18446744073709551616) × Short (leafSize settings (now text)) ⌝ }
+    requires { ⌜ (length (now text) + 1 < 18446744073709551616) × ShortSize (leafSize settings (now text)) ⌝ }
     ensures { λ r. ⌜ r ≡ leafSize settings (now (text .entry)) ⌝ }
 {
     let z = text_size(text);
@@ -36,7 +36,7 @@ fn text_end(settings: Settings, text: &[u8]) -> Size
 
 // The four bytes of a range.
 fn range_end(settings: Settings, s: &[u8], most: bool) -> Size
-    requires { ⌜ (length (now s) ≡ 4) × Short (endOf settings most (now s)) ⌝ }
+    requires { ⌜ (length (now s) ≡ 4) × ShortSize (endOf settings most (now s)) ⌝ }
     ensures { λ r. ⌜ r ≡ endOf settings most (now (s .entry)) ⌝ }
 {
     let w = common::wide(common::pick_byte(most, s[1], s[0]));
@@ -46,7 +46,7 @@ fn range_end(settings: Settings, s: &[u8], most: bool) -> Size
 
 // What stands around a root of the size z is added: W and H.
 fn outer_size(settings: Settings, z: Size) -> Size
-    requires { ⌜ Short z ⌝ }
+    requires { ⌜ ShortSize z ⌝ }
     ensures { λ r. ⌜ r ≡ outer settings z ⌝ }
     ensures wide { λ r. ⌜ Wide r ⌝ }
 {

@@ -5,7 +5,7 @@ use ends::sheet_end;
 use sizes::Size;
 ghost use mathlib.Core.Path.{_≡_};
 ghost use Rattle.plan.specs.Contracts.{Wide};
-ghost use Rattle.plan.specs.Answers.{noPlanned, answered, planInput, plannedOf};
+ghost use Rattle.plan.specs.Answers.{noPlanned, endsAnswered, planInput, plannedOf};
 
 // Number 0, and the least and greatest W and H; or a refusal.
 pub struct Planned {
@@ -31,7 +31,7 @@ fn refused(number: u8) -> Planned
 // The two ends as numbers of 32 bits.
 fn answer(least: Size, most: Size) -> Planned
     requires { ⌜ Wide least × Wide most ⌝ }
-    ensures { λ r. ⌜ r ≡ answered least most ⌝ }
+    ensures { λ r. ⌜ r ≡ endsAnswered least most ⌝ }
 {
     Planned {
         number: 0,

@@ -16,7 +16,7 @@ use Rattle.settings.specs.declared.Priority.{Priority}
 use Rattle.settings.specs.Reading.{low, high, marginLow, marginHigh, within, alignmentOf, priorityOf, marginOf, noMargin, settingsOf, read, readBehind, readForm, readSettings}
 use Rattle.settings.specs.Promises.{Bounded, Ranges}
 use Rattle.settings.proofs.Within.{bare-form, lined-form}
-use Rattle.settings.specs.Defaults.{alignmentNumber, priorityNumber, recordOf, marginBytes}
+use Rattle.settings.specs.Defaults.{alignmentNumber, priorityNumber, settingsBytes, marginBytes}
 
 -- ---- each byte of the record is within its bounds
 
@@ -52,7 +52,7 @@ mode-low true = omega arith
 mode-low false = omega arith
 
 module _ (s : Settings) (r : Ranges s) where
-  record-within : within (low (s .lines)) (high (s .lines)) (recordOf s) ≡ true
+  record-within : within (low (s .lines)) (high (s .lines)) (settingsBytes s) ≡ true
   record-within =
       byte-within 16 16 16 _ _ _ (omega arith) (omega arith)
       ∙ byte-within 0 0 0 _ _ _ (omega arith) (omega arith)
@@ -136,7 +136,7 @@ module _ (s : Settings) (r : Ranges s) where
       ∙ number 4 (s .left ∷ s .right ∷ s .top ∷ s .bottom ∷ []) (s .fills ++ choices) refl (4 + i)
       ∙ number 4 (s .fills) choices (r .fills .many) i
 
-  fields-read : settingsOf (s .lines) (s .margin) (recordOf s) ≡ s
+  fields-read : settingsOf (s .lines) (s .margin) (settingsBytes s) ≡ s
   unfolding paddings choices
   fields-read =
       rw (
@@ -159,7 +159,7 @@ module _ (s : Settings) (r : Ranges s) where
         priority-read (s .«height_priority»),
       )
 
-  record-long : length (recordOf s) ≡ 31
+  record-long : length (settingsBytes s) ≡ 31
   record-long = rw (length-append (s .marks), length-append (s .fills), r .marks .many, r .fills .many)
 
   margin-within : within marginLow marginHigh (marginBytes (s .margin)) ≡ true
@@ -177,30 +177,30 @@ module _ (s : Settings) (r : Ranges s) where
   margin-is : marginOf (marginBytes (s .margin)) ≡ s .margin
   margin-is = rw (take-all 4 (s .margin .fills) (omega (arith, r .margin-fills .many)))
 
-  front-is : (k : List ℕ) → take 31 (recordOf s ++ k) ≡ recordOf s
-  front-is k = ap (λ (n : ℕ). take n (recordOf s ++ k)) (sym record-long) ∙ take-append-seam (recordOf s) k
+  front-is : (k : List ℕ) → take 31 (settingsBytes s ++ k) ≡ settingsBytes s
+  front-is k = ap (λ (n : ℕ). take n (settingsBytes s ++ k)) (sym record-long) ∙ take-append-seam (settingsBytes s) k
 
-  behind-is : (k : List ℕ) → drop 31 (recordOf s ++ k) ≡ k
-  behind-is k = ap (λ (n : ℕ). drop n (recordOf s ++ k)) (sym record-long) ∙ drop-append-seam (recordOf s) k
+  behind-is : (k : List ℕ) → drop 31 (settingsBytes s ++ k) ≡ k
+  behind-is k = ap (λ (n : ℕ). drop n (settingsBytes s ++ k)) (sym record-long) ∙ drop-append-seam (settingsBytes s) k
 
-  first-mark : (k : List ℕ) → (pick (s .lines) 32 0 ≤ getD (recordOf s ++ k) 3 0) × (getD (recordOf s ++ k) 3 0 ≤ pick (s .lines) 126 0)
+  first-mark : (k : List ℕ) → (pick (s .lines) 32 0 ≤ getD (settingsBytes s ++ k) 3 0) × (getD (settingsBytes s ++ k) 3 0 ≤ pick (s .lines) 126 0)
   unfolding paddings
   first-mark k =
-      let e : getD (recordOf s ++ k) 3 0 ≡ getD (s .marks) 0 0 = List·getD-append (recordOf s) k 0 3 (omega (arith, record-long)) ∙ List·getD-append (s .marks) paddings 0 0 (omega (arith, r .marks .many)) in
+      let e : getD (settingsBytes s ++ k) 3 0 ≡ getD (s .marks) 0 0 = List·getD-append (settingsBytes s) k 0 3 (omega (arith, record-long)) ∙ List·getD-append (s .marks) paddings 0 0 (omega (arith, r .marks .many)) in
       rw e (r .marks .each 0 (omega arith))
 
   -- with the margin's field
-  pub settings-read : readSettings (recordOf s ++ marginBytes (s .margin)) ≡ read s
+  pub settings-read : readSettings (settingsBytes s ++ marginBytes (s .margin)) ≡ read s
   settings-read =
       read-either (s .lines) _ (first-mark (marginBytes (s .margin)))
-      ∙ read-front (s .lines) _ (recordOf s) (marginBytes (s .margin)) (front-is (marginBytes (s .margin))) (behind-is (marginBytes (s .margin))) (record-within s r)
-      ∙ read-margin (s .lines) (recordOf s) 17 _ margin-within
-      ∙ ap read (ap (λ (m : Margin). settingsOf (s .lines) m (recordOf s)) margin-is ∙ fields-read)
+      ∙ read-front (s .lines) _ (settingsBytes s) (marginBytes (s .margin)) (front-is (marginBytes (s .margin))) (behind-is (marginBytes (s .margin))) (record-within s r)
+      ∙ read-margin (s .lines) (settingsBytes s) 17 _ margin-within
+      ∙ ap read (ap (λ (m : Margin). settingsOf (s .lines) m (settingsBytes s)) margin-is ∙ fields-read)
 
   -- without it
-  pub plain-read : s .margin ≡ noMargin → readSettings (recordOf s) ≡ read s
+  pub plain-read : s .margin ≡ noMargin → readSettings (settingsBytes s) ≡ read s
   plain-read e =
-      read-either (s .lines) (recordOf s) (rw (append-nil (recordOf s)) at (first-mark []))
-      ∙ read-front (s .lines) _ (recordOf s) [] (take-all 31 (recordOf s) (omega (arith, record-long))) (drop-of-length-le (recordOf s) {i = 31} (omega (arith, record-long))) (record-within s r)
-      ∙ read-none (s .lines) (recordOf s)
-      ∙ ap read (ap (λ (m : Margin). settingsOf (s .lines) m (recordOf s)) (sym e) ∙ fields-read)
+      read-either (s .lines) (settingsBytes s) (rw (append-nil (settingsBytes s)) at (first-mark []))
+      ∙ read-front (s .lines) _ (settingsBytes s) [] (take-all 31 (settingsBytes s) (omega (arith, record-long))) (drop-of-length-le (settingsBytes s) {i = 31} (omega (arith, record-long))) (record-within s r)
+      ∙ read-none (s .lines) (settingsBytes s)
+      ∙ ap read (ap (λ (m : Margin). settingsOf (s .lines) m (settingsBytes s)) (sym e) ∙ fields-read)

@@ -1,5 +1,5 @@
 -- What the proofs of several functions, and the layers above, use.
-pub mod Small
+pub mod Ranges
 pub mod Complete
-pub mod Long
+pub mod RecordLength
 mod Within

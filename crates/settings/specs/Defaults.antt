@@ -39,8 +39,8 @@ priorityNumber Priority.Last = 1
 priorityNumber Priority.List = 2
 
 -- the 31 bytes of settings, without the margin
-abbrev pub recordOf : Settings → List ℕ
-recordOf s =
+abbrev pub settingsBytes : Settings → List ℕ
+settingsBytes s =
     16 ∷ 0 ∷ 28 ∷ (s .marks
     ++ (s .left ∷ s .right ∷ s .top ∷ s .bottom ∷ (s .fills
     ++ (alignmentNumber (s .horizontal) ∷ alignmentNumber (s .vertical) ∷ pick (s .«line_mode») 1 0

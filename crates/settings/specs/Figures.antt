@@ -7,27 +7,27 @@ use lib.ListN.{replicate}
 use Rattle.settings.specs.declared.Alignment.{Alignment}
 use Rattle.settings.specs.declared.Priority.{Priority}
 use Rattle.settings.specs.Reading.{noMargin, refused, read, readSettings}
-use Rattle.settings.specs.Defaults.{defaults, recordOf}
+use Rattle.settings.specs.Defaults.{defaults, settingsBytes}
 
 -- the 31 bytes of the defaults
-pub defaults-bytes : recordOf defaults
+pub defaults-bytes : settingsBytes defaults
     ≡ 16 ∷ 0 ∷ 28 ∷ 45 ∷ 45 ∷ 124 ∷ 124 ∷ 45 ∷ 124 ∷ 43 ∷ 43 ∷ 43 ∷ 43 ∷ 43 ∷ 43 ∷ 43 ∷ 43 ∷ 43 ∷ 1 ∷ 1 ∷ 0 ∷ 0 ∷ 32 ∷ 32 ∷ 32 ∷ 32 ∷ 0 ∷ 0 ∷ 0 ∷ 1 ∷ 2 ∷ []
 defaults-bytes = refl
 
-pub defaults-read : readSettings (recordOf defaults) ≡ read defaults
+pub defaults-read : readSettings (settingsBytes defaults) ≡ read defaults
 unfolding readSettings
 defaults-read = refl
 
 -- a margin of 2 columns on the left, 1 line on top, of dots and stars
-pub margin-read : readSettings (recordOf defaults ++ (17 ∷ 0 ∷ 8 ∷ 2 ∷ 0 ∷ 1 ∷ 0 ∷ 46 ∷ 32 ∷ 42 ∷ 32 ∷ []))
+pub margin-read : readSettings (settingsBytes defaults ++ (17 ∷ 0 ∷ 8 ∷ 2 ∷ 0 ∷ 1 ∷ 0 ∷ 46 ∷ 32 ∷ 42 ∷ 32 ∷ []))
     ≡ read (record { lines = true; margin = record { left = 2; right = 0; top = 1; bottom = 0; fills = 46 ∷ 32 ∷ 42 ∷ 32 ∷ [] }; marks = defaults .marks; left = 1; right = 1; top = 0; bottom = 0; fills = replicate 4 32; horizontal = Alignment.Start; vertical = Alignment.Start; «line_mode» = false; «width_priority» = Priority.Last; «height_priority» = Priority.List })
 unfolding readSettings
 margin-read = refl
 
 -- a size of 17, a field cut short, a byte too many
-pub margin-refused : (readSettings (recordOf defaults ++ (17 ∷ 0 ∷ 8 ∷ 17 ∷ 0 ∷ 1 ∷ 0 ∷ 46 ∷ 32 ∷ 42 ∷ 32 ∷ [])) ≡ refused)
-    × (readSettings (recordOf defaults ++ (17 ∷ 0 ∷ 8 ∷ [])) ≡ refused)
-    × (readSettings (recordOf defaults ++ (17 ∷ 0 ∷ 8 ∷ 2 ∷ 0 ∷ 1 ∷ 0 ∷ 46 ∷ 32 ∷ 42 ∷ 32 ∷ 1 ∷ [])) ≡ refused)
+pub margin-refused : (readSettings (settingsBytes defaults ++ (17 ∷ 0 ∷ 8 ∷ 17 ∷ 0 ∷ 1 ∷ 0 ∷ 46 ∷ 32 ∷ 42 ∷ 32 ∷ [])) ≡ refused)
+    × (readSettings (settingsBytes defaults ++ (17 ∷ 0 ∷ 8 ∷ [])) ≡ refused)
+    × (readSettings (settingsBytes defaults ++ (17 ∷ 0 ∷ 8 ∷ 2 ∷ 0 ∷ 1 ∷ 0 ∷ 46 ∷ 32 ∷ 42 ∷ 32 ∷ 1 ∷ [])) ≡ refused)
 unfolding readSettings
 margin-refused = (refl, refl, refl)
 

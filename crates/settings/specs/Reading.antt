@@ -113,9 +113,9 @@ blank = record {
 }
 
 -- the reader's answer for each
-abbrev pub answerOf : Parsed → ReadSettings
-answerOf refused = record { number = 1; settings = blank }
-answerOf (read s) = record { number = 0; settings = s }
+abbrev pub parsedAnswer : Parsed → ReadSettings
+parsedAnswer refused = record { number = 1; settings = blank }
+parsedAnswer (read s) = record { number = 0; settings = s }
 
 abbrev pub settingsAnswer : List ℕ → ReadSettings
-settingsAnswer l = answerOf (readSettings l)
+settingsAnswer l = parsedAnswer (readSettings l)

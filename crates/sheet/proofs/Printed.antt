@@ -24,27 +24,27 @@ use Rattle.layout.specs.Walk.{Placed, leaves, insideW, insideH}
 use Rattle.frame.specs.Frame.{W, H, tooLarge}
 use Rattle.frame.specs.Contracts.{frameOf, largeOf}
 use Rattle.frame.specs.Printer.{Prints, noPrint}
-use Rattle.frame.proofs.Printers.{Answers}
+use Rattle.frame.proofs.Printers.{PrinterAnswers}
 use Rattle.frame.proofs.Sheets.{sheetFrame, large-no}
 use Rattle.entries.specs.Contracts.{Listing, Asks, PaintsAll, paintAll}
 use Rattle.layout.proofs.Laid.{root-laid}
-use Rattle.layout.specs.Promises.{tallAt, wideAt}
+use Rattle.layout.specs.Promises.{heightAt, widthAt}
 use Rattle.layout.proofs.Fit.{LeafFits, leaves-fit}
 use Rattle.layout.proofs.Inside.{Inside, laid-inside}
 use Rattle.sizes.proofs.Heights.{natural-height}
-use Rattle.sizes.proofs.Given.{refuses}
-use Rattle.leaf.proofs.Calls.{Taken, call-takes, call-large, call-frame, call-stride, Fitting}
+use Rattle.sizes.proofs.MeasuredInput.{refuses}
+use Rattle.leaf.proofs.Calls.{Taken, call-takes, call-large, call-frame, call-stride, FitsSheet}
 use Rattle.sheet.specs.Sheet.{sheet}
 use Rattle.sheet.specs.Answers.{sheetOf}
 use Rattle.sheet.specs.Contracts.{refusalOf, leftSide, topSide, insideAt, Framed, beforeOf, afterOf}
 use Rattle.sheet.proofs.Bytes.{sheet-length}
-use Rattle.sheet.proofs.Painted.{painted, sheet-painted}
-use Rattle.sheet.proofs.Planned.{planned-no, planned-yes}
+use Rattle.sheet.proofs.Painted.{paintedAll, sheet-painted}
+use Rattle.sheet.proofs.Refusals.{planned-no, planned-yes}
 
 -- ---- the leaves are painted one after the other
 
-paint-painted : (s : Settings) (stride : ℕ) (o : List ℕ) (ls : List Placed) → paintAll s stride o ls ≡ painted s stride ls o
-unfolding painted
+paint-painted : (s : Settings) (stride : ℕ) (o : List ℕ) (ls : List Placed) → paintAll s stride o ls ≡ paintedAll s stride ls o
+unfolding paintedAll
 paint-painted s stride o [] = refl
 paint-painted s stride o (l ∷ ls) = paint-painted s stride _ ls
 
@@ -52,7 +52,7 @@ paint-painted s stride o (l ∷ ls) = paint-painted s stride _ ls
 
 -- where a rectangle has room, each block inside it has
 room-inside : {s : Settings} {l k h w : ℕ} {f : Placed} (stride len : ℕ) → Inside s l k h w f → Room (l * stride + k) stride h w len
-    → Room (f .at .line * stride + f .at .column) stride (tallAt s (f .at)) (wideAt s (f .at)) len
+    → Room (f .at .line * stride + f .at .column) stride (heightAt s (f .at)) (widthAt s (f .at)) len
 room-inside {s} {l} {k} {h} {w} {f} stride len i r =
     let m = mul-le-mul-right stride (i .below) in
     record { fits = omega (arith, r .fits, i .right); small = omega (arith, r .small, i .right) }
@@ -166,14 +166,14 @@ module _ {bs ts : List ℕ} {m : Measured} {sizes : List ℕ} (k : Taken bs ts m
         within : f .bytes ≤ length o
         within = ltb-false (length o) (f .bytes) (passed .1)
 
-        pub fits : 0 + f .bytes ≤ length o
-        fits = omega (arith, within)
+        pub sheet-fits : 0 + f .bytes ≤ length o
+        sheet-fits = omega (arith, within)
 
         pub large : tooLarge s t ≡ false
         large = sym large-of ∙ passed .0
 
-        abbrev pub fitting : Fitting bs ts m sizes (f .stride)
-        fitting = record { took = k; large = large; stride-is = stride-is }
+        abbrev pub sheet-fitting : FitsSheet bs ts m sizes (f .stride)
+        sheet-fitting = record { took = k; large = large; stride-is = stride-is }
 
         enough : (W s t + 1) * H s t - 1 ≤ length o
         enough = omega (arith, within, bytes-is)
@@ -196,12 +196,12 @@ module _ {bs ts : List ℕ} {m : Measured} {sizes : List ℕ} (k : Taken bs ts m
           base-in = rw base-is (start-in s t (length o) large enough)
 
           module _ {len : ℕ} (le : len ≡ length o - base) where
-            pub asks : Every (Asks s (f .stride) len) (leaves s t)
-            asks = rw (stride-is, le, base-is) (leaves-ask s t (length o) large enough)
+            pub leaves-asked : Every (Asks s (f .stride) len) (leaves s t)
+            leaves-asked = rw (stride-is, le, base-is) (leaves-ask s t (length o) large enough)
 
             -- the leaves can be painted
             unfoldable pub sheet-paints : (list es : List ℕ) → Listing s (f .stride) ts list (leaves s t) es → PaintsAll ts list es s (f .stride) len
-            sheet-paints list es g = record { leaves = leaves s t; listing = g; short = omega (arith, call-takes k .got .short); asks = asks }
+            sheet-paints list es g = record { leaves = leaves s t; listing = g; short = omega (arith, call-takes k .got .short); asks = leaves-asked }
 
             -- filled with 0A, the margin before the leaves, the leaves in the bytes from `base` on, the margin after them
             sheet-shown : (o₁ o₂ part q o₃ o₄ : List ℕ) → o₁ ≡ sets o 0 (replicate (f .bytes) 10)
@@ -212,15 +212,15 @@ module _ {bs ts : List ℕ} {m : Measured} {sizes : List ℕ} (k : Taken bs ts m
                 let z₁ : o₁ ≡ replicate ((W s t + 1) * H s t - 1) 10 ++ r = e₁ ∙ rw (filled o (f .bytes) within, bytes-is) in
                 let z₂ : o₂ ≡ pasted (pasted (replicate ((W s t + 1) * H s t - 1) 10 ++ r) 0 (W s t + 1) (leftSide (s .margin) (H s t))) (s .margin .left) (W s t + 1) (topSide (s .margin) (insideW s t)) =
                 e₂ ∙ rw (lines-is, wide-is, stride-is, z₁) in
-                let zq : q ≡ painted s (W s t + 1) (leaves s t) (drop (insideAt (s .margin) (W s t + 1)) o₂) = eq ∙ paint-painted s (f .stride) part (leaves s t) ∙ rw (ep, base-is, stride-is) in
-                let z₃ : o₃ ≡ take (insideAt (s .margin) (W s t + 1)) o₂ ++ painted s (W s t + 1) (leaves s t) (drop (insideAt (s .margin) (W s t + 1)) o₂) = e₃ ∙ rw (zq, base-is) in
+                let zq : q ≡ paintedAll s (W s t + 1) (leaves s t) (drop (insideAt (s .margin) (W s t + 1)) o₂) = eq ∙ paint-painted s (f .stride) part (leaves s t) ∙ rw (ep, base-is, stride-is) in
+                let z₃ : o₃ ≡ take (insideAt (s .margin) (W s t + 1)) o₂ ++ paintedAll s (W s t + 1) (leaves s t) (drop (insideAt (s .margin) (W s t + 1)) o₂) = e₃ ∙ rw (zq, base-is) in
                 let i : insideAt (s .margin) (W s t + 1) ≤ length o₂ = rw l₂ (start-in s t (length o) large enough) in
                 e₄ ∙ rw (lines-is, wide-is, tall-is, stride-is, bytes-is) (sheet-painted s t r o₂ o₃ z₂ i z₃)
 
             pub sheet-answers : (o₁ o₂ part q o₃ o₄ list es : List ℕ) (g : Listing s (f .stride) ts list (leaves s t) es) → o₁ ≡ sets o 0 (replicate (f .bytes) 10)
                 → o₂ ≡ beforeOf (s .margin) f o₁ → length o₂ ≡ length o → part ≡ drop base o₂ → q ≡ paintAll s (f .stride) part (sheet-paints list es g .leaves)
                 → o₃ ≡ take base o₂ ++ q → o₄ ≡ afterOf (s .margin) f o₃
-                → Answers (record { number = 0; count = f .bytes }) o₄ (sheetOf (inputOf bs ts) o)
+                → PrinterAnswers (record { number = 0; count = f .bytes }) o₄ (sheetOf (inputOf bs ts) o)
             unfolding sheet-paints
             sheet-answers o₁ o₂ part q o₃ o₄ list es g e₁ e₂ l₂ ep eq e₃ e₄ =
                 let e : sheetOf (inputOf bs ts) o ≡ whole = sheet-is ∙ rw (passed .0, passed .1) in

@@ -11,7 +11,7 @@ use Rattle.settings.specs.declared.Margin.{Margin}
 use Rattle.tree.specs.Tree.{Tree}
 use Rattle.sizes.specs.Input.{given, inputOf}
 use Rattle.sizes.specs.Text.{lines}
-use Rattle.block.specs.Content.{feeds}
+use Rattle.block.specs.Content.{joinLines}
 use Rattle.block.specs.Promises.{byteAt}
 use Rattle.layout.specs.Walk.{walk, root, insideW, insideH}
 use Rattle.frame.specs.Frame.{tooLarge}
@@ -29,8 +29,8 @@ edgedAt m h w inside l k =
 
 -- the sheet inside the margin: the joined content, its lines joined by 0A
 unfoldable pub insideSheet : Settings → Tree → List ℕ
-unfolding feeds walk root
-insideSheet s t = feeds (walk s t (root s t) .content)
+unfolding joinLines walk root
+insideSheet s t = joinLines (walk s t (root s t) .content)
 
 -- the bytes that a printer wrote
 abbrev pub bytesWritten : Prints → List ℕ
@@ -49,7 +49,7 @@ abbrev pub placeAt : List ℕ → ℕ → ℕ → ℕ
 placeAt b l k = byteAt (lines b) l k
 
 -- a place of the printed sheet that is not in the margin
-pub record Within (s : Settings) (t : Tree) (l k : ℕ) : Type 0 where
+pub record InsideMargin (s : Settings) (t : Tree) (l k : ℕ) : Type 0 where
   pub from-line : s .margin .top ≤ l
   pub to-line : l < s .margin .top + insideH s t
   pub from-column : s .margin .left ≤ k

@@ -28,6 +28,6 @@ pub record CutsIn (w : ℕ) (r : CutAt) (s₀ s : List ℕ) : Type 0 where
   pub within : r .gone ≤ length s₀
 
 -- what the loop of `short_splits` answers
-pub record Told (w : ℕ) (list : SplitList) (r : Listed) : Type 0 where
+pub record PositionsListed (w : ℕ) (list : SplitList) (r : Listed) : Type 0 where
   pub stops : Stops 0 w (list .count) (list .pieces) (r .positions .count) (r .pos)
   pub listed : r .positions ≡ positionList (reach 0 w (listOf list) 0 .positions)

@@ -6,10 +6,10 @@
 mod libraries;
 
 use libraries::Library;
-use lines::contents;
-use lines::given;
-use lines::given::Given;
-use lines::tell;
+use test_lines::contents;
+use test_lines::given;
+use test_lines::given::Given;
+use test_lines::tell;
 
 // A file has fewer bytes.
 const MOST: usize = 131072;

@@ -1,6 +1,6 @@
 // The libraries that say what lines ask for.
-use lines::compare;
-use lines::tell;
+use test_lines::compare;
+use test_lines::tell;
 
 // Whose lines a file has.
 pub enum Library {
@@ -55,8 +55,8 @@ pub fn named(line: &[u8]) -> Library {
 // Those whose lines change no byte given.
 fn read(of: Library, kind: u8, settings: &[u8], tree: &[u8], node: usize, want: &[u8]) {
     match of {
-        Library::Calls => script::ask(kind, settings, tree, node, want),
-        Library::Places => place_lines::ask(kind, settings, tree, want),
+        Library::Calls => test_calls::ask(kind, settings, tree, node, want),
+        Library::Places => test_places::ask(kind, settings, tree, want),
         Library::Splits => test_splits::ask(kind, want),
         Library::Sizes => test_sizes::ask(kind, settings, tree, want),
         Library::Typed => test_typed::ask(kind, tree, want),

@@ -3,7 +3,7 @@
 mod papers;
 mod stores;
 
-use lines::tell;
+use test_lines::tell;
 
 // What a line asks for, with what is wanted.
 pub fn ask(kind: u8, store: &mut [u8], tree: &[u8], want: &[u8]) {

@@ -1,9 +1,9 @@
 // Texts blanked: ROOM NODES.., NUMBER COUNT, and the bytes written.
 use blank::Blanked;
-use lines::compare;
-use lines::compare::is_nth;
-use lines::contents;
-use lines::tell;
+use test_lines::compare;
+use test_lines::compare::is_nth;
+use test_lines::contents;
+use test_lines::tell;
 
 // The most numbers, and the most room, of a line.
 const MOST: usize = 16;
@@ -44,7 +44,7 @@ fn ask(tree: &[u8], want: &[u8], nodes: &mut [u16], out: &mut [u8]) {
 
 fn ask_in(tree: &[u8], want: &[u8], nodes: &mut [u16], out: &mut [u8]) {
     let room = contents::nth(want, 0);
-    let n = common::less_one(contents::numbers(want));
+    let n = common::saturating_dec(contents::numbers(want));
     if out.len() < room || nodes.len() < n {
         tell::too_long();
         return;

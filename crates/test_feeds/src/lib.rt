@@ -4,8 +4,8 @@
 //   v AT: each of the 256 byte values at each of the eight places of the slice from AT on, against a count byte by byte
 mod slices;
 
-use lines::contents;
-use lines::tell;
+use test_lines::contents;
+use test_lines::tell;
 
 // What a line asks for; `want` is its contents.
 pub fn ask(kind: u8, slice: &mut [u8], want: &[u8]) {

@@ -1,7 +1,7 @@
 // One case of each kind: what `count_feeds` answers, and whether that is right.
-use lines::compare;
-use lines::contents;
-use lines::tell;
+use test_lines::compare;
+use test_lines::contents;
+use test_lines::tell;
 
 // The longest slice of a line that asks for lengths.
 const LONGEST: usize = 600;
@@ -37,20 +37,20 @@ fn plain_longest(s: &[u8]) -> usize {
     let mut i: usize = 0;
     while i < s.len() {
         n = letters(n, s[i]);
-        longest = common::greater(longest, n);
+        longest = common::max(longest, n);
         i = i + 1;
     }
     longest
 }
 
 fn holds(s: &[u8]) -> bool {
-    let c = feeds::count_feeds(s);
+    let c = text::count_feeds(s);
     c.feeds == plain_feeds(s) && c.longest == plain_longest(s)
 }
 
 // A slice's line feeds and its longest line, against the numbers of the line.
 pub fn counted(s: &[u8], count: usize, longest: usize) {
-    let c = feeds::count_feeds(s);
+    let c = text::count_feeds(s);
     tell::number(s.len());
     tell::text(b" bytes: ");
     tell::number(c.feeds);

@@ -1,7 +1,7 @@
 // Whole outputs of both programs, as `program::answer` gives them against document 01, and `typed_program::answer_typed` of a typed list. The lines give the input as a tree:
 //   a the whole output     y the whole output for a typed list
-use lines::compare;
-use lines::tell;
+use test_lines::compare;
+use test_lines::tell;
 
 // The longest output that is shown.
 const SHORT: usize = 200;

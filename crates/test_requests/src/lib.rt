@@ -4,7 +4,7 @@ mod folds;
 mod nearest;
 mod plans;
 
-use lines::tell;
+use test_lines::tell;
 
 // What a line asks for, with what is wanted.
 pub fn ask(kind: u8, settings: &[u8], tree: &[u8], want: &[u8]) {

@@ -1,7 +1,7 @@
 // The Cells nearest to widening the sheet: ROOM_NODES ROOM_LETTERS, NUMBER COUNT, then NODE LETTERS by turns; `none` where there are none.
-use lines::compare::is_nth;
-use lines::contents;
-use lines::tell;
+use test_lines::compare::is_nth;
+use test_lines::contents;
+use test_lines::tell;
 use widen::Widened;
 
 // The most room of a line.

@@ -1,6 +1,6 @@
 // Planning trees: NUMBER LEAST_W GREATEST_W LEAST_H GREATEST_H.
-use lines::compare::is_nth;
-use lines::tell;
+use test_lines::compare::is_nth;
+use test_lines::tell;
 
 pub fn plan(settings: &[u8], tree: &[u8], want: &[u8]) {
     let r = plan::plan_sheet(settings, tree);

@@ -6,8 +6,8 @@
 mod lists;
 mod shares;
 
-use lines::contents;
-use lines::tell;
+use test_lines::contents;
+use test_lines::tell;
 
 // What a line asks for; `want` is its contents.
 pub fn ask(kind: u8, settings: &[u8], tree: &[u8], want: &[u8]) {

@@ -1,6 +1,6 @@
 // A call of the collector, and its list afterwards: each run of equal entries in one line.
 use collector::SizeRecord;
-use lines::tell;
+use test_lines::tell;
 
 // What the list is made of before a call.
 fn made_of() -> SizeRecord {

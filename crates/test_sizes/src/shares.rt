@@ -1,8 +1,8 @@
 // The sharing helper, called for each child and for one more: each run of equal answers in one line.
-use lines::tell;
 use settings::Priority;
 use sizes::sharing;
 use sizes::sharing::Shared;
+use test_lines::tell;
 
 fn same(a: Shared, b: Shared) -> bool {
     if a.number != b.number {

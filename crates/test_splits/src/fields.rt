@@ -1,7 +1,7 @@
 // The fields of a line: a word, and what follows it.
 use crate::lists;
-use lines::contents;
 use splits::SplitList;
+use test_lines::contents;
 
 // The list in field `k`.
 pub fn list(s: &[u8], k: usize) -> SplitList {

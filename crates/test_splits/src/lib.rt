@@ -7,7 +7,7 @@ mod cases;
 mod fields;
 mod lists;
 
-use lines::tell;
+use test_lines::tell;
 
 // The name of a case's call.
 fn name(kind: u8) {

@@ -2,9 +2,9 @@
 //   t N: `read_typed` is called with N bytes lent
 // For each call: the answer; `ok` where the lent bytes past those written are as they were; and what was written, up to 120 bytes, with the
 // node count that `read_tree` gives it, `\` and two hex digits standing for a byte.
-use lines::compare;
-use lines::contents;
-use lines::tell;
+use test_lines::compare;
+use test_lines::contents;
+use test_lines::tell;
 use typed::Typed;
 
 // The most bytes lent.

@@ -27,39 +27,39 @@ use Rattle.sizes.proofs.Nodes.{subtrees-length, sizes-at, part-whole, part-own,
 use Rattle.sizes.specs.Promises.{sizesAt}
 use Rattle.sizes.proofs.Within.{tree-sizes-length}
 use Rattle.sizes.proofs.Listed.{groups-filled, row-filled, column-filled}
-use Rattle.sizes.proofs.Given.{takes}
+use Rattle.sizes.proofs.MeasuredInput.{takes}
 use Rattle.collector.specs.declared.SizeRecord.{SizeRecord}
 use Rattle.collector.specs.Below.{belows}
 use Rattle.collector.specs.Records.{Outcome, collectOf}
-use Rattle.collector.specs.Promises.{noRecord, sizesOf, belowOf, Collected}
+use Rattle.collector.specs.Promises.{noSizeRecord, sizesOf, belowIn, SizesCollected}
 use Rattle.collector.proofs.Zipped.{noSizes}
 use Rattle.collector.proofs.Siblings.{below-at}
 use Rattle.collector.proofs.Written.{collected}
 use Rattle.block.specs.declared.Flags.{Flags}
-use Rattle.block.specs.Content.{feeds}
-use Rattle.block.specs.Block.{block, tall, wide}
+use Rattle.block.specs.Content.{joinLines}
+use Rattle.block.specs.Block.{block, blockHeight, blockWidth}
 use Rattle.block.proofs.Dimensions.{Dims}
 use Rattle.common.proofs.Every.{every-elem}
 use Rattle.block.specs.Promises.{byteAt}
 use Rattle.layout.specs.Walk.{Placed, leafOf, leaves, insideW, insideH}
 use Rattle.layout.specs.Contracts.{placeOf}
-use Rattle.layout.specs.Promises.{Place, startAt, tallAt, wideAt, LeafAt, allottedIn}
-use Rattle.layout.proofs.Stand.{entry-at}
+use Rattle.layout.specs.Promises.{Place, startAt, heightAt, widthAt, LeafAt, allottedIn}
+use Rattle.layout.proofs.Sublists.{entry-at}
 use Rattle.layout.proofs.Fit.{LeafFits, leaves-fit}
 use Rattle.layout.proofs.Named.{same-leaf, leaf-size, leaf-node, node-leaf}
 use Rattle.layout.proofs.Starts.{root-start, row-start, column-start, leaf-start}
 use Rattle.frame.specs.Frame.{W, H, tooLarge}
-use Rattle.frame.specs.Promises.{bytesOf}
+use Rattle.frame.specs.Promises.{byteCount}
 use Rattle.frame.specs.Printer.{Prints, noPrint, printTo}
 use Rattle.leaf.specs.declared.LeafRecord.{LeafRecord}
-use Rattle.leaf.specs.Answers.{numbered, recordFound, leafRecordOf, leafPrintOf}
+use Rattle.leaf.specs.Answers.{leafNumbered, recordFound, leafRecordOf, leafPrintOf}
 use Rattle.leaf.specs.Contracts.{blockBytes}
 use Rattle.leaf.proofs.Bytes.{block-bytes}
 use Rattle.leaf.proofs.Numbers.{childless}
-use Rattle.leaf.proofs.Seek.{leaf-found, found-leaf}
+use Rattle.leaf.proofs.LeafNumbers.{leaf-found, found-leaf}
 use Rattle.sheet.specs.Answers.{sheetOf}
 use Rattle.sheet.specs.Sheet.{sheet}
-use Rattle.sheet.proofs.Parted.{block-parted}
+use Rattle.sheet.proofs.SheetLines.{block-parted}
 use Rattle.sheet.proofs.Bytes.{leaf-dims}
 use Rattle.sheet.proofs.Tiling.{Covers}
 use Rattle.sheet.proofs.Demand3.{covered-once, sheet-rectangle, place-owned}
@@ -85,7 +85,7 @@ module _ {A : Type 0} where
 module _ (s : Settings) (t : Tree) (c : Outcome) (z : map sizesOf (take (c .answer .count) (c .list)) ≡ treeSizes s t) where
   record-sizes : (n : ℕ) → sizesOf (sizesWritten c n) ≡ sizesAt (treeSizes s t) n
   unfolding sizesAt
-  record-sizes n = sym (List·getD-map sizesOf (take (c .answer .count) (c .list)) n noRecord) ∙ ap (λ (zs : List Sizes). getD zs n noSizes) z
+  record-sizes n = sym (List·getD-map sizesOf (take (c .answer .count) (c .list)) n noSizeRecord) ∙ ap (λ (zs : List Sizes). getD zs n noSizes) z
 
   allotted-are : allottedWritten c ≡ allottedIn (treeSizes s t)
   allotted-are = λ i n. ap (λ (y : Sizes). y .allotted) (record-sizes n) i
@@ -100,8 +100,8 @@ module _ (s : Settings) (t : Tree) (c : Outcome) (z : map sizesOf (take (c .answ
   leaf-starts : {n : ℕ} {f : Placed} → LeafAt s t n f → startAt s (allottedWritten c) t n ≡ placeOf (f .at)
   leaf-starts {n} p = ap (λ (size : ℕ → Size). startAt s size t n) allotted-are ∙ sym (leaf-start s t p)
 
-below-is : (t : Tree) (c : Outcome) → map belowOf (take (c .answer .count) (c .list)) ≡ belows t → (n : ℕ) → sizesWritten c n .below ≡ getD (belows t) n 0
-below-is t c z n = sym (List·getD-map belowOf (take (c .answer .count) (c .list)) n noRecord) ∙ ap (λ (l : List ℕ). getD l n 0) z
+below-is : (t : Tree) (c : Outcome) → map belowIn (take (c .answer .count) (c .list)) ≡ belows t → (n : ℕ) → sizesWritten c n .below ≡ getD (belows t) n 0
+below-is t c z n = sym (List·getD-map belowIn (take (c .answer .count) (c .list)) n noSizeRecord) ∙ ap (λ (l : List ℕ). getD l n 0) z
 
 -- ---- the leaves
 
@@ -121,7 +121,7 @@ rectangle x y d = rw (← x, ← y) (record { lines = d .lines; columns = d .col
 
 -- the bytes are those of settings and tree, within the limits
 module _ (bs ts : List ℕ) (s : Settings) (t : Tree) (i : inputOf bs ts ≡ given s t) (g : tooLarge s t ≡ false) where
-  record-is : (n : ℕ) → leafRecordOf (inputOf bs ts) n ≡ recordFound (numbered n (leaves s t))
+  record-is : (n : ℕ) → leafRecordOf (inputOf bs ts) n ≡ recordFound (leafNumbered n (leaves s t))
   unfolding leafRecordOf
   record-is n = rw (i, g)
 
@@ -131,18 +131,18 @@ module _ (bs ts : List ℕ) (s : Settings) (t : Tree) (i : inputOf bs ts ≡ giv
     named : LeafAt s t n leaf
     answer : leafRecordOf (inputOf bs ts) n ≡ recordFound (some leaf)
 
-  answered-case : (n : ℕ) (x : Option Placed) → numbered n (leaves s t) ≡ x → recordFound x .number ≡ 0 → Answered n
+  answered-case : (n : ℕ) (x : Option Placed) → leafNumbered n (leaves s t) ≡ x → recordFound x .number ≡ 0 → Answered n
   answered-case n none e h = absurd (omega arith)
   answered-case n (some f) e h = record { leaf = f; named = found-leaf s t n f e; answer = record-is n ∙ ap recordFound e }
 
   answered : (n : ℕ) → leafRecordOf (inputOf bs ts) n .number ≡ 0 → Answered n
-  answered n h = answered-case n (numbered n (leaves s t)) refl (rw (record-is n) at h)
+  answered n h = answered-case n (leafNumbered n (leaves s t)) refl (rw (record-is n) at h)
 
   leaf-answers : {n : ℕ} {f : Placed} → LeafAt s t n f → leafRecordOf (inputOf bs ts) n .number ≡ 0
   leaf-answers {n} p = ap (λ (r : LeafRecord). r .number) (record-is n ∙ ap recordFound (leaf-found s t p))
 
   -- what the leaf printer answers
-  prints : {n : ℕ} {f : Placed} → LeafAt s t n f → (o : List ℕ) → leafPrintOf (inputOf bs ts) n o ≡ printTo (feeds (block s (leafOf f))) o
+  prints : {n : ℕ} {f : Placed} → LeafAt s t n f → (o : List ℕ) → leafPrintOf (inputOf bs ts) n o ≡ printTo (joinLines (block s (leafOf f))) o
   unfolding leafPrintOf
   prints p o = rw (i, g, leaf-found s t p)
 
@@ -151,18 +151,18 @@ module _ (bs ts : List ℕ) (s : Settings) (t : Tree) (i : inputOf bs ts ≡ giv
     fits : LeafFits s f
     fits = every-elem (LeafFits s) (leaves s t) (p .index) f (leaves-fit s t) (p .stands)
 
-    needed : length (feeds (block s (leafOf f))) ≡ bytesOf (wideAt s (f .at)) (tallAt s (f .at))
+    needed : length (joinLines (block s (leafOf f))) ≡ byteCount (widthAt s (f .at)) (heightAt s (f .at))
     unfolding blockBytes
     needed = omega (arith, block-bytes s (leafOf f) fits)
 
-    room : (o : List ℕ) → leafPrintOf (inputOf bs ts) n o .answer .number ≡ 0 → length (feeds (block s (leafOf f))) ≤ length o
-    room o h = room-case (ltb (length o) (length (feeds (block s (leafOf f))))) (feeds (block s (leafOf f))) o _ refl (rw (prints p o) at h)
+    room : (o : List ℕ) → leafPrintOf (inputOf bs ts) n o .answer .number ≡ 0 → length (joinLines (block s (leafOf f))) ≤ length o
+    room o h = room-case (ltb (length o) (length (joinLines (block s (leafOf f))))) (joinLines (block s (leafOf f))) o _ refl (rw (prints p o) at h)
 
-    bytes-are : (o : List ℕ) → leafPrintOf (inputOf bs ts) n o .answer .number ≡ 0 → take (leafPrintOf (inputOf bs ts) n o .answer .count) (leafPrintOf (inputOf bs ts) n o .out) ≡ feeds (block s (leafOf f))
+    bytes-are : (o : List ℕ) → leafPrintOf (inputOf bs ts) n o .answer .number ≡ 0 → take (leafPrintOf (inputOf bs ts) n o .answer .count) (leafPrintOf (inputOf bs ts) n o .out) ≡ joinLines (block s (leafOf f))
     bytes-are o h = rw i (leaf-written s t o g p (room o h) .bytes-are)
 
     lines-are : (o : List ℕ) → leafPrintOf (inputOf bs ts) n o .answer .number ≡ 0 → linesIn (leafPrintOf (inputOf bs ts) n o) ≡ block s (leafOf f)
-    unfolding tall
+    unfolding blockHeight
     lines-are o h =
         ap lines (bytes-are o h)
         ∙ block-parted s f r (omega (arith, leaf-dims s t (p .index) f (p .stands) .lines, fits .tall, leaf-height s (f .text)))
@@ -180,13 +180,13 @@ module _ (bs ts : List ℕ) (s : Settings) (t : Tree) (i : inputOf bs ts ≡ giv
       column-is : startIn bs ts s t c n .column ≡ d .leaf .at .column
       column-is = ap (λ (q : Place). q .column) (leaf-starts s t c z (d .named))
 
-      tall-is : blockLines bs ts s t c n ≡ tallAt s (d .leaf .at)
-      unfolding tall
-      tall-is = ap (λ (k : Flags). tall s (allottedWritten c n) k) flags-are ∙ ap (λ (y : Size). tall s y (d .leaf .at .flags)) (leaf-sized s t c z (d .named))
+      tall-is : blockLines bs ts s t c n ≡ heightAt s (d .leaf .at)
+      unfolding blockHeight
+      tall-is = ap (λ (k : Flags). blockHeight s (allottedWritten c n) k) flags-are ∙ ap (λ (y : Size). blockHeight s y (d .leaf .at .flags)) (leaf-sized s t c z (d .named))
 
-      wide-is : blockColumns bs ts s t c n ≡ wideAt s (d .leaf .at)
-      unfolding wide
-      wide-is = ap (λ (k : Flags). wide s (allottedWritten c n) k) flags-are ∙ ap (λ (y : Size). wide s y (d .leaf .at .flags)) (leaf-sized s t c z (d .named))
+      wide-is : blockColumns bs ts s t c n ≡ widthAt s (d .leaf .at)
+      unfolding blockWidth
+      wide-is = ap (λ (k : Flags). blockWidth s (allottedWritten c n) k) flags-are ∙ ap (λ (y : Size). blockWidth s y (d .leaf .at .flags)) (leaf-sized s t c z (d .named))
 
       covers : {l k : ℕ} → BlockCovers bs ts s t c n l k → Covers s (d .leaf) l k
       covers v = record {
@@ -252,14 +252,14 @@ module _ (bs ts : List ℕ) (s : Settings) (t : Tree) (i : inputOf bs ts ≡ giv
           → Rectangle (leafPrintOf (inputOf bs ts) n o₁) (blockLines bs ts s t c n) (blockColumns bs ts s t c n)
       block-is n h o₁ e =
           let d = answered n h in
-          let y : Dims (linesIn (leafPrintOf (inputOf bs ts) n o₁)) (tallAt s (d .leaf .at)) (wideAt s (d .leaf .at)) = rw (lines-are r (d .named) o₁ e) (leaf-dims s t (d .named .index) (d .leaf) (d .named .stands)) in
+          let y : Dims (linesIn (leafPrintOf (inputOf bs ts) n o₁)) (heightAt s (d .leaf .at)) (widthAt s (d .leaf .at)) = rw (lines-are r (d .named) o₁ e) (leaf-dims s t (d .named .index) (d .leaf) (d .named .stands)) in
           rectangle (sym (tall-is d)) (sym (wide-is d)) y
 
       enough : (n : ℕ) → leafRecordOf (inputOf bs ts) n .number ≡ 0 → (o₁ : List ℕ)
-          → (leafPrintOf (inputOf bs ts) n o₁ .answer .number ≡ 0) ↔ (bytesOf (blockColumns bs ts s t c n) (blockLines bs ts s t c n) ≤ length o₁)
+          → (leafPrintOf (inputOf bs ts) n o₁ .answer .number ≡ 0) ↔ (byteCount (blockColumns bs ts s t c n) (blockLines bs ts s t c n) ≤ length o₁)
       enough n h o₁ =
           let d = answered n h in
-          rw (tall-is d, wide-is d, ← needed r (d .named)) (λ e. room r (d .named) o₁ e, λ e. rw (prints (d .named) o₁, le-ltb (length o₁) (length (feeds (block s (leafOf (d .leaf))))) e))
+          rw (tall-is d, wide-is d, ← needed r (d .named)) (λ e. room r (d .named) o₁ e, λ e. rw (prints (d .named) o₁, le-ltb (length o₁) (length (joinLines (block s (leafOf (d .leaf))))) e))
 
       module _ (o : List ℕ) (b : take (sheetOf (inputOf bs ts) o .answer .count) (sheetOf (inputOf bs ts) o .out) ≡ sheet s t) where
         sheet-is : Rectangle (sheetOf (inputOf bs ts) o) (s .margin .top + insideLines bs ts s t c + s .margin .bottom) (s .margin .left + insideColumns bs ts s t c + s .margin .right)
@@ -274,7 +274,7 @@ module _ (bs ts : List ℕ) (s : Settings) (t : Tree) (i : inputOf bs ts ≡ giv
             rw (b, bytes-are r (d .named) o₁ e, line-is d, column-is d) (place-owned s t r (d .named) l k (covers d w))
 
       -- the leaves are the nodes with none below
-      module _ (counted : c .answer .count ≡ nodes t) (below : map belowOf (take (c .answer .count) (c .list)) ≡ belows t) where
+      module _ (counted : c .answer .count ≡ nodes t) (below : map belowIn (take (c .answer .count) (c .list)) ≡ belows t) where
         leaf-counted : (n : ℕ) → leafRecordOf (inputOf bs ts) n .number ≡ 0 → (n < c .answer .count) × (sizesWritten c n .below ≡ 0)
         leaf-counted n h =
             let node = leaf-node s t (answered n h .named) in
@@ -353,7 +353,7 @@ demand-3-sizes bs ts l h =
     let w = collected bs ts l (collectOf (inputOf bs ts) l) refl h in
     record { settings = w .settings; tree = w .tree; input = w .input; sharing = sharing bs ts (w .settings) (w .tree) _ (w .count) (w .sizes) }
 
-tiles : (bs ts o : List ℕ) (l : List SizeRecord) (a : SheetOf bs ts o) (w : Collected bs ts l (collectOf (inputOf bs ts) l)) → a .settings ≡ w .settings → a .tree ≡ w .tree
+tiles : (bs ts o : List ℕ) (l : List SizeRecord) (a : SheetOf bs ts o) (w : SizesCollected bs ts l (collectOf (inputOf bs ts) l)) → a .settings ≡ w .settings → a .tree ≡ w .tree
     → Tiles bs ts (w .settings) (w .tree) (collectOf (inputOf bs ts) l) o
 tiles bs ts o l a w x y =
     let s = w .settings in

@@ -18,10 +18,10 @@ use Rattle.sizes.specs.Sizes.{sep, natural}
 use Rattle.sizes.specs.Input.{given, inputOf}
 use Rattle.collector.specs.declared.SizeRecord.{SizeRecord}
 use Rattle.collector.specs.Records.{Outcome, collectOf}
-use Rattle.collector.specs.Promises.{noRecord}
+use Rattle.collector.specs.Promises.{noSizeRecord}
 use Rattle.block.specs.Block.{Leaf, block}
 use Rattle.layout.specs.Promises.{Place, origin, startAt}
-use Rattle.frame.specs.Promises.{bytesOf}
+use Rattle.frame.specs.Promises.{byteCount}
 use Rattle.frame.specs.Printer.{Prints}
 use Rattle.leaf.specs.declared.LeafRecord.{LeafRecord}
 use Rattle.leaf.specs.Answers.{leafRecordOf, leafPrintOf}
@@ -31,7 +31,7 @@ use Rattle.sheet.specs.Answers.{sheetOf}
 
 -- the record of node n in the list that the caller has after the size collector's call, of those that its answer counts
 abbrev pub sizesWritten : Outcome → ℕ → SizeRecord
-sizesWritten c n = getD (take (c .answer .count) (c .list)) n noRecord
+sizesWritten c n = getD (take (c .answer .count) (c .list)) n noSizeRecord
 
 -- the size that is allotted to the node there
 abbrev pub allottedWritten : Outcome → ℕ → Size
@@ -143,7 +143,7 @@ module _ (bs ts : List ℕ) (s : Settings) (t : Tree) (c : Outcome) where
     -- what the leaf printer writes has the lines and columns that the block covers
     pub block-is : (n : ℕ) → leafAnswer n .number ≡ 0 → (o₁ : List ℕ) → leafPrint n o₁ .answer .number ≡ 0 → Rectangle (leafPrint n o₁) (blockLines n) (blockColumns n)
     -- "lent enough output" (01): for a leaf it answers 0 exactly where that many bytes and a 0A between lines have room
-    pub enough : (n : ℕ) → leafAnswer n .number ≡ 0 → (o₁ : List ℕ) → (leafPrint n o₁ .answer .number ≡ 0) ↔ (bytesOf (blockColumns n) (blockLines n) ≤ length o₁)
+    pub enough : (n : ℕ) → leafAnswer n .number ≡ 0 → (o₁ : List ℕ) → (leafPrint n o₁ .answer .number ≡ 0) ↔ (byteCount (blockColumns n) (blockLines n) ≤ length o₁)
     -- the leaves are the nodes of the list below which the collector counted none
     pub leaves : (n : ℕ) → (leafAnswer n .number ≡ 0) ↔ ((n < c .answer .count) × (sizesWritten c n .below ≡ 0))
     -- "The root starts at line 0, column 0." (01)

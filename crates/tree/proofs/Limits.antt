@@ -10,7 +10,7 @@ use borrow.Author.Tests.{eq-eqb, ne-eqb, le-ltb}
 use Rattle.common.specs.Choice.{pick, both}
 use Rattle.tree.specs.Tree.{Axis}
 use Rattle.tree.specs.Bytes.{lengthAt, axisOf}
-use Rattle.tree.specs.Promises.{contents, PlanIs, PlanAre}
+use Rattle.tree.specs.Promises.{contents, PlanEncodes, PlanEncodesAll}
 use Rattle.tree.specs.Reading.{isText}
 use Rattle.tree.specs.Planning.{Plan, Plans, headerIn, oddRange, lastTag, isRange, PlanOne, PlanAll, cellIn, rangeIn, groupIn, moreIn, elementIn, sequenceIn, wholeIn}
 use Rattle.tree.specs.declared.Header.{Header}
@@ -27,9 +27,9 @@ pub data Verdict : Type 0 where
 abbrev tested : ℕ → ℕ → Verdict → Verdict
 tested d n v = pick (ltb 16 d) (bad 5) (pick (leb 512 n) (bad 4) v)
 
-abbrev pub next : Verdict → (ℕ → Verdict) → Verdict
-next (bad k) g = bad k
-next (good m) g = g m
+abbrev pub andThen : Verdict → (ℕ → Verdict) → Verdict
+andThen (bad k) g = bad k
+andThen (good m) g = g m
 
 unfoldable mutual
   pub limits : ℕ → ℕ → Plan → Verdict
@@ -39,15 +39,15 @@ unfoldable mutual
 
   pub limits* : ℕ → ℕ → Plans → Verdict
   limits* d n Plans.none = good n
-  limits* d n (Plans.more p ps) = next (limits d n p) (λ m. limits* d m ps)
+  limits* d n (Plans.more p ps) = andThen (limits d n p) (λ m. limits* d m ps)
 
-pub limits-next : (d n : ℕ) (p : Plan) (ps : Plans) → limits* d n (Plans.more p ps) ≡ next (limits d n p) (λ m. limits* d m ps)
+pub limits-next : (d n : ℕ) (p : Plan) (ps : Plans) → limits* d n (Plans.more p ps) ≡ andThen (limits d n p) (λ m. limits* d m ps)
 unfolding limits
 limits-next d n p ps = refl
 
-abbrev pub outcome : Plan → ℕ → Verdict → PlanOne
-outcome p z (bad k) = PlanOne.refused k
-outcome p z (good m) = PlanOne.one p z m
+abbrev pub planByVerdict : Plan → ℕ → Verdict → PlanOne
+planByVerdict p z (bad k) = PlanOne.refused k
+planByVerdict p z (good m) = PlanOne.one p z m
 
 abbrev outcomes : Plans → Verdict → PlanAll
 outcomes ps (bad k) = PlanAll.refused k
@@ -113,51 +113,51 @@ module _ (P : Bool) where
       go (Fault k) e = rw (e, elementIn)
       go (Element tag len) e = rw (e, elementIn)
 
-  tests-read : (f d n : ℕ) (s : List ℕ) (c₁ c₂ : Bool) (e : Header) (p : Plan) (z : ℕ) (v : Verdict) → opened f d n s e ≡ outcome p z v
-      → opened f d n s (pick c₁ (Fault 5) (pick c₂ (Fault 4) e)) ≡ outcome p z (pick c₁ (bad 5) (pick c₂ (bad 4) v))
+  tests-read : (f d n : ℕ) (s : List ℕ) (c₁ c₂ : Bool) (e : Header) (p : Plan) (z : ℕ) (v : Verdict) → opened f d n s e ≡ planByVerdict p z v
+      → opened f d n s (pick c₁ (Fault 5) (pick c₂ (Fault 4) e)) ≡ planByVerdict p z (pick c₁ (bad 5) (pick c₂ (bad 4) v))
   unfolding opened
   tests-read f d n s true c₂ e p z v q = refl
   tests-read f d n s false true e p z v q = refl
   tests-read f d n s false false e p z v q = q
 
   module _ (f d n : ℕ) (s : List ℕ) (p : Plan) (v : Verdict) (low : 1 ≤ getD s 0 0) (high : getD s 0 0 ≤ lastTag P) (whole : 3 + lengthAt s ≤ length s) (even : oddRange s ≡ false) where
-    element-reads : opened f d n s (Element (getD s 0 0) (lengthAt s)) ≡ outcome p (3 + lengthAt s) v → elementIn P (suc f) d n s ≡ outcome p (3 + lengthAt s) (tested d n v)
+    element-reads : opened f d n s (Element (getD s 0 0) (lengthAt s)) ≡ planByVerdict p (3 + lengthAt s) v → elementIn P (suc f) d n s ≡ planByVerdict p (3 + lengthAt s) (tested d n v)
     element-reads q =
         by-front f d n s ∙ ap (opened f d n s) (header-tests s d n low high whole even)
         ∙ tests-read f d n s (ltb 16 d) (leb 512 n) (Element (getD s 0 0) (lengthAt s)) p (3 + lengthAt s) v q
 
   abbrev Element-reads : Plan → Type 0
-  Element-reads p = (f d n : ℕ) (s : List ℕ) → length s < f → PlanIs p s → TextsIn P p → elementIn P f d n s ≡ outcome p (3 + lengthAt s) (limits d n p)
+  Element-reads p = (f d n : ℕ) (s : List ℕ) → length s < f → PlanEncodes p s → TextsIn P p → elementIn P f d n s ≡ planByVerdict p (3 + lengthAt s) (limits d n p)
 
   abbrev Sequence-reads : Plans → Type 0
-  Sequence-reads ps = (f d n : ℕ) (s : List ℕ) → length s + 1 < f → PlanAre ps s → TextsIn* P ps → sequenceIn P f d n s ≡ outcomes ps (limits* d n ps)
+  Sequence-reads ps = (f d n : ℕ) (s : List ℕ) → length s + 1 < f → PlanEncodesAll ps s → TextsIn* P ps → sequenceIn P f d n s ≡ outcomes ps (limits* d n ps)
 
   cell-reads : (x : List ℕ) → Element-reads (Plan.cell x)
-  unfolding PlanIs TextsIn limits opened
+  unfolding PlanEncodes TextsIn limits opened
   cell-reads x zero d n s h k p = absurd (omega arith)
   cell-reads x (suc f) d n s h k p =
       let last = last-high P in
       element-reads f d n s (Plan.cell x) (good (n + 1)) (omega (arith, k .1)) (omega (arith, k .1)) (k .0) (no-odd s (λ z. omega (arith, k .1)))
       (rw (eq-eqb (getD s 0 0) 1 (k .1), k .2, p, opened))
 
-  range-out : (a b c e z n : ℕ) (g : Bool) → pick g (PlanOne.one (Plan.range a b c e) z (n + 1)) (PlanOne.refused 17) ≡ outcome (Plan.range a b c e) z (pick g (good (n + 1)) (bad 17))
+  range-out : (a b c e z n : ℕ) (g : Bool) → pick g (PlanOne.one (Plan.range a b c e) z (n + 1)) (PlanOne.refused 17) ≡ planByVerdict (Plan.range a b c e) z (pick g (good (n + 1)) (bad 17))
   range-out a b c e z n true = refl
   range-out a b c e z n false = refl
 
   range-reads : (a b c e : ℕ) → Element-reads (Plan.range a b c e)
-  unfolding PlanIs TextsIn limits opened
+  unfolding PlanEncodes TextsIn limits opened
   range-reads a b c e zero d n s h k p = absurd (omega arith)
   range-reads a b c e (suc f) d n s h k p =
       let long : lengthAt s ≡ 4 = sym (contents-length s (k .0)) ∙ ap length (k .2) in
       element-reads f d n s (Plan.range a b c e) (pick (isRange (a ∷ b ∷ c ∷ e ∷ [])) (good (n + 1)) (bad 17)) (omega (arith, k .1)) (four-last P _ p (k .1)) (k .0) (four-even s long)
       (rw (ne-eqb (getD s 0 0) 1 (λ z. omega (arith, k .1)), eq-eqb _ _ (k .1), k .2, opened) (range-out a b c e (3 + lengthAt s) n (isRange (a ∷ b ∷ c ∷ e ∷ []))))
 
-  group-out : (a : Axis) (ps : Plans) (tag z : ℕ) (v : Verdict) → axisOf (eqb tag 2) ≡ a → groupIn tag z (outcomes ps v) ≡ outcome (Plan.group a ps) z v
+  group-out : (a : Axis) (ps : Plans) (tag z : ℕ) (v : Verdict) → axisOf (eqb tag 2) ≡ a → groupIn tag z (outcomes ps v) ≡ planByVerdict (Plan.group a ps) z v
   group-out a ps tag z (bad k) e = refl
   group-out a ps tag z (good m) e = ap (λ (b : Axis). PlanOne.one (Plan.group b ps) z m) e
 
   group-reads : (a : Axis) (ps : Plans) → Sequence-reads ps → Element-reads (Plan.group a ps)
-  unfolding PlanIs TextsIn limits opened
+  unfolding PlanEncodes TextsIn limits opened
   group-reads a ps ih zero d n s h k p = absurd (omega arith)
   group-reads a ps ih (suc f) d n s h k p =
       let low = tag-low a in
@@ -169,7 +169,7 @@ module _ (P : Bool) where
       (group-out a ps (getD s 0 0) (3 + lengthAt s) (limits* (d + 1) (n + 1) ps) (sym (axis-of a (getD s 0 0) (k .1)))))
 
   none-reads : Sequence-reads Plans.none
-  unfolding PlanIs limits elementIn
+  unfolding PlanEncodes limits elementIn
   none-reads zero d n s h k p = absurd (omega arith)
   none-reads (suc f) d n [] h k p = refl
   none-reads (suc f) d n (b ∷ s) h k p = absurd (omega arith)
@@ -192,7 +192,7 @@ module _ (P : Bool) where
       go (PlanOne.one t z m) e = rw (e, sequenceIn)
 
   more-reads : (p : Plan) (ps : Plans) → Element-reads p → Sequence-reads ps → Sequence-reads (Plans.more p ps)
-  unfolding PlanIs TextsIn followed
+  unfolding PlanEncodes TextsIn followed
   more-reads p ps ih₁ ih₂ zero d n s h k l = absurd (omega arith)
   more-reads p ps ih₁ ih₂ (suc f) d n [] h k l = absurd (omega (arith, plan-whole p [] (k .0)))
   more-reads p ps ih₁ ih₂ (suc f) d n (b ∷ s) h k l =
@@ -201,7 +201,7 @@ module _ (P : Bool) where
       ∙ ap (outcomes (Plans.more p ps)) (sym (limits-next d n p ps))
     where
       go : (v : Verdict) → ((m : ℕ) → sequenceIn P f d m (drop (3 + lengthAt (b ∷ s)) (b ∷ s)) ≡ outcomes ps (limits* d m ps))
-          → followed f d (b ∷ s) (outcome p (3 + lengthAt (b ∷ s)) v) ≡ outcomes (Plans.more p ps) (next v (λ m. limits* d m ps))
+          → followed f d (b ∷ s) (planByVerdict p (3 + lengthAt (b ∷ s)) v) ≡ outcomes (Plans.more p ps) (andThen v (λ m. limits* d m ps))
       go (bad j) q = refl
       go (good m) q = ap (moreIn p) (q m) ∙ more-out p ps (limits* d m ps)
 
@@ -215,10 +215,10 @@ module _ (P : Bool) where
     reads* Plans.none = none-reads
     reads* (Plans.more p ps) = more-reads p ps (reads p) (reads* ps)
 
-  pub whole-reads : (s : List ℕ) (p : Plan) → PlanIs p s → 3 + lengthAt s ≡ length s → TextsIn P p
-      → wholeIn P s ≡ pick (ltb 32768 (length s)) (PlanOne.refused 2) (outcome p (length s) (limits 1 0 p))
+  pub whole-reads : (s : List ℕ) (p : Plan) → PlanEncodes p s → 3 + lengthAt s ≡ length s → TextsIn P p
+      → wholeIn P s ≡ pick (ltb 32768 (length s)) (PlanOne.refused 2) (planByVerdict p (length s) (limits 1 0 p))
   unfolding wholeIn
   whole-reads s p k ends l =
       rw (eq-eqb _ _ ends)
       (ap (λ (x : PlanOne). pick (ltb 32768 (length s)) (PlanOne.refused 2) x)
-      (reads p (length s + 1) 1 0 s (omega arith) k l ∙ ap (λ (z : ℕ). outcome p z (limits 1 0 p)) ends))
+      (reads p (length s + 1) 1 0 s (omega arith) k l ∙ ap (λ (z : ℕ). planByVerdict p z (limits 1 0 p)) ends))

@@ -13,7 +13,7 @@ use Rattle.common.specs.Choice.{pick, both}
 use Rattle.tree.specs.Bytes.{lengthAt, tagOf, axisOf}
 use Rattle.tree.specs.Reading.{isText}
 use Rattle.tree.specs.Planning.{Plan, Plans, headerIn, oddRange, lastTag, isRange, PlanOne, PlanAll, elementIn, sequenceIn, wholeIn, groupIn, moreIn, cellIn, rangeIn}
-use Rattle.tree.specs.Promises.{planNodes, planNodes*, planDepth, planDepth*, PlanIs, PlanAre, GoodRange, Allowed, Allowed*, GotPlan, PlanRefusal}
+use Rattle.tree.specs.Promises.{planNodes, planNodes*, planDepth, planDepth*, PlanEncodes, PlanEncodesAll, GoodRange, Allowed, Allowed*, GotPlan, PlanRefusal}
 use Rattle.tree.specs.declared.Header.{Header}
 use Rattle.tree.specs.declared.Header.the-variants.{Fault, Element}
 
@@ -66,8 +66,8 @@ good : (r : List ℕ) → isRange r ≡ true → GoodRange (getD r 0 0) (getD r 
 good r h = good-case (getD r 0 0) (getD r 1 0) (getD r 2 0) (getD r 3 0) _ _ _ refl refl refl h
 
 -- a plan's bytes hold it
-pub plan-whole : (t : Plan) (s : List ℕ) → PlanIs t s → 3 + lengthAt s ≤ length s
-unfolding PlanIs
+pub plan-whole : (t : Plan) (s : List ℕ) → PlanEncodes t s → 3 + lengthAt s ≤ length s
+unfolding PlanEncodes
 plan-whole (Plan.cell text) s k = k .0
 plan-whole (Plan.range a b c d) s k = k .0
 plan-whole (Plan.group x ps) s k = k .0
@@ -116,7 +116,7 @@ module _ (P : Bool) where
 
   -- what an element that was read at depth d, with n nodes before it, is; and a sequence
   record Got (s : List ℕ) (d n : ℕ) (t : Plan) (size m : ℕ) : Type 0 where
-    is : PlanIs t s
+    is : PlanEncodes t s
     size-is : size ≡ 3 + lengthAt s
     count-is : m ≡ n + planNodes t
     few : m ≤ 512
@@ -124,7 +124,7 @@ module _ (P : Bool) where
     leaves : Allowed P t
 
   record GotAll (s : List ℕ) (d n : ℕ) (ts : Plans) (m : ℕ) : Type 0 where
-    are : PlanAre ts s
+    are : PlanEncodesAll ts s
     count-is : m ≡ n + planNodes* ts
     few : n ≤ 512 → m ≤ 512
     shallow : d ≤ 17 → d + planDepth* ts ≤ 17
@@ -148,7 +148,7 @@ module _ (P : Bool) where
   module _ (f d n : ℕ) (s : List ℕ) where
     module _ (tag len : ℕ) (k : Shown s d n tag len) where
       cell-case : tag ≡ 1 → One (suc f) d n s (cellIn (take len (drop 3 s)) (3 + len) n)
-      unfolding PlanIs planNodes planDepth Allowed
+      unfolding PlanEncodes planNodes planDepth Allowed
       cell-case h =
           picked (One (suc f) d n s) (isText (take len (drop 3 s)))
           (λ e. record { is = (omega (arith, k .whole, k .len-is), k .tag-is ∙ h, rw (k .len-is) refl); size-is = omega (arith, k .len-is); count-is = omega arith; few = omega (arith, k .before); shallow = omega (arith, k .deep); leaves = e })
@@ -158,7 +158,7 @@ module _ (P : Bool) where
       inside-short h = rw (length-take-le len (drop 3 s) (rw length-drop (omega (arith, k .whole)))) (omega (arith, k .whole))
 
       group-case : (tag ≡ 1 → ⊥) → (tag ≡ 4 → ⊥) → (x : PlanAll) → All f (d + 1) (n + 1) (take len (drop 3 s)) x → One (suc f) d n s (groupIn tag (3 + len) x)
-      unfolding PlanIs planNodes planDepth Allowed
+      unfolding PlanEncodes planNodes planDepth Allowed
       group-case h h₄ (PlanAll.refused j) g = λ l. g (inside-short l)
       group-case h h₄ (PlanAll.all ts m) g = record {
         is = (omega (arith, k .whole, k .len-is), k .tag-is ∙ tag-of tag (eqb tag 2) refl (k .tag-low) (omega (arith, k .tag-high, last-low P)) h h₄, rw (k .len-is) (g .are));
@@ -170,7 +170,7 @@ module _ (P : Bool) where
       }
 
       range-case : tag ≡ 4 → One (suc f) d n s (rangeIn (take len (drop 3 s)) (3 + len) n)
-      unfolding PlanIs planNodes planDepth Allowed
+      unfolding PlanEncodes planNodes planDepth Allowed
       range-case h =
           let r = take len (drop 3 s) in
           let l : length r ≡ 4 = length-take-le len (drop 3 s) (rw length-drop (omega (arith, k .whole))) ∙ k .four h in
@@ -195,7 +195,7 @@ module _ (P : Bool) where
     header-case ih (Element tag len) h = tag-case tag len h ih (eqb tag 1) refl
 
     rest-case : (t : Plan) (size c : ℕ) → Got s d n t size c → (y : PlanAll) → All f d c (drop size s) y → All (suc f) d n s (moreIn t y)
-    unfolding PlanIs planNodes planDepth Allowed
+    unfolding PlanEncodes planNodes planDepth Allowed
     rest-case t size c g (PlanAll.refused j) r = λ l. r (rw length-drop (omega (arith, g .size-is, plan-whole t s (g .is))))
     rest-case t size c g (PlanAll.all us j) r = record {
       are = (g .is, rw (g .size-is) at (r .are));
@@ -211,7 +211,7 @@ module _ (P : Bool) where
     next-case ih (PlanOne.one t size c) g = rest-case t size c g (sequenceIn P f d c (drop size s)) (ih d c (drop size s))
 
   list-case : (f d n : ℕ) (s : List ℕ) → Elements f → Sequences f → All (suc f) d n s (sequenceIn P (suc f) d n s)
-  unfolding elementIn PlanIs planNodes planDepth Allowed
+  unfolding elementIn PlanEncodes planNodes planDepth Allowed
   list-case f d n [] ih₁ ih₂ = record { are = refl; count-is = omega arith; few = λ k. k; shallow = λ k. omega arith; leaves = tt }
   list-case f d n (b ∷ s) ih₁ ih₂ = next-case f d n (b ∷ s) ih₂ (elementIn P f d n (b ∷ s)) (ih₁ d n (b ∷ s))
 

@@ -9,7 +9,7 @@ use Rattle.common.specs.Choice.{pick}
 use Rattle.tree.specs.declared.front.Front.{Front}
 use Rattle.tree.specs.declared.Header.{Header}
 use Rattle.tree.specs.declared.Header.the-variants.{Fault, Element}
-use Rattle.tree.specs.declared.Begun.{Begun}
+use Rattle.tree.specs.declared.ElementBegun.{ElementBegun}
 use Rattle.tree.specs.declared.Step.{Step}
 use Rattle.tree.specs.declared.Sequence.{Sequence}
 use Rattle.tree.specs.declared.ReadTree.{ReadTree}
@@ -34,10 +34,10 @@ stepIn (PlanOne.refused k) = Step.Fault k
 stepIn (PlanOne.one p size count) = Step.Whole size count
 
 -- what `read_cell` has read is what the element comes to
-abbrev pub begunFits : Bool → ℕ → ℕ → List ℕ → Begun → Type 0
-begunFits planning depth count s (Begun.Fault k) = (f : ℕ) → length s < f → Step.Fault k ≡ stepIn (elementIn planning f depth count s)
-begunFits planning depth count s (Begun.Cell size) = ((f : ℕ) → length s < f → Step.Whole size (count + 1) ≡ stepIn (elementIn planning f depth count s)) × ((3 ≤ size) × (size ≤ length s)) × (count < 512)
-begunFits planning depth count s Begun.Other = Unit
+abbrev pub begunFits : Bool → ℕ → ℕ → List ℕ → ElementBegun → Type 0
+begunFits planning depth count s (ElementBegun.Fault k) = (f : ℕ) → length s < f → Step.Fault k ≡ stepIn (elementIn planning f depth count s)
+begunFits planning depth count s (ElementBegun.Cell size) = ((f : ℕ) → length s < f → Step.Whole size (count + 1) ≡ stepIn (elementIn planning f depth count s)) × ((3 ≤ size) × (size ≤ length s)) × (count < 512)
+begunFits planning depth count s ElementBegun.Other = Unit
 
 abbrev pub sequenceFor : PlanAll → Sequence
 sequenceFor (PlanAll.refused k) = Sequence.Fault k

@@ -26,13 +26,13 @@ contents s = take (lengthAt s) (drop 3 s)
 
 -- s begins with the bytes of the tree; s is the bytes of the trees, one after the other
 unfoldable mutual
-  pub Is : Tree → List ℕ → Type 0
-  Is (cell text) s = (3 + lengthAt s ≤ length s) × (getD s 0 0 ≡ 1) × (contents s ≡ text)
-  Is (group a ts) s = (3 + lengthAt s ≤ length s) × (getD s 0 0 ≡ tagOf a) × Are ts (contents s)
+  pub Encodes : Tree → List ℕ → Type 0
+  Encodes (cell text) s = (3 + lengthAt s ≤ length s) × (getD s 0 0 ≡ 1) × (contents s ≡ text)
+  Encodes (group a ts) s = (3 + lengthAt s ≤ length s) × (getD s 0 0 ≡ tagOf a) × EncodesAll ts (contents s)
 
-  pub Are : Trees → List ℕ → Type 0
-  Are none s = length s ≡ 0
-  Are (more t ts) s = Is t s × Are ts (drop (3 + lengthAt s) s)
+  pub EncodesAll : Trees → List ℕ → Type 0
+  EncodesAll none s = length s ≡ 0
+  EncodesAll (more t ts) s = Encodes t s × EncodesAll ts (drop (3 + lengthAt s) s)
 
 -- the depth: the root has 1
 unfoldable mutual
@@ -47,7 +47,7 @@ unfoldable mutual
 -- s is the bytes of the tree t, which is within the limits of 01; its size in bytes and its number of nodes. `tree-sound` and `tree-complete` say
 -- that these are the trees that are read; `tree-bytes`, that there are such bytes for every tree within the limits.
 pub record GotTree (s : List ℕ) (t : Tree) (size n : ℕ) : Type 0 where
-  pub is : Is t s
+  pub is : Encodes t s
   pub ends : 3 + lengthAt s ≡ length s
   pub short : length s ≤ 32768
   pub few : nodes t ≤ 512
@@ -93,14 +93,14 @@ unfoldable mutual
 
 -- s begins with the bytes of the plan; s is the bytes of the plans, one after the other
 unfoldable mutual
-  pub PlanIs : Plan → List ℕ → Type 0
-  PlanIs (Plan.cell text) s = (3 + lengthAt s ≤ length s) × (getD s 0 0 ≡ 1) × (contents s ≡ text)
-  PlanIs (Plan.range a b c d) s = (3 + lengthAt s ≤ length s) × (getD s 0 0 ≡ 4) × (contents s ≡ a ∷ b ∷ c ∷ d ∷ [])
-  PlanIs (Plan.group x ps) s = (3 + lengthAt s ≤ length s) × (getD s 0 0 ≡ tagOf x) × PlanAre ps (contents s)
+  pub PlanEncodes : Plan → List ℕ → Type 0
+  PlanEncodes (Plan.cell text) s = (3 + lengthAt s ≤ length s) × (getD s 0 0 ≡ 1) × (contents s ≡ text)
+  PlanEncodes (Plan.range a b c d) s = (3 + lengthAt s ≤ length s) × (getD s 0 0 ≡ 4) × (contents s ≡ a ∷ b ∷ c ∷ d ∷ [])
+  PlanEncodes (Plan.group x ps) s = (3 + lengthAt s ≤ length s) × (getD s 0 0 ≡ tagOf x) × PlanEncodesAll ps (contents s)
 
-  pub PlanAre : Plans → List ℕ → Type 0
-  PlanAre Plans.none s = length s ≡ 0
-  PlanAre (Plans.more p ps) s = PlanIs p s × PlanAre ps (drop (3 + lengthAt s) s)
+  pub PlanEncodesAll : Plans → List ℕ → Type 0
+  PlanEncodesAll Plans.none s = length s ≡ 0
+  PlanEncodesAll (Plans.more p ps) s = PlanEncodes p s × PlanEncodesAll ps (drop (3 + lengthAt s) s)
 
 -- a range that no refusal 17 meets
 pub record GoodRange (a b c d : ℕ) : Type 0 where
@@ -121,7 +121,7 @@ unfoldable mutual
 
 -- s is the bytes of the plan p, which is within the limits of 01; its size in bytes and its number of nodes
 pub record GotPlan (planning : Bool) (s : List ℕ) (p : Plan) (size n : ℕ) : Type 0 where
-  pub is : PlanIs p s
+  pub is : PlanEncodes p s
   pub ends : 3 + lengthAt s ≡ length s
   pub short : length s ≤ 32768
   pub few : planNodes p ≤ 512

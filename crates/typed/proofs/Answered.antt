@@ -16,7 +16,7 @@ use Rattle.typed.specs.Contracts.{NodesFound, ScanTold, flatOf, ReadyNod
 use Rattle.typed.specs.Typed.{rootOf, TypedOutcome, typedRefusal, typedAccepted, outcomeOf, typedOf}
 use Rattle.typed.specs.declared.Typed.{Typed}
 use Rattle.typed.specs.declared.scan.Scanned.{Scanned}
-use Rattle.typed.proofs.Built.{flat-is, flat-length}
+use Rattle.typed.proofs.Built.{flat-is, flatOf-length}
 use Rattle.typed.proofs.Listing.{Following, following-of, rooted}
 
 abbrev outcomeWith : Typed → List ℕ → TypedOutcome
@@ -77,15 +77,15 @@ module _ (t o : List ℕ) (small : length t ≤ 131072) (r : Scanned) (told : Sc
     root-bytes = flat-is (g .of) (rooted (g .of) nodes-follow) (nodes-follow .chained)
 
     root-long : length (bytesOf (rootOf (g .of))) ≡ r .total
-    root-long = ap length (sym root-bytes) ∙ flat-length (g .of) ∙ sym (g .found-is .total-is)
+    root-long = ap length (sym root-bytes) ∙ flatOf-length (g .of) ∙ sym (g .found-is .total-is)
 
     pub typed-short : length o < r .total → (a : Typed) → a ≡ record { number = 8; count = 0; line = 0; column = 0 } → record { answer = a; out = o } ≡ typedOf t o
     typed-short h a e =
         ap (λ (y : Typed). outcomeWith y o) e
         ∙ sym (typed-scan t o small ∙ ap (λ (s : TypedScan). outcomeOf s o) (g .is) ∙ (rw (lt-ltb (length o) (length (bytesOf (rootOf (g .of)))) (omega (arith, root-long)))))
 
-    pub ready : (room : ℕ) → r .total ≤ room → ReadyNodes t (r .spots) (r .count) (r .total) room (g .of)
-    ready room h = record {
+    pub nodes-ready : (room : ℕ) → r .total ≤ room → ReadyNodes t (r .spots) (r .count) (r .total) room (g .of)
+    nodes-ready room h = record {
       count-is = g .found-is .count-is;
       few = omega (arith, g .found-is .count-is, nodes-follow .few);
       total-is = g .found-is .total-is;
@@ -98,7 +98,7 @@ module _ (t o : List ℕ) (small : length t ≤ 131072) (r : Scanned) (told : Sc
     pub typed-done : r .total ≤ length o → (o′ : List ℕ) → o′ ≡ sets o 0 (flatOf (g .of)) → record { answer = record { number = 0; count = r .total; line = 0; column = 0 }; out = o′ } ≡ typedOf t o
     typed-done h o′ e =
         let b : List ℕ = bytesOf (rootOf (g .of)) in
-        let n : length (flatOf (g .of)) ≡ r .total = flat-length (g .of) ∙ sym (g .found-is .total-is) in
+        let n : length (flatOf (g .of)) ≡ r .total = flatOf-length (g .of) ∙ sym (g .found-is .total-is) in
         let w : o′ ≡ b ++ drop (length b) o =
         e ∙ sets-eq (flatOf (g .of)) o 0 (omega arith) ∙ (rw (zero-add (length (flatOf (g .of))), root-bytes)) in
         ap (λ (m : ℕ). outcomeWith (record { number = 0; count = m; line = 0; column = 0 }) o′) (sym root-long)

@@ -173,10 +173,10 @@ flat-deep (n ∷ ns) c =
     ap (λ (l : List ℕ). itemFront (n .item) (getD (treesAt ns) (suc (n .level)) none) ++ l) (flat-deep ns (c .2))
     ∙ sym (deep-push (n .level) (n .item) (treesAt ns) (omega (arith, levels-17 ns (c .2))) (suits (n .level) (n .item) ns (c .2) (c .1)) (far-none (n .level) (n .item) ns (c .2) (c .1)))
 
-pub flat-length : (ns : List TypedNode) → length (flatOf ns) ≡ totalOf ns
+pub flatOf-length : (ns : List TypedNode) → length (flatOf ns) ≡ totalOf ns
 unfolding flatOf totalOf
-flat-length [] = refl
-flat-length (n ∷ ns) = omega (arith, length-append (ownText (n .item)) (flatOf ns), flat-length ns)
+flatOf-length [] = refl
+flatOf-length (n ∷ ns) = omega (arith, length-append (ownText (n .item)) (flatOf ns), flatOf-length ns)
 
 -- ---- one root
 

@@ -22,8 +22,8 @@ use Rattle.typed.specs.Promises.{TypedTree, TypedBack, Unplaced, FaultAt
 use Rattle.typed.specs.declared.Typed.{Typed}
 use Rattle.typed.proofs.Answered.{typed-cases}
 use Rattle.typed.proofs.Faults.{fault-at}
-use Rattle.typed.proofs.Meant.{typed-meant, nodes-listed}
-use Rattle.typed.proofs.Round.{round-trip}
+use Rattle.typed.proofs.AcceptedLists.{typed-meant, nodes-listed}
+use Rattle.typed.proofs.RoundTrip.{round-trip}
 
 -- ---- an accepted call
 

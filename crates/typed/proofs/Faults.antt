@@ -15,7 +15,7 @@ use Rattle.block.proofs.TextLine.{lines-height}
 use Rattle.typed.specs.Line.{Item, ownText, OneLine, skip, fault, node, withoutReturn, oneLineOf}
 use Rattle.typed.specs.Scan.{TypedNode, TypedScan, stopped, found, adding, placeFault, nextOf, scanFrom, noneYet, scanLines}
 use Rattle.typed.specs.Promises.{FaultAt}
-use Rattle.typed.specs.declared.scan.Sofar.{Sofar}
+use Rattle.typed.specs.declared.scan.ScanState.{ScanState}
 use Rattle.typed.proofs.OneLine.{LineFaultAt, LineIn, line-in-bytes}
 use Rattle.typed.proofs.Scanned.{scan-skip, scan-fault, scan-node, scan-refused}
 
@@ -28,7 +28,7 @@ number-pick : (b : Bool) (j k : ℕ) → PlaceNumber j → PlaceNumber k → Pla
 number-pick true j k p q = p
 number-pick false j k p q = q
 
-place-number : (z : Sofar) (d n : ℕ) → PlaceNumber (placeFault z d n)
+place-number : (z : ScanState) (d n : ℕ) → PlaceNumber (placeFault z d n)
 unfolding placeFault
 place-number z d n =
     number-pick (both (ltb 0 (z .count)) (eqb d 0)) 34 _ (λ e. (omega arith, omega arith))
@@ -72,7 +72,7 @@ stop-here l x xs k c h =
     inr (record { behind = omega arith; within = omega arith; at = rw e h })
 
 abbrev StopClaim : List (List ℕ) → Type 0
-StopClaim xs = (l : ℕ) (z : Sofar) → StopIn l xs (scanFrom l z xs)
+StopClaim xs = (l : ℕ) (z : ScanState) → StopIn l xs (scanFrom l z xs)
 
 stop-end : StopClaim []
 unfolding scanFrom

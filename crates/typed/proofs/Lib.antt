@@ -7,8 +7,8 @@ pub mod Written
 pub mod Listing
 pub mod Faults
 pub mod Answered
-pub mod Meant
-pub mod Round
-pub mod Reach
+pub mod AcceptedLists
+pub mod RoundTrip
+pub mod FaultBounds
 pub mod Calls
 mod Examples

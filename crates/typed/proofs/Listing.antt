@@ -12,7 +12,7 @@ use Rattle.sizes.specs.Text.{lines}
 use Rattle.typed.specs.Line.{Item, ownText, OneLine, skip, fault, node, oneLineOf}
 use Rattle.typed.specs.Scan.{TypedNode, TypedScan, stopped, found, adding, placeFault, nextOf, scanFrom, noneYet, scanLines}
 use Rattle.typed.specs.Contracts.{totalOf, Starts, Chained}
-use Rattle.typed.specs.declared.scan.Sofar.{Sofar}
+use Rattle.typed.specs.declared.scan.ScanState.{ScanState}
 use Rattle.typed.proofs.Scanned.{scan-skip, scan-fault, scan-node, scan-refused, place-fits, NodeFits}
 use Rattle.typed.proofs.Built.{Deeper, Rooted}
 
@@ -21,7 +21,7 @@ Later [] = Unit
 Later (n ∷ ns) = Deeper ns
 
 -- the nodes that follow those so far
-pub record Following (z : Sofar) (ns : List TypedNode) : Type 0 where
+pub record Following (z : ScanState) (ns : List TypedNode) : Type 0 where
   pub starts : Starts (z .may) ns
   pub chained : Chained ns
   pub deeper : 0 < z .count → Deeper ns
@@ -31,7 +31,7 @@ pub record Following (z : Sofar) (ns : List TypedNode) : Type 0 where
   pub some : z .count ≡ 0 → 0 < length ns
 
 abbrev Claim : List (List ℕ) → Type 0
-Claim xs = (l : ℕ) (z : Sofar) (ns : List TypedNode) → z .count ≤ 512 → z .total ≤ 32768 → scanFrom l z xs ≡ found ns → Following z ns
+Claim xs = (l : ℕ) (z : ScanState) (ns : List TypedNode) → z .count ≤ 512 → z .total ≤ 32768 → scanFrom l z xs ≡ found ns → Following z ns
 
 pub never : (k l c : ℕ) (ns : List TypedNode) → stopped k l c ≡ found ns → ⊥
 never k l c ns e = let z : _≡_ {A = ℕ} 0 1 = cc in omega arith
@@ -55,7 +55,7 @@ claim-end l z ns a b e = go (eqb (z .count) 0) refl e
         let z₀ : ns ≡ [] = cc in
         rw z₀ (record { starts = tt; chained = tt; deeper = λ h. tt; later = tt; short = omega arith; few = omega arith; some = λ h. absurd (eqb-false (z .count) 0 c h) })
 
-node-more : (z : Sofar) (d : ℕ) (item : Item) (ms : List TypedNode) → NodeFits z d (length (ownText item)) → Following (nextOf z d item) ms → Following z (record { level = d; item = item } ∷ ms)
+node-more : (z : ScanState) (d : ℕ) (item : Item) (ms : List TypedNode) → NodeFits z d (length (ownText item)) → Following (nextOf z d item) ms → Following z (record { level = d; item = item } ∷ ms)
 unfolding Chained totalOf
 node-more z d item ms f i = record {
   starts = f .allowed;

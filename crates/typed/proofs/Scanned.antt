@@ -11,15 +11,15 @@ use lib.Dec.{eqb, ltb, leb}
 use borrow.Author.Tests.{eq-eqb, ne-eqb, ltb-false, leb-false}
 use Rattle.common.specs.Choice.{pick, both}
 use Rattle.tree.specs.Tree.{across, down}
-use Rattle.feeds.specs.Contracts.{firstFeed}
-use Rattle.sizes.proofs.Lines.{rest, rest-none, rest-next, line-from, line-in}
+use Rattle.text.specs.Contracts.{firstFeed}
+use Rattle.sizes.proofs.Lines.{linesFrom, rest-none, rest-next, line-from, line-in}
 use Rattle.common.proofs.Either.{either}
 use Rattle.typed.specs.Line.{Item, cell, group, ownText, OneLine, skip, fault, node, oneLineOf}
 use Rattle.typed.specs.Contracts.{itemTag, TextAt, LineTold, lineFault, nextLine, spotFor, noSpot, noNode, SmallLine, Spotted, SpotsHeld, totalOf, ScanTold}
 use Rattle.typed.specs.Scan.{TypedNode, TypedScan, stopped, found, adding, placeFault, levelUnder, nextOf, scanFrom, noneYet, scanLines}
 use Rattle.typed.specs.declared.line.Line.{Line}
 use Rattle.typed.specs.declared.scan.NodeSpot.{NodeSpot}
-use Rattle.typed.specs.declared.scan.Sofar.{Sofar}
+use Rattle.typed.specs.declared.scan.ScanState.{ScanState}
 use Rattle.typed.specs.declared.scan.Scanned.{Scanned}
 use Rattle.typed.proofs.Texts.{text-short}
 use Rattle.typed.proofs.OneLine.{text-in}
@@ -30,7 +30,7 @@ line-long t from h e is = length-take-le (e - from) (drop from t) (omega (arith,
 
 -- ---- one line more
 
-module _ (l : ℕ) (z : Sofar) (x : List ℕ) (xs : List (List ℕ)) where
+module _ (l : ℕ) (z : ScanState) (x : List ℕ) (xs : List (List ℕ)) where
   pub scan-skip : oneLineOf x ≡ skip → scanFrom l z (x ∷ xs) ≡ scanFrom (suc l) z xs
   unfolding scanFrom
   scan-skip h = rw (h, scanFrom)
@@ -80,7 +80,7 @@ held-more t ns spots n s h k q i b =
     rw (e, getD-append-seam ns n [] noNode, getD-set-same spots (length ns) s noSpot h) q)
     (λ a. rw (List·getD-append ns (n ∷ []) noNode i a, getD-set-other spots (length ns) i s noSpot (λ e. omega arith)) (k i a))
 
-pub record Reading (t : List ℕ) (spots : List NodeSpot) (z : Sofar) (l from : ℕ) : Type 0 where
+pub record Reading (t : List ℕ) (spots : List NodeSpot) (z : ScanState) (l from : ℕ) : Type 0 where
   pub within : from ≤ length t + 1
   pub few : l ≤ from
   pub count : z .count ≤ 512
@@ -90,10 +90,10 @@ pub record Reading (t : List ℕ) (spots : List NodeSpot) (z : Sofar) (l from : 
   pub count-is : z .count ≡ length done
   pub total-is : z .total ≡ totalOf done
   pub held : SpotsHeld t done spots
-  pub all : scanLines t ≡ nodesBefore done (scanFrom l z (rest from t))
+  pub all : scanLines t ≡ nodesBefore done (scanFrom l z (linesFrom from t))
 
 pub reading-none : (t : List ℕ) (spots : List NodeSpot) → spots ≡ replicate 512 noSpot → Reading t spots noneYet 0 0
-unfolding rest totalOf
+unfolding linesFrom totalOf
 reading-none t spots e = record {
   within = omega arith;
   few = omega arith;
@@ -118,7 +118,7 @@ under-is d (group across) k e = rw e refl
 under-is d (group down) k e = rw e refl
 
 -- what a node whose fault is 0 has shown
-pub record NodeFits (z : Sofar) (d n : ℕ) : Type 0 where
+pub record NodeFits (z : ScanState) (d n : ℕ) : Type 0 where
   pub root : d ≡ 0 → z .count ≡ 0
   pub allowed : d ≤ z .may
   pub shallow : d < 16
@@ -129,10 +129,10 @@ passed-test : (b : Bool) (k n : ℕ) → (k ≡ 0 → ⊥) → pick b k n ≡ 0 
 passed-test true k n h e = absurd (h e)
 passed-test false k n h e = (refl, e)
 
-not-root : (z : Sofar) (d : ℕ) → both (ltb 0 (z .count)) (eqb d 0) ≡ false → d ≡ 0 → z .count ≡ 0
+not-root : (z : ScanState) (d : ℕ) → both (ltb 0 (z .count)) (eqb d 0) ≡ false → d ≡ 0 → z .count ≡ 0
 not-root z d h e = omega (arith, ltb-false 0 (z .count) (rw (eq-eqb d 0 e) at h))
 
-pub place-fits : (z : Sofar) (d n : ℕ) → placeFault z d n ≡ 0 → NodeFits z d n
+pub place-fits : (z : ScanState) (d n : ℕ) → placeFault z d n ≡ 0 → NodeFits z d n
 unfolding placeFault
 place-fits z d n h =
     let p₁ = passed-test (both (ltb 0 (z .count)) (eqb d 0)) 34 _ (λ e. omega arith) h in
@@ -148,7 +148,7 @@ place-fits z d n h =
       short = ltb-false 32768 (z .total + 3 + n) (p₅ .0);
     }
 
-module _ (t : List ℕ) (small : length t ≤ 131072) (spots : List NodeSpot) (z : Sofar) (l from : ℕ) (R : Reading t spots z l from) (h : from ≤ length t)
+module _ (t : List ℕ) (small : length t ≤ 131072) (spots : List NodeSpot) (z : ScanState) (l from : ℕ) (R : Reading t spots z l from) (h : from ≤ length t)
     (e : ℕ) (is : e ≡ from + firstFeed (drop from t)) (r : Line) (told : LineTold (take (e - from) (drop from t)) (oneLineOf (take (e - from) (drop from t))) r) where
   abbrev x : List ℕ
   x = take (e - from) (drop from t)
@@ -156,7 +156,7 @@ module _ (t : List ℕ) (small : length t ≤ 131072) (spots : List NodeSpot) (z
   line-small : length x ≤ 131072
   line-small = omega (arith, line-long t from h e is, line-in t from h e is)
 
-  here : scanFrom l z (rest from t) ≡ scanFrom l z (x ∷ rest (e + 1) t)
+  here : scanFrom l z (linesFrom from t) ≡ scanFrom l z (x ∷ linesFrom (e + 1) t)
   here = ap (scanFrom l z) (rest-next t from h e is)
 
   pub numbers-small : SmallLine z r × (r .start ≤ 131072) × (r .end ≤ 131072)
@@ -180,17 +180,17 @@ module _ (t : List ℕ) (small : length t ≤ 131072) (spots : List NodeSpot) (z
     pub reading-stop : (k ≡ 0 → ⊥) → (s : Scanned) → s .number ≡ k → s .line ≡ l + 1 → s .column ≡ r .column → ScanTold t (scanLines t) s
     reading-stop bad s s₁ s₂ s₃ = go (oneLineOf x) refl told
       where
-        stop : (j c : ℕ) → scanFrom l z (x ∷ rest (e + 1) t) ≡ stopped j (suc l) c → 0 < j → k ≡ j → r .column ≡ c → ScanTold t (scanLines t) s
+        stop : (j c : ℕ) → scanFrom l z (x ∷ linesFrom (e + 1) t) ≡ stopped j (suc l) c → 0 < j → k ≡ j → r .column ≡ c → ScanTold t (scanLines t) s
         stop j c q pos u v = rw (R .all, here, q) (pos, s₁ ∙ u, s₂ ∙ add-one l, s₃ ∙ v)
 
         go : (o : OneLine) → oneLineOf x ≡ o → LineTold x o r → ScanTold t (scanLines t) s
         go skip q u = absurd (bad (ke ∙ (rw u)))
         go (fault j c) q u =
             let v : k ≡ j = ke ∙ (rw (u .1, ne-eqb j 0 (λ w. omega (arith, u .0)))) in
-            stop j c (scan-fault l z x (rest (e + 1) t) j c q) (u .0) v (ap (λ (y : Line). y .column) (u .1))
+            stop j c (scan-fault l z x (linesFrom (e + 1) t) j c q) (u .0) v (ap (λ (y : Line). y .column) (u .1))
         go (node d item) q u =
             let v = node-fault d item u in
-            stop (placeFault z d (length (ownText item))) (2 * d + 1) (scan-refused l z x (rest (e + 1) t) d item q (λ w. bad (v ∙ w))) (omega (arith, bad)) v (u .1)
+            stop (placeFault z d (length (ownText item))) (2 * d + 1) (scan-refused l z x (linesFrom (e + 1) t) d item q (λ w. bad (v ∙ w))) (omega (arith, bad)) v (u .1)
 
     reading-skip : k ≡ 0 → r .kind ≡ 0 → Reading t spots z (l + 1) (e + 1)
     reading-skip good none = go (oneLineOf x) refl told
@@ -206,7 +206,7 @@ module _ (t : List ℕ) (small : length t ≤ 131072) (spots : List NodeSpot) (z
           count-is = R .count-is;
           total-is = R .total-is;
           held = R .held;
-          all = R .all ∙ ap (nodesBefore (R .done)) (here ∙ scan-skip l z x (rest (e + 1) t) q ∙ ap (λ (m : ℕ). scanFrom m z (rest (e + 1) t)) (sym (add-one l)));
+          all = R .all ∙ ap (nodesBefore (R .done)) (here ∙ scan-skip l z x (linesFrom (e + 1) t) q ∙ ap (λ (m : ℕ). scanFrom m z (linesFrom (e + 1) t)) (sym (add-one l)));
         }
         go (fault j c) q u =
             let v : k ≡ j = ke ∙ (rw (u .1, ne-eqb j 0 (λ w. omega (arith, u .0)))) in
@@ -240,23 +240,23 @@ module _ (t : List ℕ) (small : length t ≤ 131072) (spots : List NodeSpot) (z
               held = rw (R .count-is) (held-more t (R .done) spots n (spotFor r from) (omega (arith, f .few, R .count-is, R .long)) (R .held) (record { level-is = u .2; text-at = i }));
               all =
                   R .all
-                  ∙ ap (nodesBefore (R .done)) (here ∙ scan-node l z x (rest (e + 1) t) d item q v)
-                  ∙ before-more (R .done) n (scanFrom (suc l) (nextOf z d item) (rest (e + 1) t))
-                  ∙ ap (λ (m : ℕ). nodesBefore (R .done ++ (n ∷ [])) (scanFrom m (nextOf z d item) (rest (e + 1) t))) (sym (add-one l))
-                  ∙ ap (λ (y : Sofar). nodesBefore (R .done ++ (n ∷ [])) (scanFrom (l + 1) y (rest (e + 1) t))) (sym w);
+                  ∙ ap (nodesBefore (R .done)) (here ∙ scan-node l z x (linesFrom (e + 1) t) d item q v)
+                  ∙ before-more (R .done) n (scanFrom (suc l) (nextOf z d item) (linesFrom (e + 1) t))
+                  ∙ ap (λ (m : ℕ). nodesBefore (R .done ++ (n ∷ [])) (scanFrom m (nextOf z d item) (linesFrom (e + 1) t))) (sym (add-one l))
+                  ∙ ap (λ (y : ScanState). nodesBefore (R .done ++ (n ∷ [])) (scanFrom (l + 1) y (linesFrom (e + 1) t))) (sym w);
             }
 
     -- as the code has it, after the store
-    pub reading-next : (spots′ : List NodeSpot) (z′ : Sofar) (s : NodeSpot) → spots′ ≡ set spots (z .count) s → s ≡ spotFor r from → z′ ≡ nextLine z r → k ≡ 0 → (r .kind ≡ 0 → ⊥) → Reading t spots′ z′ (l + 1) (e + 1)
+    pub reading-next : (spots′ : List NodeSpot) (z′ : ScanState) (s : NodeSpot) → spots′ ≡ set spots (z .count) s → s ≡ spotFor r from → z′ ≡ nextLine z r → k ≡ 0 → (r .kind ≡ 0 → ⊥) → Reading t spots′ z′ (l + 1) (e + 1)
     reading-next spots′ z′ s a b d good some = rw (a, b, d) (reading-node good some)
 
-    pub reading-same : (spots′ : List NodeSpot) (z′ : Sofar) → spots′ ≡ spots → z′ ≡ z → k ≡ 0 → r .kind ≡ 0 → Reading t spots′ z′ (l + 1) (e + 1)
+    pub reading-same : (spots′ : List NodeSpot) (z′ : ScanState) → spots′ ≡ spots → z′ ≡ z → k ≡ 0 → r .kind ≡ 0 → Reading t spots′ z′ (l + 1) (e + 1)
     reading-same spots′ z′ a b good none = rw (a, b) (reading-skip good none)
 
     pub reading-room : k ≡ 0 → (r .kind ≡ 0 → ⊥) → z .count < 512
     reading-room good some = let q = reading-node good some in omega (arith, q .count)
 
-module _ (t : List ℕ) (spots : List NodeSpot) (z : Sofar) (l from : ℕ) (R : Reading t spots z l from) (h : length t < from) (s : Scanned) where
+module _ (t : List ℕ) (spots : List NodeSpot) (z : ScanState) (l from : ℕ) (R : Reading t spots z l from) (h : length t < from) (s : Scanned) where
   at-end : scanLines t ≡ nodesBefore (R .done) (pick (eqb (z .count) 0) (stopped 39 l 1) (found []))
   unfolding scanFrom
   at-end = R .all ∙ (rw (rest-none t from h))

@@ -12,10 +12,10 @@ use Rattle.common.specs.Choice.{pick}
 use Rattle.tree.specs.Reading.{isText, isTextByte}
 use Rattle.typed.specs.Text.{byteOf, Text, wrong, text, putting, laterText, endedText, textFrom, typedText}
 use Rattle.typed.specs.Contracts.{checkedText, countedByte, Writes, ByteWritten, writtenOf, Good}
-use Rattle.typed.specs.declared.text.Byte.{Byte}
-use Rattle.typed.specs.declared.text.Byte.the-variants.{Put, Escape, Wrong}
-use Rattle.typed.specs.declared.text.Count.{Count}
-use Rattle.typed.specs.declared.text.TextCheck.{TextCheck}
+use Rattle.typed.specs.declared.typed_text.Byte.{Byte}
+use Rattle.typed.specs.declared.typed_text.Byte.the-variants.{Put, Escape, Wrong}
+use Rattle.typed.specs.declared.typed_text.Count.{Count}
+use Rattle.typed.specs.declared.typed_text.TextCheck.{TextCheck}
 
 -- ---- one byte
 

@@ -11,13 +11,13 @@ use Rattle.tree.specs.Tree.{Trees, none}
 use Rattle.tree.specs.Accepted.{bytesOf*}
 use Rattle.typed.specs.declared.line.Line.{Line}
 use Rattle.typed.specs.declared.scan.NodeSpot.{NodeSpot}
-use Rattle.typed.specs.declared.scan.Sofar.{Sofar}
+use Rattle.typed.specs.declared.scan.ScanState.{ScanState}
 use Rattle.typed.specs.declared.scan.Scanned.{Scanned}
-use Rattle.typed.specs.declared.text.Byte.{Byte}
-use Rattle.typed.specs.declared.text.Byte.the-variants.{Put, Escape, Wrong}
-use Rattle.typed.specs.declared.text.Count.{Count}
-use Rattle.typed.specs.declared.text.TextCheck.{TextCheck}
-use Rattle.typed.specs.declared.text.Pen.{Pen}
+use Rattle.typed.specs.declared.typed_text.Byte.{Byte}
+use Rattle.typed.specs.declared.typed_text.Byte.the-variants.{Put, Escape, Wrong}
+use Rattle.typed.specs.declared.typed_text.Count.{Count}
+use Rattle.typed.specs.declared.typed_text.TextCheck.{TextCheck}
+use Rattle.typed.specs.declared.typed_text.WriteCursor.{WriteCursor}
 use Rattle.typed.specs.Text.{text, typedText, Text, wrong}
 use Rattle.typed.specs.Line.{Item, cell, group, ownText, OneLine, skip, fault, node, isRow, isColumn}
 use Rattle.typed.specs.Scan.{TypedNode, TypedScan, stopped, found, placeFault, levelUnder}
@@ -51,10 +51,10 @@ LineTold x skip l = l ≡ noLine 0 0
 LineTold x (fault k c) l = (0 < k) × (l ≡ noLine k c)
 LineTold x (node d item) l = (l .number ≡ 0) × (l .column ≡ 2 * d + 1) × (l .level ≡ d) × (2 * d ≤ l .start) × TextAt x item (l .kind) (l .start) (l .end) (l .len)
 
-abbrev pub lineFault : Sofar → Line → ℕ
+abbrev pub lineFault : ScanState → Line → ℕ
 lineFault z l = pick (eqb (l .number) 0) (pick (eqb (l .kind) 0) 0 (placeFault z (l .level) (l .len))) (l .number)
 
-abbrev pub nextLine : Sofar → Line → Sofar
+abbrev pub nextLine : ScanState → Line → ScanState
 nextLine z l = record { count = z .count + 1; may = pick (eqb (l .kind) 1) (l .level) (l .level + 1); total = z .total + 3 + l .len }
 
 abbrev pub spotFor : Line → ℕ → NodeSpot
@@ -67,7 +67,7 @@ abbrev pub noNode : TypedNode
 noNode = record { level = 0; item = cell [] }
 
 -- the numbers so far and a line's are small
-pub record SmallLine (z : Sofar) (l : Line) : Type 0 where
+pub record SmallLine (z : ScanState) (l : Line) : Type 0 where
   pub count : z .count ≤ 512
   pub total : z .total ≤ 32768
   pub level : l .level ≤ 131072
@@ -113,7 +113,7 @@ Writes (Wrong k) at room = Unit
 
 -- the pen after a byte, and the output
 pub record ByteWritten : Type 0 where
-  pub pen : Pen
+  pub pen : WriteCursor
   pub out : List ℕ
 
 abbrev pub writtenOf : Byte → ℕ → List ℕ → ByteWritten

@@ -10,7 +10,7 @@ use Rattle.tree.specs.Tree.{Tree, nodes, Trees, cell, group, none, more}
 use Rattle.tree.specs.Reading.{one, readTree}
 use Rattle.tree.specs.Accepted.{bytesOf}
 use Rattle.sizes.specs.Text.{lines}
-use Rattle.block.specs.Content.{feeds}
+use Rattle.block.specs.Content.{joinLines}
 use Rattle.typed.specs.declared.Typed.{Typed}
 use Rattle.typed.specs.Line.{withoutReturn, Item, axisWord}
 use Rattle.typed.specs.Scan.{found, scanLines, TypedNode}
@@ -62,7 +62,7 @@ typedLine n = replicate (2 * n .level) 32 ++ typedBody (n .item)
 
 -- the tree's text
 unfoldable pub typeOf : Tree → List ℕ
-typeOf t = feeds (map typedLine (typedNodes 0 t))
+typeOf t = joinLines (map typedLine (typedNodes 0 t))
 
 -- its text is read back to its bytes, wherever there is room for them
 abbrev pub TypedBack : List ℕ → Tree → Type 0

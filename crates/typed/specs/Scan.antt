@@ -7,7 +7,7 @@ use lib.Dec.{eqb, ltb, leb}
 use Rattle.common.specs.Choice.{pick, both}
 use Rattle.sizes.specs.Text.{lines}
 use Rattle.typed.specs.Line.{Item, cell, group, ownText, skip, fault, node, oneLineOf}
-use Rattle.typed.specs.declared.scan.Sofar.{Sofar}
+use Rattle.typed.specs.declared.scan.ScanState.{ScanState}
 
 -- a node: its level, the root's being 0, and what it is
 pub record TypedNode : Type 0 where
@@ -25,7 +25,7 @@ adding n (found ns) = found (n ∷ ns)
 
 -- The fault of a node at level d whose own text has n bytes, after the nodes so far; 0 for none. 34: a second root; 35: deeper than the line above
 -- allows; 36: over 16 levels; 37: over 512 nodes; 38: over 32,768 bytes.
-unfoldable pub placeFault : Sofar → ℕ → ℕ → ℕ
+unfoldable pub placeFault : ScanState → ℕ → ℕ → ℕ
 placeFault z d n =
     pick (both (ltb 0 (z .count)) (eqb d 0)) 34
     (pick (ltb (z .may) d) 35
@@ -39,11 +39,11 @@ levelUnder d (cell t) = d
 levelUnder d (group a) = d + 1
 
 -- one node more: its element has a front of 3 bytes and its own text
-abbrev pub nextOf : Sofar → ℕ → Item → Sofar
+abbrev pub nextOf : ScanState → ℕ → Item → ScanState
 nextOf z d item = record { count = z .count + 1; may = levelUnder d item; total = z .total + 3 + length (ownText item) }
 
 -- l lines are read; 39: there is no node
-unfoldable pub scanFrom : ℕ → Sofar → List (List ℕ) → TypedScan
+unfoldable pub scanFrom : ℕ → ScanState → List (List ℕ) → TypedScan
 scanFrom l z [] = pick (eqb (z .count) 0) (stopped 39 l 1) (found [])
 scanFrom l z (x ∷ xs) = elim (oneLineOf x) [
   | skip ↦ scanFrom (suc l) z xs
@@ -54,7 +54,7 @@ scanFrom l z (x ∷ xs) = elim (oneLineOf x) [
   ]
 ]
 
-abbrev pub noneYet : Sofar
+abbrev pub noneYet : ScanState
 noneYet = record { count = 0; may = 0; total = 0 }
 
 abbrev pub scanLines : List ℕ → TypedScan

@@ -4,8 +4,8 @@ use mathlib.Core.Bool.{Bool, true, false}
 use mathlib.Core.List.{List, [], _∷_}
 use lib.Dec.{eqb, ltb}
 use Rattle.common.specs.Choice.{pick}
-use Rattle.typed.specs.declared.text.Byte.{Byte}
-use Rattle.typed.specs.declared.text.Byte.the-variants.{Put, Escape, Wrong}
+use Rattle.typed.specs.declared.typed_text.Byte.{Byte}
+use Rattle.typed.specs.declared.typed_text.Byte.the-variants.{Put, Escape, Wrong}
 
 -- What one byte does. After a backslash (92): n (110) is a line feed, a backslash is itself, all else is fault 32.
 -- Elsewhere a backslash starts an escape, hex 20 to 7E are themselves, all else is fault 31.

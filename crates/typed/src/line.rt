@@ -1,5 +1,5 @@
 // One line of a typed list.
-use super::text::check_text;
+use super::typed_text::check_text;
 ghost use mathlib.Core.Path.{_≡_};
 ghost use Prim.Native.Nat.{_+_, _≤_};
 ghost use lib.ListN.{length, take};

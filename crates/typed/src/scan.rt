@@ -1,7 +1,7 @@
 // The lines of a typed list, one after the other: the nodes and their levels, or the first fault.
 use super::line::Line;
 use super::line::read_line;
-use sizes::text::line_end;
+use sizes::measure::line_end;
 ghost use mathlib.Core.Path.{_≡_};
 ghost use Prim.Native.Nat.{_+_, _≤_};
 ghost use lib.Dec.{eqb};
@@ -20,7 +20,7 @@ pub struct NodeSpot {
 }
 
 // What the nodes so far come to: their number, the deepest level that the next may have, the bytes of their tree.
-pub struct Sofar {
+pub struct ScanState {
     pub count: usize,
     pub may: usize,
     pub total: usize,
@@ -50,7 +50,7 @@ fn no_spots() -> [NodeSpot; 512]
 }
 
 // The fault of a node at `level` whose own text has `len` bytes, after the nodes so far; 0 for none.
-fn place(z: Sofar, level: usize, len: usize) -> u8
+fn place(z: ScanState, level: usize, len: usize) -> u8
     requires { ⌜ (z .total ≤ 32768) × (len ≤ 131072) ⌝ }
     ensures { λ r. ⌜ r ≡ placeFault z level len ⌝ }
 {
@@ -73,7 +73,7 @@ fn place(z: Sofar, level: usize, len: usize) -> u8
 }
 
 // The line's own fault, or that of its place; 0 for none.
-fn fault(z: Sofar, l: Line) -> u8
+fn fault(z: ScanState, l: Line) -> u8
     requires { ⌜ SmallLine z l ⌝ }
     ensures { λ r. ⌜ r ≡ lineFault z l ⌝ }
 {
@@ -97,12 +97,12 @@ fn under(l: Line) -> usize
     l.level + 1
 }
 
-fn next(z: Sofar, l: Line) -> Sofar
+fn next(z: ScanState, l: Line) -> ScanState
     requires { ⌜ SmallLine z l ⌝ }
     ensures { λ r. ⌜ r ≡ nextLine z l ⌝ }
 {
     let may = under(l);
-    Sofar {
+    ScanState {
         count: z.count + 1,
         may: may,
         total: z.total + 3 + l.len,
@@ -143,7 +143,7 @@ pub fn scan(text: &[u8]) -> Scanned
     ensures { λ r. ⌜ ScanTold (now (text .entry)) (scanLines (now (text .entry))) r ⌝ }
 {
     let mut spots = no_spots();
-    let mut z = Sofar {
+    let mut z = ScanState {
         count: 0,
         may: 0,
         total: 0,

@@ -1,6 +1,6 @@
 // The bytes of the nodes, written from the last to the first.
 use super::scan::NodeSpot;
-use super::text::write_text;
+use super::typed_text::write_text;
 use tree::front::put_front;
 ghost use mathlib.Core.Path.{_≡_};
 ghost use Prim.Native.Nat.{ℕ, _+_, _-_, _<_, _/_, _%_};

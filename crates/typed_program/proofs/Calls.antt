@@ -3,7 +3,7 @@ use mathlib.Core.Path.{_≡_, refl, ap, _∙_}
 use Prim.Native.Nat.{ℕ}
 use mathlib.Core.List.{List}
 use lib.ListN.{replicate}
-use Rattle.settings.specs.Defaults.{defaults, recordOf}
+use Rattle.settings.specs.Defaults.{defaults, settingsBytes}
 use Rattle.settings.specs.Figures.{defaults-read}
 use Rattle.tree.specs.Tree.{Tree}
 use Rattle.tree.specs.Reading.{ReadOne, readTree}
@@ -14,7 +14,7 @@ use Rattle.typed_program.specs.TypedProgram.{treeText}
 use Rattle.typed_program.specs.Promises.{PrintsTyped}
 use Rattle.typed_program.proofs.Trees.{typed-tree}
 
-default-input : (s : List ℕ) (t : Tree) (z n : ℕ) → readTree s ≡ ReadOne.one t z n → inputOf (recordOf defaults) s ≡ given defaults t
+default-input : (s : List ℕ) (t : Tree) (z n : ℕ) → readTree s ≡ ReadOne.one t z n → inputOf (settingsBytes defaults) s ≡ given defaults t
 unfolding inputOf
 default-input s t z n e = rw (defaults-read, e)
 

@@ -1,3 +1,3 @@
-pub mod Said
+pub mod FaultText
 pub mod Trees
 pub mod Calls

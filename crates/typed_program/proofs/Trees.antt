@@ -12,7 +12,7 @@ use Rattle.common.specs.Choice.{pick}
 use Rattle.settings.specs.declared.Settings.{Settings}
 use Rattle.tree.specs.Tree.{Tree}
 use Rattle.sizes.specs.Input.{Input, refused, given, inputOf}
-use Rattle.sizes.proofs.Given.{input-refusal}
+use Rattle.sizes.proofs.MeasuredInput.{input-refusal}
 use Rattle.common.proofs.Stores.{sets-append, sets-front}
 use Rattle.paint.specs.Paint.{Wrote}
 use Rattle.frame.specs.declared.Written.{Written}
@@ -20,9 +20,9 @@ use Rattle.frame.specs.Frame.{tooLarge}
 use Rattle.frame.specs.Printer.{noPrint, printTo}
 use Rattle.sheet.specs.Sheet.{sheet}
 use Rattle.sheet.specs.Answers.{sheetOf}
-use Rattle.program.proofs.Told.{largest}
+use Rattle.program.proofs.PrinterAnswer.{largest}
 use Rattle.typed_program.specs.Words.{faultText}
-use Rattle.settings.specs.Defaults.{defaults, recordOf}
+use Rattle.settings.specs.Defaults.{defaults, settingsBytes}
 use Rattle.typed.specs.declared.Typed.{Typed}
 use Rattle.typed.specs.Typed.{typedOf}
 use Rattle.typed_program.specs.TypedProgram.{treeText, outcomeText, typedProgramOf}
@@ -91,7 +91,7 @@ module _ (text tree : List ℕ) (a : Typed) (e : record { answer = a; out = tree
   unfolding typedProgramOf
   typed-fault z = sym (ap outcomeText e) ∙ rw (ne-eqb (a .number) 0 z)
 
-  pub typed-tree : a .number ≡ 0 → typedProgramOf text ≡ treeText (inputOf (recordOf defaults) (take (a .count) tree))
+  pub typed-tree : a .number ≡ 0 → typedProgramOf text ≡ treeText (inputOf (settingsBytes defaults) (take (a .count) tree))
   unfolding typedProgramOf
   typed-tree z = sym (ap outcomeText e) ∙ rw (eq-eqb (a .number) 0 z)
 

@@ -4,7 +4,7 @@ use mathlib.Core.List.{List, [], _∷_, _++_}
 use lib.ListN.{take, replicate}
 use lib.Dec.{eqb}
 use Rattle.common.specs.Choice.{pick}
-use Rattle.settings.specs.Defaults.{defaults, recordOf}
+use Rattle.settings.specs.Defaults.{defaults, settingsBytes}
 use Rattle.sizes.specs.Input.{Input, refused, given, inputOf}
 use Rattle.frame.specs.Frame.{tooLarge}
 use Rattle.sheet.specs.Sheet.{sheet}
@@ -20,7 +20,7 @@ treeText (given s t) = pick (tooLarge s t) (faultText 6 0 0) (sheet s t ++ 10 �
 
 -- of what the reader answered, and the tree's bytes
 abbrev pub answerText : Typed → List ℕ → List ℕ
-answerText a tree = pick (eqb (a .number) 0) (treeText (inputOf (recordOf defaults) tree)) (faultText (a .number) (a .line) (a .column))
+answerText a tree = pick (eqb (a .number) 0) (treeText (inputOf (settingsBytes defaults) tree)) (faultText (a .number) (a .line) (a .column))
 
 abbrev pub outcomeText : TypedOutcome → List ℕ
 outcomeText x = answerText (x .answer) (take (x .answer .count) (x .out))

@@ -11,7 +11,7 @@ unfoldable pub digits : ℕ → ℕ → List ℕ
 digits zero n = []
 digits (suc places) n = pick (ltb n 10) ((48 + n) ∷ []) (digits places (n / 10) ++ ((48 + n % 10) ∷ []))
 
--- a line and a column are 131,073 at the most (`place-small`, typed/proofs/Reach.antt): six digits are all
+-- a line and a column are 131,073 at the most (`fault-small`, typed/proofs/FaultBounds.antt): six digits are all
 abbrev pub decimal : ℕ → List ℕ
 decimal n = digits 6 n
 

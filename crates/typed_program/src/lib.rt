@@ -4,7 +4,7 @@ ghost use Prim.Native.Nat.{ℕ, _≤_};
 ghost use mathlib.Core.List.{List};
 ghost use lib.ListN.{length, take};
 ghost use lib.Seq.{sets};
-ghost use Rattle.settings.specs.Defaults.{defaults, recordOf};
+ghost use Rattle.settings.specs.Defaults.{defaults, settingsBytes};
 ghost use Rattle.sizes.specs.Input.{inputOf};
 ghost use Rattle.paint.specs.Paint.{Wrote};
 ghost use Rattle.typed_program.specs.TypedProgram.{treeText, typedProgramOf};
@@ -29,7 +29,7 @@ pub fn input_buffer() -> [u8; INPUT_BYTES]
 
 // The sheet of a tree under the default settings and 0A, or why there is none.
 fn print_tree(tree: &[u8], out: &mut [u8; ANSWER_BYTES]) -> usize
-    ensures { λ r. ⌜ Wrote r (length (treeText (inputOf (recordOf defaults) (now (tree .entry))))) (now (out .exit)) (sets (now (out .entry)) 0 (treeText (inputOf (recordOf defaults) (now (tree .entry))))) ⌝ }
+    ensures { λ r. ⌜ Wrote r (length (treeText (inputOf (settingsBytes defaults) (now (tree .entry))))) (now (out .exit)) (sets (now (out .entry)) 0 (treeText (inputOf (settingsBytes defaults) (now (tree .entry))))) ⌝ }
     ensures within { λ r. ⌜ (r ≤ 64160) × (length (now (out .exit)) ≡ 64160) ⌝ }
 {
     let w = sheet::print_sheet(

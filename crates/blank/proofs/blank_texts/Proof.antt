@@ -1,7 +1,7 @@
 use mathlib.Core.Path.{sym, ap, _∙_}
 use borrow.Author.Needs.{needs}
 use Rattle.blank.specs.Blank.{Blanks}
-use Rattle.blank.proofs.Answered.{TreeHere, got-elements, refused-blank, no-cell, no-room, blanks}
+use Rattle.blank.proofs.Answered.{TreeHere, got-elements, refused-blank, no-cell, blank-no-room, blanks}
 use Rattle.blank.proofs.Calls.{all-told}
 use Rattle.blank.proofs.blank_texts.Statement.{statement}
 use Rattle.blank.proofs.blank_texts.Tie as tie
@@ -34,7 +34,7 @@ returns-2 : tie.Need-returns-2
 returns-2 c =
     let d = c .before .before .before in
     let q = here-at (d .before .before) in
-    let k = no-room _ _ q _ _ _ (d .before .find-cells .ensures (q .elements)) (d .name-cells .ensures .0) (c .before .before .if2 .taken) (c .before .if3 .taken) in
+    let k = blank-no-room _ _ q _ _ _ (d .before .find-cells .ensures (q .elements)) (d .name-cells .ensures .0) (c .before .before .if2 .taken) (c .before .if3 .taken) in
     all-told _ _ _ _ _ (c .before .before .before .before .before .before .before .before .before .shared-slice-known .given) (c .refuse2 .ensures ∙ sym (ap (λ (y : Blanks). y .answer) k)) (sym (ap (λ (y : Blanks). y .out) k))
 
 put-elements-requires : tie.Need-put-elements-requires

@@ -1,6 +1,6 @@
 use mathlib.Core.Path.{ap}
 use borrow.Author.Needs.{needs}
-use Rattle.drafts.proofs.Opens.{Openable, refused-forget, opened-ready, forget-absent, room, forget-there}
+use Rattle.drafts.proofs.OpenedStore.{Openable, refused-forget, opened-ready, forget-absent, opened-room, forget-there}
 use Rattle.drafts.proofs.forget_draft.Statement.{statement}
 use Rattle.drafts.proofs.forget_draft.Tie as tie
 
@@ -18,7 +18,7 @@ returns : tie.Need-returns
 returns c = let k = refused-forget _ _ _ (c .before .open-store .ensures) (c .if1 .taken) in (ap (λ y. y .number) k, ap (λ y. y .store) k)
 
 take-out-requires : tie.Need-take-out-requires
-take-out-requires c κs = let k = room _ _ _ (ready-at (c .before .before .before)) in (k .fits, k .high, k .zeros)
+take-out-requires c κs = let k = opened-room _ _ _ (ready-at (c .before .before .before)) in (k .fits, k .high, k .zeros)
 
 same-length-2 : tie.Need-same-length-2
 same-length-2 c = search needs

@@ -2,7 +2,7 @@ use mathlib.Core.Path.{_≡_, sym, ap, _∙_}
 use borrow.Author.Needs.{needs}
 use Rattle.drafts.specs.Store.{tagFor, fieldsOf}
 use Rattle.drafts.specs.Contracts.{scanOf}
-use Rattle.drafts.proofs.Opens.{open-18, open-19, open-0}
+use Rattle.drafts.proofs.OpenedStore.{open-18, open-19, open-0}
 use Rattle.drafts.proofs.open_store.Statement.{statement}
 use Rattle.drafts.proofs.open_store.Tie as tie
 

@@ -3,7 +3,7 @@ use Prim.Native.Nat.{_+_, _≤_}
 use native.Mathlib.Omega.{arith}
 use lib.ListN.{length}
 use borrow.Author.Needs.{needs}
-use Rattle.drafts.proofs.Opens.{Openable, refused-return, opened-ready, return-absent, return-size, return-short, return-there}
+use Rattle.drafts.proofs.OpenedStore.{Openable, refused-return, opened-ready, return-absent, return-size, return-short, return-there}
 use Rattle.drafts.proofs.return_draft.Statement.{statement}
 use Rattle.drafts.proofs.return_draft.Tie as tie
 

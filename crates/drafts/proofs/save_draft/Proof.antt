@@ -1,7 +1,7 @@
 use mathlib.Core.Path.{ap}
 use native.Mathlib.Omega.{arith}
 use Rattle.drafts.specs.Promises.{TreeRead}
-use Rattle.drafts.proofs.Opens.{Openable, opened-ready, got-tree, refused-save, bad-tree, room, save-full, save-there}
+use Rattle.drafts.proofs.OpenedStore.{Openable, opened-ready, got-tree, refused-save, bad-tree, opened-room, save-full, save-there}
 use borrow.Author.Needs.{needs}
 use Rattle.drafts.proofs.save_draft.Statement.{statement}
 use Rattle.drafts.proofs.save_draft.Tie as tie
@@ -35,13 +35,13 @@ returns-2 c =
     (ap (λ y. y .number) k, ap (λ y. y .store) k)
 
 sub-others : tie.Need-sub-others
-sub-others c = room _ _ _ (ready-at (c .before)) .low
+sub-others c = opened-room _ _ _ (ready-at (c .before)) .low
 
 add-if3 : tie.Need-add-if3
 add-if3 c = search needs
 
 add-if3-2 : tie.Need-add-if3-2
-add-if3-2 c = let k = room _ _ _ (ready-at (c .before)) in let g = read-at (c .before) in omega (arith, k .high, g .short)
+add-if3-2 c = let k = opened-room _ _ _ (ready-at (c .before)) in let g = read-at (c .before) in omega (arith, k .high, g .short)
 
 same-length-3 : tie.Need-same-length-3
 same-length-3 c = search needs
@@ -53,7 +53,7 @@ returns-3 c =
     (ap (λ y. y .number) k, ap (λ y. y .store) k)
 
 take-out-requires : tie.Need-take-out-requires
-take-out-requires c κs = let k = room _ _ _ (ready-at (c .before .before .before)) in (k .fits, k .high, k .zeros)
+take-out-requires c κs = let k = opened-room _ _ _ (ready-at (c .before .before .before)) in (k .fits, k .high, k .zeros)
 
 tag-of-requires : tie.Need-tag-of-requires
 tag-of-requires c κs = search needs

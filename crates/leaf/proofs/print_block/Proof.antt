@@ -3,16 +3,16 @@ use mathlib.Core.Path.{_≡_, refl, sym}
 use Prim.Native.Nat.{_+_, _≤_, _<_}
 use lib.ListN.{length, length-set}
 use lib.Seq.{length-take-le}
-use Rattle.entries.proofs.Paints.{long, in-list, in-entry}
-use Rattle.frame.proofs.Printers.{refusal}
-use Rattle.leaf.proofs.Alone.{line-low, bytes-low, no-room, paints, whole}
+use Rattle.entries.proofs.EntryParts.{long, in-list, in-entry}
+use Rattle.frame.proofs.Printers.{print-refused}
+use Rattle.leaf.proofs.Alone.{line-low, bytes-low, print-no-room, paints, alone-whole}
 use borrow.Author.Needs.{needs}
 use Rattle.leaf.proofs.print_block.Statement.{statement}
 use Rattle.leaf.proofs.print_block.Tie as tie
-use Rattle.block.proofs.block_tall.Reads as block-tall-reads
-use Rattle.block.proofs.block_wide.Reads as block-wide-reads
+use Rattle.block.proofs.block_height.Reads as block-height-reads
+use Rattle.block.proofs.block_width.Reads as block-width-reads
 use Rattle.paint.proofs.bytes.fill.Reads as fill-reads
-use Rattle.common.proofs.less_one.Reads as less-one-reads
+use Rattle.common.proofs.saturating_dec.Reads as saturating-dec-reads
 use Rattle.entries.proofs.entry.entry_at.Reads as entry-at-reads
 use Rattle.entries.proofs.paint_leaves.Reads as paint-leaves-reads
 use Rattle.frame.proofs.refused.Reads as refused-reads
@@ -32,13 +32,13 @@ allotted-at-requires : tie.Need-allotted-at-requires
 allotted-at-requires c κs = in-list (c .before .before .before .before .before .before .before .before .pre .begins) _ (c .before .before .entry-at .ensures)
 
 add-stride : tie.Need-add-stride
-add-stride c = omega (arith, line-low (c .before .before .before .before .before .before .before .before .before .before .before .pre .begins) _ (c .before .before .before .before .before .entry-at .ensures) _ (c .before .before .allotted-at .ensures .0) _ (c .before .flags-of .ensures) (c .before .before .allotted-at .ensures .1) _ (c .block-wide .ensures))
+add-stride c = omega (arith, line-low (c .before .before .before .before .before .before .before .before .before .before .before .pre .begins) _ (c .before .before .before .before .before .entry-at .ensures) _ (c .before .before .allotted-at .ensures .0) _ (c .before .flags-of .ensures) (c .before .before .allotted-at .ensures .1) _ (c .block-width .ensures))
 
-mul-less-one : tie.Need-mul-less-one
-mul-less-one c = omega (arith, bytes-low (c .before .before .before .before .before .before .before .before .before .before .before .before .pre .begins) _ (c .before .before .before .before .before .before .entry-at .ensures) _ (c .before .before .before .allotted-at .ensures .0) _ (c .before .before .flags-of .ensures) (c .before .before .before .allotted-at .ensures .1) _ (c .before .block-wide .ensures) _ (c .block-tall .ensures))
+mul-saturating-dec : tie.Need-mul-saturating-dec
+mul-saturating-dec c = omega (arith, bytes-low (c .before .before .before .before .before .before .before .before .before .before .before .before .pre .begins) _ (c .before .before .before .before .before .before .entry-at .ensures) _ (c .before .before .before .allotted-at .ensures .0) _ (c .before .before .flags-of .ensures) (c .before .before .before .allotted-at .ensures .1) _ (c .before .block-width .ensures) _ (c .block-height .ensures))
 
 returns : tie.Need-returns
-returns c = λ q. refusal (c .refused .ensures) (no-room (q .begins) _ (c .before .before .before .before .before .before .before .before .before .entry-at .ensures) _ (c .before .before .before .before .before .before .allotted-at .ensures .0) _ (c .before .before .before .before .before .flags-of .ensures) (c .before .before .before .before .before .before .allotted-at .ensures .1) _ (c .before .before .before .before .block-wide .ensures) _ (c .before .before .before .block-tall .ensures) (q .fits) _ (c .before .before .less-one .ensures) _ (c .before .if1 .taken))
+returns c = λ q. print-refused (c .refused .ensures) (print-no-room (q .begins) _ (c .before .before .before .before .before .before .before .before .before .entry-at .ensures) _ (c .before .before .before .before .before .before .allotted-at .ensures .0) _ (c .before .before .before .before .before .flags-of .ensures) (c .before .before .before .before .before .before .allotted-at .ensures .1) _ (c .before .before .before .before .block-width .ensures) _ (c .before .before .before .block-height .ensures) (q .fits) _ (c .before .before .saturating-dec .ensures) _ (c .before .if1 .taken))
 
 slice-write-leaf : tie.Need-slice-write-leaf
 slice-write-leaf c = omega (arith, long (c .before .before .before .before .before .before .before .before .before .before .before .before .before .before .before .before .before .before .pre .begins))
@@ -50,13 +50,13 @@ slice-aggregate-paint-leaves : tie.Need-slice-aggregate-paint-leaves
 slice-aggregate-paint-leaves c = sym (length-take-le _ _ (rw length-set (in-entry (c .before .before .before .before .before .before .before .before .before .before .before .before .before .before .before .before .before .before .before .pre .begins) _ (c .before .before .before .before .before .before .before .before .before .before .before .before .before .entry-at .ensures))))
 
 paint-leaves-requires : tie.Need-paint-leaves-requires
-paint-leaves-requires c κs = let q = c .before .before .before .before .before .before .before .before .before .before .before .before .before .before .before .before .before .before .before .before .pre in paints (q .begins) _ (c .before .before .before .before .before .before .before .before .before .before .before .before .before .before .entry-at .ensures) _ (c .before .before .before .before .before .before .before .before .before .before .before .allotted-at .ensures .0) _ (c .before .before .before .before .before .before .before .before .before .before .flags-of .ensures) (c .before .before .before .before .before .before .before .before .before .before .before .allotted-at .ensures .1) _ (c .before .before .before .before .before .before .before .before .before .block-wide .ensures) _ (c .before .before .before .before .before .before .before .before .block-tall .ensures) (q .fits) _ (c .before .before .before .before .before .before .before .less-one .ensures) (q .short) (c .before .before .before .before .before .before .before .before .before .before .before .before .before .before .before .before .before .before .before .before .args .out .now) (c .before .before .before .before .before .before .if1 .left) _ (search needs) _ refl
+paint-leaves-requires c κs = let q = c .before .before .before .before .before .before .before .before .before .before .before .before .before .before .before .before .before .before .before .before .pre in paints (q .begins) _ (c .before .before .before .before .before .before .before .before .before .before .before .before .before .before .entry-at .ensures) _ (c .before .before .before .before .before .before .before .before .before .before .before .allotted-at .ensures .0) _ (c .before .before .before .before .before .before .before .before .before .before .flags-of .ensures) (c .before .before .before .before .before .before .before .before .before .before .before .allotted-at .ensures .1) _ (c .before .before .before .before .before .before .before .before .before .block-width .ensures) _ (c .before .before .before .before .before .before .before .before .block-height .ensures) (q .fits) _ (c .before .before .before .before .before .before .before .saturating-dec .ensures) (q .short) (c .before .before .before .before .before .before .before .before .before .before .before .before .before .before .before .before .before .before .before .before .args .out .now) (c .before .before .before .before .before .before .if1 .left) _ (search needs) _ refl
 
 returns-2 : tie.Need-returns-2
 returns-2 c = λ q.
     let same : length (c .before .before .before .before .before .before .before .fill .last .0) ≡ length (c .before .before .before .before .before .before .before .before .before .before .before .before .before .before .before .before .before .before .before .before .before .before .before .args .out .now) = search needs in
-    let p = paints (q .begins) _ (c .before .before .before .before .before .before .before .before .before .before .before .before .before .before .before .before .before .entry-at .ensures) _ (c .before .before .before .before .before .before .before .before .before .before .before .before .before .before .allotted-at .ensures .0) _ (c .before .before .before .before .before .before .before .before .before .before .before .before .before .flags-of .ensures) (c .before .before .before .before .before .before .before .before .before .before .before .before .before .before .allotted-at .ensures .1) _ (c .before .before .before .before .before .before .before .before .before .before .before .before .block-wide .ensures) _ (c .before .before .before .before .before .before .before .before .before .before .before .block-tall .ensures) (q .fits) _ (c .before .before .before .before .before .before .before .before .before .before .less-one .ensures) (q .short) (c .before .before .before .before .before .before .before .before .before .before .before .before .before .before .before .before .before .before .before .before .before .before .before .args .out .now) (c .before .before .before .before .before .before .before .before .before .if1 .left) (length (c .before .before .before .before .before .before .before .fill .last .0)) same _ refl in
-    whole (q .begins) _ (c .before .before .before .before .before .before .before .before .before .before .before .before .before .before .before .before .before .entry-at .ensures) _ (c .before .before .before .before .before .before .before .before .before .before .before .before .before .before .allotted-at .ensures .0) _ (c .before .before .before .before .before .before .before .before .before .before .before .before .before .flags-of .ensures) (c .before .before .before .before .before .before .before .before .before .before .before .before .before .before .allotted-at .ensures .1) _ (c .before .before .before .before .before .before .before .before .before .before .before .before .block-wide .ensures) _ (c .before .before .before .before .before .before .before .before .before .before .before .block-tall .ensures) (q .fits) _ (c .before .before .before .before .before .before .before .before .before .before .less-one .ensures) (q .short) (c .before .before .before .before .before .before .before .before .before .before .before .before .before .before .before .before .before .before .before .before .before .before .before .args .out .now) (c .before .before .before .before .before .before .before .before .before .if1 .left) (length (c .before .before .before .before .before .before .before .fill .last .0)) same _ refl _ _ (c .before .before .before .before .before .before .before .fill .ensures .out-is) (c .before .before .paint-leaves .ensures p)
+    let p = paints (q .begins) _ (c .before .before .before .before .before .before .before .before .before .before .before .before .before .before .before .before .before .entry-at .ensures) _ (c .before .before .before .before .before .before .before .before .before .before .before .before .before .before .allotted-at .ensures .0) _ (c .before .before .before .before .before .before .before .before .before .before .before .before .before .flags-of .ensures) (c .before .before .before .before .before .before .before .before .before .before .before .before .before .before .allotted-at .ensures .1) _ (c .before .before .before .before .before .before .before .before .before .before .before .before .block-width .ensures) _ (c .before .before .before .before .before .before .before .before .before .before .before .block-height .ensures) (q .fits) _ (c .before .before .before .before .before .before .before .before .before .before .saturating-dec .ensures) (q .short) (c .before .before .before .before .before .before .before .before .before .before .before .before .before .before .before .before .before .before .before .before .before .before .before .args .out .now) (c .before .before .before .before .before .before .before .before .before .if1 .left) (length (c .before .before .before .before .before .before .before .fill .last .0)) same _ refl in
+    alone-whole (q .begins) _ (c .before .before .before .before .before .before .before .before .before .before .before .before .before .before .before .before .before .entry-at .ensures) _ (c .before .before .before .before .before .before .before .before .before .before .before .before .before .before .allotted-at .ensures .0) _ (c .before .before .before .before .before .before .before .before .before .before .before .before .before .flags-of .ensures) (c .before .before .before .before .before .before .before .before .before .before .before .before .before .before .allotted-at .ensures .1) _ (c .before .before .before .before .before .before .before .before .before .before .before .before .block-width .ensures) _ (c .before .before .before .before .before .before .before .before .before .before .before .block-height .ensures) (q .fits) _ (c .before .before .before .before .before .before .before .before .before .before .saturating-dec .ensures) (q .short) (c .before .before .before .before .before .before .before .before .before .before .before .before .before .before .before .before .before .before .before .before .before .before .before .args .out .now) (c .before .before .before .before .before .before .before .before .before .if1 .left) (length (c .before .before .before .before .before .before .before .fill .last .0)) same _ refl _ _ (c .before .before .before .before .before .before .before .fill .ensures .out-is) (c .before .before .paint-leaves .ensures p)
 
 pub print-block-spec : {M : Type 1} → statement M
 print-block-spec =
@@ -70,7 +70,7 @@ print-block-spec =
     (λ c κs. search needs)
     add-stride
     (λ c κs. search needs)
-    mul-less-one
+    mul-saturating-dec
     (λ c κs. search needs)
     (λ c κs. search needs)
     (λ c. search needs)

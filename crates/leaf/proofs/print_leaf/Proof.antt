@@ -1,6 +1,6 @@
 use mathlib.Core.Path.{_≡_, sym, ap, _∙_}
 use lib.ListN.{length}
-use Rattle.frame.proofs.Printers.{refusal}
+use Rattle.frame.proofs.Printers.{print-refused}
 use Rattle.frame.specs.Printer.{Prints}
 use Rattle.leaf.proofs.Records.{shows-part}
 use Rattle.leaf.proofs.Parts.{part-of}
@@ -12,7 +12,7 @@ use Rattle.leaf.proofs.print_block.Reads as print-block-reads
 use Rattle.leaf.proofs.seek_leaf.Reads as seek-leaf-reads
 
 returns : tie.Need-returns
-returns c = refusal (c .refused .ensures) (c .before .before .before .before .seek-leaf .ensures .0 .refuses (c .before .if1 .taken) .print-is _)
+returns c = print-refused (c .refused .ensures) (c .before .before .before .before .seek-leaf .ensures .0 .refuses (c .before .if1 .taken) .print-is _)
 
 print-block-requires : tie.Need-print-block-requires
 print-block-requires c κs =

@@ -1,6 +1,6 @@
 use native.Mathlib.Omega.{arith}
 use mathlib.Core.Path.{_≡_}
-use Rattle.entries.proofs.Paints.{long, in-list, in-entry, few}
+use Rattle.entries.proofs.EntryParts.{long, in-list, in-entry, few}
 use Rattle.leaf.proofs.Records.{few-v, record-is}
 use borrow.Author.Needs.{needs}
 use Rattle.leaf.proofs.record_at.Statement.{statement}

@@ -4,8 +4,8 @@ use native.Mathlib.Omega.{arith}
 use lib.ListN.{length}
 use lib.Seq.{length-take-le}
 use Rattle.sizes.specs.Input.{inputOf}
-use Rattle.sizes.proofs.Given.{listed-length}
-use Rattle.leaf.proofs.Calls.{refuses-input, refuses-large, seeks-none, Taken, taken, call-large, call-stride, Fitting, ready, front-in, lists, seeks-hit, misses}
+use Rattle.sizes.proofs.MeasuredInput.{size-list-length}
+use Rattle.leaf.proofs.Calls.{refuses-input, refuses-large, seeks-none, Taken, taken, call-large, call-stride, FitsSheet, walk-ready, list-end-in, lists, seeks-hit, misses}
 use borrow.Author.Needs.{needs}
 use Rattle.leaf.proofs.seek_leaf.Statement.{statement}
 use Rattle.leaf.proofs.seek_leaf.Tie as tie
@@ -18,7 +18,7 @@ took c =
     taken _ _ _ _ _ (d .ensures .0) (d .ensures .1) (c .before .before .before .before .if1 .left) size
 
 -- and once the sheet is not too large
-fits : (c : tie.Else2) → let a = c .before .before .before .before .before .before .before .before .before .before .before .before .before .before .args in let d = c .before .before .before .before .before .before .before .before .before .measure-tree in Fitting (a .settings .now) (a .tree .now) (d .result) (d .last .1 .1 .0) (c .before .before .frame-of .result .stride)
+fits : (c : tie.Else2) → let a = c .before .before .before .before .before .before .before .before .before .before .before .before .before .before .args in let d = c .before .before .before .before .before .before .before .before .before .measure-tree in FitsSheet (a .settings .now) (a .tree .now) (d .result) (d .last .1 .1 .0) (c .before .before .frame-of .result .stride)
 fits c =
     let k = took (c .before .before .before) in
     let ze = c .before .before .before .natural-at .ensures .0 in
@@ -30,23 +30,23 @@ front : (c : tie.After-walk-tree) → c .walk-tree .result ≤ length (c .walk-t
 front c =
     let k = fits (c .before .before .before .before .before) in
     let g = c .before .before .separator .ensures .0 in
-    front-in k _ _ g (c .before .before .before .before .before .before .before .before .before .before .before .before .before .before .before .before .before .before .before .pre) _ _ _ (c .walk-tree .ensures (ready k _ _ g (c .before .before .before .before .before .before .before .before .before .before .before .before .before .before .before .before .before .before .before .pre)))
+    list-end-in k _ _ g (c .before .before .before .before .before .before .before .before .before .before .before .before .before .before .before .before .before .before .before .pre) _ _ _ (c .walk-tree .ensures (walk-ready k _ _ g (c .before .before .before .before .before .before .before .before .before .before .before .before .before .before .before .before .before .before .before .pre)))
 
 returns : tie.Need-returns
 returns c =
     let a = c .before .before .before .before .before .before .before .before .args in
     let d = c .before .before .before .measure-tree in
-    (seeks-none _ _ _ _ _ _ _ _ (c .none-sought .ensures) (c .before .if1 .taken) (refuses-input _ _ _ _ (d .ensures .0) (c .before .if1 .taken)), listed-length (inputOf (a .settings .now) (a .tree .now)) _ _ (d .ensures .1))
+    (seeks-none _ _ _ _ _ _ _ _ (c .none-sought .ensures) (c .before .if1 .taken) (refuses-input _ _ _ _ (d .ensures .0) (c .before .if1 .taken)), size-list-length (inputOf (a .settings .now) (a .tree .now)) _ _ (d .ensures .1))
 
 returns-2 : tie.Need-returns-2
 returns-2 c =
     let a = c .before .before .before .before .before .before .before .before .before .before .before .before .before .before .before .args in
     let k = took (c .before .before .before .before) in
     let large = sym (call-large k (c .before .before .before .before .natural-at .ensures .0) (c .before .before .before .frame-of .ensures)) ∙ sym (c .before .before .is-large .ensures) ∙ c .before .if2 .taken in
-    (seeks-none _ _ _ _ _ _ 6 _ (c .none-sought2 .ensures) (λ z. omega arith) (refuses-large _ _ _ _ _ (k .input) large), listed-length (inputOf (a .settings .now) (a .tree .now)) _ _ (c .before .before .before .before .before .before .before .before .before .before .measure-tree .ensures .1))
+    (seeks-none _ _ _ _ _ _ 6 _ (c .none-sought2 .ensures) (λ z. omega arith) (refuses-large _ _ _ _ _ (k .input) large), size-list-length (inputOf (a .settings .now) (a .tree .now)) _ _ (c .before .before .before .before .before .before .before .before .before .before .measure-tree .ensures .1))
 
 walk-tree-requires : tie.Need-walk-tree-requires
-walk-tree-requires c κs = ready (fits (c .before .before .before .before)) _ _ (c .before .separator .ensures .0) (c .before .before .before .before .before .before .before .before .before .before .before .before .before .before .before .before .before .before .pre)
+walk-tree-requires c κs = walk-ready (fits (c .before .before .before .before)) _ _ (c .before .separator .ensures .0) (c .before .before .before .before .before .before .before .before .before .before .before .before .before .before .before .before .before .before .pre)
 
 slice-reshare-prefix-find-leaf : tie.Need-slice-reshare-prefix-find-leaf
 slice-reshare-prefix-find-leaf c = front (c .before .before)
@@ -59,23 +59,23 @@ find-leaf-requires c κs =
     let w = c .before .before .before in
     let k = fits (w .before .before .before .before .before) in
     let g = c .before .before .before .before .before .separator .ensures .0 in
-    lists k _ _ g (c .before .before .before .before .before .before .before .before .before .before .before .before .before .before .before .before .before .before .before .before .before .before .pre) _ _ _ (w .walk-tree .ensures (ready k _ _ g (c .before .before .before .before .before .before .before .before .before .before .before .before .before .before .before .before .before .before .before .before .before .before .pre)))
+    lists k _ _ g (c .before .before .before .before .before .before .before .before .before .before .before .before .before .before .before .before .before .before .before .before .before .before .pre) _ _ _ (w .walk-tree .ensures (walk-ready k _ _ g (c .before .before .before .before .before .before .before .before .before .before .before .before .before .before .before .before .before .before .before .before .before .before .pre)))
 
 returns-3 : tie.Need-returns-3
 returns-3 c =
     let a = c .before .before .before .before .before .before .before .before .before .before .before .before .before .before .before .before .before .before .before .before .before .before .before .before .args in
     let k = fits (c .before .before .before .before .before .before .before .before .before .before) in
     let g = c .before .before .before .before .before .before .before .separator .ensures .0 in
-    let w = c .before .before .before .before .before .walk-tree .ensures (ready k _ _ g (c .before .before .before .before .before .before .before .before .before .before .before .before .before .before .before .before .before .before .before .before .before .before .before .before .pre)) in
-    (seeks-hit k _ _ g (c .before .before .before .before .before .before .before .before .before .before .before .before .before .before .before .before .before .before .before .before .before .before .before .before .pre) _ _ _ w _ _ (c .before .find-leaf .ensures (lists k _ _ g (c .before .before .before .before .before .before .before .before .before .before .before .before .before .before .before .before .before .before .before .before .before .before .before .before .pre) _ _ _ w)) (c .if3 .taken), listed-length (inputOf (a .settings .now) (a .tree .now)) _ _ (c .before .before .before .before .before .before .before .before .before .before .before .before .before .before .before .before .before .before .before .measure-tree .ensures .1))
+    let w = c .before .before .before .before .before .walk-tree .ensures (walk-ready k _ _ g (c .before .before .before .before .before .before .before .before .before .before .before .before .before .before .before .before .before .before .before .before .before .before .before .before .pre)) in
+    (seeks-hit k _ _ g (c .before .before .before .before .before .before .before .before .before .before .before .before .before .before .before .before .before .before .before .before .before .before .before .before .pre) _ _ _ w _ _ (c .before .find-leaf .ensures (lists k _ _ g (c .before .before .before .before .before .before .before .before .before .before .before .before .before .before .before .before .before .before .before .before .before .before .before .before .pre) _ _ _ w)) (c .if3 .taken), size-list-length (inputOf (a .settings .now) (a .tree .now)) _ _ (c .before .before .before .before .before .before .before .before .before .before .before .before .before .before .before .before .before .before .before .measure-tree .ensures .1))
 
 returns-4 : tie.Need-returns-4
 returns-4 c =
     let a = c .before .before .before .before .before .before .before .before .before .before .before .before .before .before .before .before .before .before .before .before .before .before .before .before .before .args in
     let k = fits (c .before .before .before .before .before .before .before .before .before .before .before) in
     let g = c .before .before .before .before .before .before .before .before .separator .ensures .0 in
-    let w = c .before .before .before .before .before .before .walk-tree .ensures (ready k _ _ g (c .before .before .before .before .before .before .before .before .before .before .before .before .before .before .before .before .before .before .before .before .before .before .before .before .before .pre)) in
-    (seeks-none _ _ _ _ _ _ 9 _ (c .none-sought3 .ensures) (λ z. omega arith) (misses k _ _ g (c .before .before .before .before .before .before .before .before .before .before .before .before .before .before .before .before .before .before .before .before .before .before .before .before .before .pre) _ _ _ w _ _ (c .before .before .find-leaf .ensures (lists k _ _ g (c .before .before .before .before .before .before .before .before .before .before .before .before .before .before .before .before .before .before .before .before .before .before .before .before .before .pre) _ _ _ w)) (c .before .if3 .left)), listed-length (inputOf (a .settings .now) (a .tree .now)) _ _ (c .before .before .before .before .before .before .before .before .before .before .before .before .before .before .before .before .before .before .before .before .measure-tree .ensures .1))
+    let w = c .before .before .before .before .before .before .walk-tree .ensures (walk-ready k _ _ g (c .before .before .before .before .before .before .before .before .before .before .before .before .before .before .before .before .before .before .before .before .before .before .before .before .before .pre)) in
+    (seeks-none _ _ _ _ _ _ 9 _ (c .none-sought3 .ensures) (λ z. omega arith) (misses k _ _ g (c .before .before .before .before .before .before .before .before .before .before .before .before .before .before .before .before .before .before .before .before .before .before .before .before .before .pre) _ _ _ w _ _ (c .before .before .find-leaf .ensures (lists k _ _ g (c .before .before .before .before .before .before .before .before .before .before .before .before .before .before .before .before .before .before .before .before .before .before .before .before .before .pre) _ _ _ w)) (c .before .if3 .left)), size-list-length (inputOf (a .settings .now) (a .tree .now)) _ _ (c .before .before .before .before .before .before .before .before .before .before .before .before .before .before .before .before .before .before .before .before .measure-tree .ensures .1))
 
 pub seek-leaf-spec : {M : Type 1} → statement M
 seek-leaf-spec =

@@ -7,7 +7,7 @@ use lib.ListN.{length}
 use lib.Seq.{length-take-le}
 use Rattle.settings.specs.Reading.{settingsEnd}
 use Rattle.program.specs.Program.{programOf}
-use Rattle.program.proofs.Told.{Told, Printed, parts, told, refusal-answered, sheet-answered}
+use Rattle.program.proofs.PrinterAnswer.{ProgramPrints, Printed, parts, program-prints, refusal-answered, sheet-answered}
 use Rattle.program.proofs.answer.Statement.{statement}
 use Rattle.program.proofs.answer.Tie as tie
 
@@ -20,10 +20,10 @@ out c = c .before .before .before .before .before .before .args .out .now
 long : (c : tie.After-print-sheet) → 64160 ≡ length (out c)
 long c = search needs
 
-told-of : (c : tie.After-print-sheet) → Told (programOf (input c)) (out c) (c .print-sheet .result) (c .print-sheet .last .1 .1 .0)
+told-of : (c : tie.After-print-sheet) → ProgramPrints (programOf (input c)) (out c) (c .print-sheet .result) (c .print-sheet .last .1 .1 .0)
 told-of c =
     let p = parts (settingsEnd (input c)) (input c) _ (c .before .before .before .before .settings-end .ensures .0) in
-    told (input c) (out c) _ _ _ _ (omega (arith, long c)) (p .0) (p .1) (c .print-sheet .ensures .0) (c .print-sheet .ensures .1)
+    program-prints (input c) (out c) _ _ _ _ (omega (arith, long c)) (p .0) (p .1) (c .print-sheet .ensures .0) (c .print-sheet .ensures .1)
 
 printed : (c : tie.Else1) → Printed (programOf (input (c .before .before))) (out (c .before .before)) (c .before .before .print-sheet .result) (c .before .before .print-sheet .last .1 .1 .0)
 printed c = told-of (c .before .before) .yes (c .if1 .left)

@@ -7,11 +7,11 @@ use lib.ListN.{length, take, drop, length-drop, length-replicate, drop-of-length
 use lib.Seq.{length-take-le}
 use borrow.Rule.Slice.PartAt.{part-to-end}
 use Rattle.sizes.specs.Input.{inputOf}
-use Rattle.sizes.proofs.Given.{listed-length}
-use Rattle.frame.proofs.Printers.{refusal}
-use Rattle.leaf.proofs.Calls.{Taken, taken, ready, front-in, listing}
+use Rattle.sizes.proofs.MeasuredInput.{size-list-length}
+use Rattle.frame.proofs.Printers.{print-refused}
+use Rattle.leaf.proofs.Calls.{Taken, taken, walk-ready, list-end-in, listing}
 use Rattle.sheet.specs.Contracts.{refusalOf}
-use Rattle.sheet.proofs.Printed.{sheet-refused, sheet-no, fits, framed, fitting, base-in, sheet-paints, sheet-answers}
+use Rattle.sheet.proofs.Printed.{sheet-refused, sheet-no, sheet-fits, framed, sheet-fitting, base-in, sheet-paints, sheet-answers}
 use borrow.Author.Needs.{needs}
 use Rattle.sheet.proofs.print_sheet.Statement.{statement}
 use Rattle.sheet.proofs.print_sheet.Tie as tie
@@ -27,7 +27,7 @@ part-back xs ys a =
 
 -- the list that was lent
 long : (c : tie.After-measure-tree) → length (c .measure-tree .last .1 .1 .0) ≡ 2048
-long c = let a = c .before .before .before .before .before .args in listed-length (inputOf (a .settings .now) (a .tree .now)) _ _ (c .measure-tree .ensures .1) ∙ length-replicate {A = ℕ} 2048 0
+long c = let a = c .before .before .before .before .before .args in size-list-length (inputOf (a .settings .now) (a .tree .now)) _ _ (c .measure-tree .ensures .1) ∙ length-replicate {A = ℕ} 2048 0
 
 -- what is known once the sizes were measured
 took : (c : tie.After-natural-at) → let a = c .before .before .before .before .before .before .before .before .before .before .args in let d = c .before .before .before .before .before .measure-tree in Taken (a .settings .now) (a .tree .now) (d .result) (d .last .1 .1 .0)
@@ -45,12 +45,12 @@ same c = search needs
 front : (c : tie.After-walk-tree) → c .walk-tree .result ≤ length (c .walk-tree .last .1 .1 .1 .1 .0)
 front c =
     let e = c .before .before .before .before .before .before .before .before .before .before .before .before .before in
-    let k = fitting (took (e .before .before .before)) (e .before .before .before .natural-at .ensures .0) (e .before .before .frame-of .ensures) (e .before .before .before .before .before .before .before .before .before .before .before .before .before .args .out .now) (none e) in
+    let k = sheet-fitting (took (e .before .before .before)) (e .before .before .before .natural-at .ensures .0) (e .before .before .frame-of .ensures) (e .before .before .before .before .before .before .before .before .before .before .before .before .before .args .out .now) (none e) in
     let g = c .before .before .separator .ensures .0 in
-    front-in k _ _ g (le-refl 5120) _ _ _ (c .walk-tree .ensures (ready k _ _ g (le-refl 5120)))
+    list-end-in k _ _ g (le-refl 5120) _ _ _ (c .walk-tree .ensures (walk-ready k _ _ g (le-refl 5120)))
 
 returns : tie.Need-returns
-returns c = refusal (c .refused .ensures) (sheet-refused _ _ _ _ (c .before .before .before .measure-tree .ensures .0) (c .before .if1 .taken))
+returns c = print-refused (c .refused .ensures) (sheet-refused _ _ _ _ (c .before .before .before .measure-tree .ensures .0) (c .before .if1 .taken))
 
 slice-aggregate-natural-at : tie.Need-slice-aggregate-natural-at
 slice-aggregate-natural-at c = sym (long (c .before .before .before .before))
@@ -59,7 +59,7 @@ natural-at-requires : tie.Need-natural-at-requires
 natural-at-requires c κs = omega (arith, long (c .before .before .before .before))
 
 returns-2 : tie.Need-returns-2
-returns-2 c = refusal (c .refused2 .ensures) (sheet-no (took (c .before .before .before .before)) (c .before .before .before .before .natural-at .ensures .0) (c .before .before .before .frame-of .ensures) _ _ (c .before .before .refusal-of .ensures) (c .before .if2 .taken))
+returns-2 c = print-refused (c .refused2 .ensures) (sheet-no (took (c .before .before .before .before)) (c .before .before .before .before .natural-at .ensures .0) (c .before .before .before .frame-of .ensures) _ _ (c .before .before .refusal-of .ensures) (c .before .if2 .taken))
 
 fill-requires : tie.Need-fill-requires
 fill-requires c κs =
@@ -69,7 +69,7 @@ fill-requires c κs =
     let fe = e .before .before .frame-of .ensures in
     let o = e .before .before .before .before .before .before .before .before .before .before .before .before .before .args .out .now in
     let n = none e in
-    fits k ze fe o n
+    sheet-fits k ze fe o n
 
 margin-before-requires : tie.Need-margin-before-requires
 margin-before-requires c κs =
@@ -92,7 +92,7 @@ walk-tree-requires c κs =
     let fe = e .before .before .frame-of .ensures in
     let o = e .before .before .before .before .before .before .before .before .before .before .before .before .before .args .out .now in
     let n = none e in
-    ready (fitting k ze fe o n) _ _ (c .before .separator .ensures .0) (le-refl 5120)
+    walk-ready (sheet-fitting k ze fe o n) _ _ (c .before .separator .ensures .0) (le-refl 5120)
 
 slice-aggregate-paint-leaves : tie.Need-slice-aggregate-paint-leaves
 slice-aggregate-paint-leaves c = sym (long (c .before .before .before .before .before .before .before .before .before .before .before .before .before .before .before .before .before .before .before .before .before .before .before))
@@ -136,9 +136,9 @@ paint-leaves-requires c κs =
     let l = same (c .before .before .before .before .before .before .before .before .before .before) in
     let be = c .before .before .before .before .before .before .before .before .before .before .margin-before .ensures .end-is in
     let le = part-long (c .before .before .before .before .before .before .before .before .before .before .margin-before .last .0) (c .before .before .before .before .before .before .before .before .before .before .margin-before .result) l in
-    let kf = fitting k ze fe o n in
+    let kf = sheet-fitting k ze fe o n in
     let g = c .before .before .before .before .before .before .separator .ensures .0 in
-    let es = listing kf _ _ g (le-refl 5120) _ _ _ (c .before .before .before .before .walk-tree .ensures (ready kf _ _ g (le-refl 5120))) in
+    let es = listing kf _ _ g (le-refl 5120) _ _ _ (c .before .before .before .before .walk-tree .ensures (walk-ready kf _ _ g (le-refl 5120))) in
     sheet-paints k ze fe o n be le _ _ es
 
 margin-after-requires : tie.Need-margin-after-requires
@@ -156,9 +156,9 @@ returns-3 c =
     let l = same (c .before .before .before .before .before .before .before .before .before .before .before .before .before .before .before .before .before) in
     let be = c .before .before .before .before .before .before .before .before .before .before .before .before .before .before .before .before .before .margin-before .ensures .end-is in
     let le = part-long (c .before .before .before .before .before .before .before .before .before .before .before .before .before .before .before .before .before .margin-before .last .0) (c .before .before .before .before .before .before .before .before .before .before .before .before .before .before .before .before .before .margin-before .result) l in
-    let kf = fitting k ze fe o n in
+    let kf = sheet-fitting k ze fe o n in
     let g = c .before .before .before .before .before .before .before .before .before .before .before .before .before .separator .ensures .0 in
-    let es = listing kf _ _ g (le-refl 5120) _ _ _ (c .before .before .before .before .before .before .before .before .before .before .before .walk-tree .ensures (ready kf _ _ g (le-refl 5120))) in
+    let es = listing kf _ _ g (le-refl 5120) _ _ _ (c .before .before .before .before .before .before .before .before .before .before .before .walk-tree .ensures (walk-ready kf _ _ g (le-refl 5120))) in
     sheet-answers k ze fe o n be le _ (c .before .before .before .before .before .before .before .before .before .before .before .before .before .before .before .before .before .margin-before .last .0) _ _ _ _ _ _ es (c .before .before .before .before .before .before .before .before .before .before .before .before .before .before .before .before .before .before .before .before .before .before .fill .ensures .out-is) (c .before .before .before .before .before .before .before .before .before .before .before .before .before .before .before .before .before .margin-before .ensures .out-is) l (part-to-end (c .before .before .before .before .before .before .before .before .before .before .before .before .before .before .before .before .before .margin-before .last .0) (c .before .before .before .before .before .before .before .before .before .before .before .before .before .before .before .before .before .margin-before .result))
     (c .before .before .before .before .before .before .paint-leaves .ensures (sheet-paints k ze fe o n be le _ _ es))
     (part-back (c .before .before .before .before .before .before .before .before .before .before .before .before .before .before .before .before .before .margin-before .last .0) (c .before .before .before .before .before .before .paint-leaves .last .1 .1 .1 .1 .1 .0) (c .before .before .before .before .before .before .before .before .before .before .before .before .before .before .before .before .before .margin-before .result)) (c .before .before .margin-after .ensures)

@@ -4,7 +4,7 @@ use native.Mathlib.Omega.{arith}
 use mathlib.Core.List.{List}
 use lib.ListN.{length}
 use borrow.Author.Needs.{needs}
-use Rattle.settings.specs.Defaults.{defaults, recordOf}
+use Rattle.settings.specs.Defaults.{defaults, settingsBytes}
 use Rattle.sizes.specs.Input.{inputOf}
 use Rattle.typed_program.specs.TypedProgram.{treeText}
 use Rattle.typed_program.proofs.Trees.{TreeTold, SheetThere, tree-told, sheet-put, fault-said}
@@ -12,7 +12,7 @@ use Rattle.typed_program.proofs.print_tree.Statement.{statement}
 use Rattle.typed_program.proofs.print_tree.Tie as tie
 
 abbrev text : tie.After-print-sheet → List ℕ
-text c = treeText (inputOf (recordOf defaults) (c .before .before .before .before .args .tree .now))
+text c = treeText (inputOf (settingsBytes defaults) (c .before .before .before .before .args .tree .now))
 
 abbrev out : tie.After-print-sheet → List ℕ
 out c = c .before .before .before .before .args .out .now
@@ -21,7 +21,7 @@ long : (c : tie.After-print-sheet) → 64160 ≡ length (out c)
 long c = search needs
 
 told-of : (c : tie.After-print-sheet) → TreeTold (text c) (out c) (c .print-sheet .result) (c .print-sheet .last .1 .1 .0)
-told-of c = tree-told (out c) (omega (arith, long c)) (recordOf defaults) (c .before .before .before .before .args .tree .now) _ _ (c .print-sheet .ensures .0) (c .print-sheet .ensures .1)
+told-of c = tree-told (out c) (omega (arith, long c)) (settingsBytes defaults) (c .before .before .before .before .args .tree .now) _ _ (c .print-sheet .ensures .0) (c .print-sheet .ensures .1)
 
 printed : (c : tie.Else1) → SheetThere (text (c .before .before)) (out (c .before .before)) (c .before .before .print-sheet .result) (c .before .before .print-sheet .last .1 .1 .0)
 printed c = told-of (c .before .before) .yes (c .if1 .left)

@@ -4,7 +4,7 @@ use lib.ListN.{length}
 use borrow.Author.Needs.{needs}
 use Rattle.sizes.proofs.Passing.{Some}
 use Rattle.blank.specs.Contracts.{ReadElements, textAt}
-use Rattle.blank.proofs.Sweep.{part, Finding, find-begins, find-in, find-more, find-ends}
+use Rattle.blank.proofs.ElementPass.{part, Finding, find-begins, find-in, find-more, find-ends}
 use Rattle.blank.proofs.elements.find_cells.Statement.{statement}
 use Rattle.blank.proofs.elements.find_cells.Tie as tie
 

@@ -5,12 +5,12 @@ use lib.ListN.{length, take, drop, length-take}
 use borrow.Author.Needs.{needs}
 use Rattle.sizes.proofs.Passing.{Some}
 use Rattle.blank.specs.Contracts.{ReadElements, textAt}
-use Rattle.blank.proofs.Sweep.{part, Putting, put-begins, put-in, put-more, put-ends}
+use Rattle.blank.proofs.ElementPass.{part, PuttingBytes, put-begins, put-in, put-more, put-ends}
 use Rattle.blank.proofs.elements.put_elements.Statement.{statement}
 use Rattle.blank.proofs.elements.put_elements.Tie as tie
 
 abbrev Inv-loop : tie.InvT-loop
-Inv-loop tree out₀ dots at₀ node₀ out at node = (length out ≡ length out₀) × ((q : ReadElements tree) → Some (Putting tree q dots out₀ out at node))
+Inv-loop tree out₀ dots at₀ node₀ out at node = (length out ≡ length out₀) × ((q : ReadElements tree) → Some (PuttingBytes tree q dots out₀ out at node))
 
 abbrev μ-loop : tie.MeasureT-loop
 μ-loop tree out₀ dots at₀ node₀ out at node = length tree - at

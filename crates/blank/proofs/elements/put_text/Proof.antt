@@ -1,7 +1,7 @@
 use Prim.Native.Nat.{_-_}
 use borrow.Author.Needs.{needs}
 use lib.ListN.{length}
-use Rattle.blank.proofs.Shown.{Showing, shown-none, show-more, show-all}
+use Rattle.blank.proofs.ShownBytes.{Showing, shown-none, show-more, show-all}
 use Rattle.blank.proofs.elements.put_text.Statement.{statement}
 use Rattle.blank.proofs.elements.put_text.Tie as tie
 

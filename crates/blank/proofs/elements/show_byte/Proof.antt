@@ -1,6 +1,6 @@
 use mathlib.Core.Path.{sym, _∙_}
 use borrow.Author.Needs.{needs}
-use Rattle.blank.proofs.Shown.{shown-dot, shown-kept}
+use Rattle.blank.proofs.ShownBytes.{shown-dot, shown-kept}
 use Rattle.blank.proofs.elements.show_byte.Statement.{statement}
 use Rattle.blank.proofs.elements.show_byte.Tie as tie
 

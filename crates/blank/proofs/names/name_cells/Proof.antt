@@ -2,7 +2,7 @@ use mathlib.Core.Path.{_≡_}
 use Prim.Native.Nat.{_-_}
 use lib.ListN.{length}
 use borrow.Author.Needs.{needs}
-use Rattle.blank.proofs.Naming.{none-named, all-dotted, Naming, name-none, name-wrong, name-past, name-more, names-cells, names-dots, no-dots}
+use Rattle.blank.proofs.NamedCells.{none-named, all-dotted, Naming, name-none, name-wrong, name-past, name-more, names-cells, names-dots, no-dots}
 use Rattle.blank.proofs.names.name_cells.Statement.{statement}
 use Rattle.blank.proofs.names.name_cells.Tie as tie
 

@@ -8,17 +8,17 @@ use Rattle.sizes.specs.declared.Size.{Size}
 use Rattle.sizes.specs.Text.{textHeight}
 use Rattle.sizes.specs.Sizes.{leafSize}
 use Rattle.sizes.specs.Contracts.{Fits}
-use Rattle.paint.specs.declared.body.Plan.{Plan}
-use Rattle.paint.specs.Contracts.{Room, planOf, groundLines}
-use Rattle.paint.proofs.Planned.{natural-wide, natural-tall, Planned, planned, above-room, text-room}
+use Rattle.paint.specs.declared.body.BodyRows.{BodyRows}
+use Rattle.paint.specs.Contracts.{Room, bodyRowsOf, groundLines}
+use Rattle.paint.proofs.BodyRows.{natural-wide, natural-tall, BodyFits, body-fits, above-room, text-room}
 use Rattle.paint.proofs.Ground.{body-over}
 use Rattle.paint.proofs.body.paint_body.Statement.{statement}
 use Rattle.paint.proofs.body.paint_body.Tie as tie
 
 -- what the body asks, and its plan
-module _ (s : Settings) (t : List ℕ) (n z : Size) (k : Plan) (is : n ≡ leafSize s t) (fits : Fits n z) (e : k ≡ planOf s n z) (at stride len : ℕ) (room : Room at stride (z .height) (z .width) len) where
-  h : Planned s t z k
-  h = planned s t n z k is fits e
+module _ (s : Settings) (t : List ℕ) (n z : Size) (k : BodyRows) (is : n ≡ leafSize s t) (fits : Fits n z) (e : k ≡ bodyRowsOf s n z) (at stride len : ℕ) (room : Room at stride (z .height) (z .width) len) where
+  h : BodyFits s t z k
+  h = body-fits s t n z k is fits e
 
   text-lines : n .height - s .top - s .bottom ≡ textHeight t
   text-lines = omega (arith, natural-tall s t n is)
@@ -48,13 +48,13 @@ paint-ground-requires c κs =
     let start = c .before .before .before .before .before .before .before in
     let a = start .args in
     let e = c .before .before .before .before .plan-body .ensures in
-    ((planned (a .s) (a .text .now) (a .natural) (a .size) _ (start .pre .0 .1) (start .pre .0 .2) e .wide, start .pre .0 .3, all-lines (a .s) (a .text .now) (a .natural) (a .size) _ (start .pre .0 .1) (start .pre .0 .2) e _ _ _ (start .pre .1)), start .pre .1)
+    ((body-fits (a .s) (a .text .now) (a .natural) (a .size) _ (start .pre .0 .1) (start .pre .0 .2) e .wide, start .pre .0 .3, all-lines (a .s) (a .text .now) (a .natural) (a .size) _ (start .pre .0 .1) (start .pre .0 .2) e _ _ _ (start .pre .1)), start .pre .1)
 
 add-p : tie.Need-add-p
 add-p c =
     let start = c .before .before .before .before .before .before .before .before .before .before .before .before in
     let a = start .args in
-    let tall = planned (a .s) (a .text .now) (a .natural) (a .size) _ (start .pre .0 .1) (start .pre .0 .2) (c .before .before .before .before .before .before .before .before .before .plan-body .ensures) .tall in
+    let tall = body-fits (a .s) (a .text .now) (a .natural) (a .size) _ (start .pre .0 .1) (start .pre .0 .2) (c .before .before .before .before .before .before .before .before .before .plan-body .ensures) .tall in
     let size = start .good .1 .1 .1 .1 .1 .1 .0 in
     omega arith
 
@@ -75,7 +75,7 @@ text-lines-requires c κs =
     let start = c .before .before .before .before .before .before .before .before .before .before .before .before .before in
     let a = start .args in
     let e = c .before .before .before .before .before .before .before .before .before .before .plan-body .ensures in
-    let h = planned (a .s) (a .text .now) (a .natural) (a .size) _ (start .pre .0 .1) (start .pre .0 .2) e in
+    let h = body-fits (a .s) (a .text .now) (a .natural) (a .size) _ (start .pre .0 .1) (start .pre .0 .2) e in
     let n = text-lines (a .s) (a .text .now) (a .natural) (a .size) _ (start .pre .0 .1) (start .pre .0 .2) e _ _ _ (start .pre .1) in
     ((start .pre .0 .0, n, h .widest-is, h .within, rw (h .wide) (start .pre .0 .3)), text-there (a .s) (a .text .now) (a .natural) (a .size) _ (start .pre .0 .1) (start .pre .0 .2) e _ _ _ (start .pre .1) (search needs))
 
@@ -84,7 +84,7 @@ returns c =
     let start = c .before .before .before .before .before .before .before .before .before .before .before .before .before .before .before .before in
     let a = start .args in
     let e = c .before .before .before .before .before .before .before .before .before .before .before .before .before .plan-body .ensures in
-    let h = planned (a .s) (a .text .now) (a .natural) (a .size) _ (start .pre .0 .1) (start .pre .0 .2) e in
+    let h = body-fits (a .s) (a .text .now) (a .natural) (a .size) _ (start .pre .0 .1) (start .pre .0 .2) e in
     let n = text-lines (a .s) (a .text .now) (a .natural) (a .size) _ (start .pre .0 .1) (start .pre .0 .2) e _ _ _ (start .pre .1) in
     record {
       done = λ b is. body-over (a .s) (a .text .now) (a .size) _ h b _ _ (a .at) (a .stride) (rw n at (c .before .before .before .before .before .before .before .before .paint-ground .ensures .done b is)) (c .before .before .text-lines .ensures);

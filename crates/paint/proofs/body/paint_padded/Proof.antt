@@ -2,7 +2,7 @@ use Prim.Native.Nat.{_+_}
 use lib.ListN.{length-append, length-replicate}
 use borrow.Author.Needs.{needs}
 use Rattle.paint.specs.Contracts.{ground}
-use Rattle.paint.proofs.Left.{then-pasted}
+use Rattle.paint.proofs.LinesLeft.{then-pasted}
 use Rattle.paint.proofs.body.paint_padded.Statement.{statement}
 use Rattle.paint.proofs.body.paint_padded.Tie as tie
 

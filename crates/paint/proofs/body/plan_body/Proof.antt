@@ -1,5 +1,5 @@
 use borrow.Author.Needs.{needs}
-use Rattle.paint.specs.Contracts.{planOf}
+use Rattle.paint.specs.Contracts.{bodyRowsOf}
 use Rattle.paint.proofs.body.plan_body.Statement.{statement}
 use Rattle.paint.proofs.body.plan_body.Tie as tie
 
@@ -25,7 +25,7 @@ sub-t11 : tie.Need-sub-t11
 sub-t11 c = search needs
 
 returns : tie.Need-returns
-unfolding planOf
+unfolding bodyRowsOf
 returns c = rw (c .before .before .before .before .before .before .before .before .indent-start .ensures .0)
 
 pub plan-body-spec : {M : Type 1} → statement M

@@ -1,7 +1,7 @@
 use native.Mathlib.Omega.{arith}
 use lib.ListN.{length-replicate}
 use borrow.Author.Needs.{needs}
-use Rattle.paint.proofs.Left.{then-pasted}
+use Rattle.paint.proofs.LinesLeft.{then-pasted}
 use Rattle.paint.proofs.body.rows_twice.Statement.{statement}
 use Rattle.paint.proofs.body.rows_twice.Tie as tie
 

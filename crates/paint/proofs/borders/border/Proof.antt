@@ -8,7 +8,7 @@ use lib.Seq.{sets, length-sets}
 use borrow.Author.Needs.{needs}
 use Rattle.block.specs.Block.{edge}
 use Rattle.paint.specs.Paint.{Wrote}
-use Rattle.paint.proofs.Left.{then-sets}
+use Rattle.paint.proofs.LinesLeft.{then-sets}
 use Rattle.paint.proofs.borders.border.Statement.{statement}
 use Rattle.paint.proofs.borders.border.Tie as tie
 

@@ -6,14 +6,14 @@ use mathlib.Core.List.{_∷_}
 use lib.ListN.{length, replicate, length-set, length-replicate}
 use borrow.Author.Needs.{needs}
 use Rattle.paint.specs.Contracts.{pasted}
-use Rattle.paint.proofs.Left.{Left, left-start, left-step, left-done, left-room, left-next, rows-more, rows-none}
+use Rattle.paint.proofs.LinesLeft.{LinesLeft, left-start, left-step, left-done, line-room, left-next, rows-more, rows-none}
 use Rattle.paint.proofs.bytes.marked_rows.Statement.{statement}
 use Rattle.paint.proofs.bytes.marked_rows.Tie as tie
 
 -- the lines still to come make the whole
 abbrev Inv-loop : tie.InvT-loop
 Inv-loop out₀ at stride n w mark p₀ i₀ out p i =
-    (i ≤ n) × Left (pasted out₀ at stride (replicate n (mark ∷ replicate w 32))) (length out₀) (at + n * stride) out p stride (1 + w) (replicate (n - i) (mark ∷ replicate w 32))
+    (i ≤ n) × LinesLeft (pasted out₀ at stride (replicate n (mark ∷ replicate w 32))) (length out₀) (at + n * stride) out p stride (1 + w) (replicate (n - i) (mark ∷ replicate w 32))
 
 abbrev μ-loop : tie.MeasureT-loop
 μ-loop out₀ at stride n w mark p₀ i₀ out p i = n - i
@@ -25,7 +25,7 @@ slice-write-out : tie.Need-slice-write-out Inv-loop μ-loop
 slice-write-out c =
     let a = c .before .before .before .args in
     let k = c .before .loop in
-    omega (arith, left-room (rows-more (a .mark ∷ replicate (a .w) 32) (a .n) (k .i) (omega arith) (k .inv .1)))
+    omega (arith, line-room (rows-more (a .mark ∷ replicate (a .w) 32) (a .n) (k .i) (omega arith) (k .inv .1)))
 
 add-fill : tie.Need-add-fill Inv-loop μ-loop
 add-fill c =
@@ -38,7 +38,7 @@ fill-requires c κs =
     let a = c .before .before .before .before .args in
     let k = c .before .before .loop in
     let m = rows-more (a .mark ∷ replicate (a .w) 32) (a .n) (k .i) (omega arith) (k .inv .1) in
-    rw length-set (omega (arith, left-room m))
+    rw length-set (omega (arith, line-room m))
 
 add-p : tie.Need-add-p Inv-loop μ-loop
 add-p c =

@@ -4,13 +4,13 @@ use native.Mathlib.Omega.{arith}
 use lib.ListN.{length, replicate, length-replicate}
 use borrow.Author.Needs.{needs}
 use Rattle.paint.specs.Contracts.{pasted}
-use Rattle.paint.proofs.Left.{Left, left-start, left-step, left-done, left-room, left-next, rows-more, rows-none}
+use Rattle.paint.proofs.LinesLeft.{LinesLeft, left-start, left-step, left-done, line-room, left-next, rows-more, rows-none}
 use Rattle.paint.proofs.bytes.rows.Statement.{statement}
 use Rattle.paint.proofs.bytes.rows.Tie as tie
 
 -- the lines still to come make the whole
 abbrev Inv-loop : tie.InvT-loop
-Inv-loop out₀ at stride n w byte p₀ i₀ out p i = (i ≤ n) × Left (pasted out₀ at stride (replicate n (replicate w byte))) (length out₀) (at + n * stride) out p stride w (replicate (n - i) (replicate w byte))
+Inv-loop out₀ at stride n w byte p₀ i₀ out p i = (i ≤ n) × LinesLeft (pasted out₀ at stride (replicate n (replicate w byte))) (length out₀) (at + n * stride) out p stride w (replicate (n - i) (replicate w byte))
 
 abbrev μ-loop : tie.MeasureT-loop
 μ-loop out₀ at stride n w byte p₀ i₀ out p i = n - i
@@ -23,7 +23,7 @@ fill-requires c κs =
     let a = c .before .before .before .before .args in
     let k = c .before .before .loop in
     let m = rows-more (replicate (a .w) (a .byte)) (a .n) (k .i) (omega arith) (k .inv .1) in
-    left-room m
+    line-room m
 
 add-p : tie.Need-add-p Inv-loop μ-loop
 add-p c =

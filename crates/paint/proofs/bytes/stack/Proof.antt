@@ -5,13 +5,13 @@ use mathlib.Core.List.{[], _∷_}
 use lib.ListN.{length, replicate, length-replicate}
 use borrow.Author.Needs.{needs}
 use Rattle.paint.specs.Contracts.{pasted}
-use Rattle.paint.proofs.Left.{Left, left-start, left-step, left-done, left-room, left-next, rows-more, rows-none}
+use Rattle.paint.proofs.LinesLeft.{LinesLeft, left-start, left-step, left-done, line-room, left-next, rows-more, rows-none}
 use Rattle.paint.proofs.bytes.stack.Statement.{statement}
 use Rattle.paint.proofs.bytes.stack.Tie as tie
 
 -- the lines still to come make the whole
 abbrev Inv-loop : tie.InvT-loop
-Inv-loop out₀ at stride n byte p₀ i₀ out p i = (i ≤ n) × Left (pasted out₀ at stride (replicate n (byte ∷ []))) (length out₀) (at + n * stride) out p stride 1 (replicate (n - i) (byte ∷ []))
+Inv-loop out₀ at stride n byte p₀ i₀ out p i = (i ≤ n) × LinesLeft (pasted out₀ at stride (replicate n (byte ∷ []))) (length out₀) (at + n * stride) out p stride 1 (replicate (n - i) (byte ∷ []))
 
 abbrev μ-loop : tie.MeasureT-loop
 μ-loop out₀ at stride n byte p₀ i₀ out p i = n - i
@@ -23,7 +23,7 @@ slice-write-out : tie.Need-slice-write-out Inv-loop μ-loop
 slice-write-out c =
     let a = c .before .before .args in
     let k = c .before .loop in
-    omega (arith, left-room (rows-more (a .byte ∷ []) (a .n) (k .i) (omega arith) (k .inv .1)))
+    omega (arith, line-room (rows-more (a .byte ∷ []) (a .n) (k .i) (omega arith) (k .inv .1)))
 
 add-p : tie.Need-add-p Inv-loop μ-loop
 add-p c =

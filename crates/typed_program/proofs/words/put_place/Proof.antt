@@ -1,4 +1,4 @@
-use Rattle.typed_program.proofs.Said.{no-place, place-put}
+use Rattle.typed_program.proofs.FaultText.{no-place, place-put}
 use borrow.Author.Needs.{needs}
 use Rattle.typed_program.proofs.words.put_place.Statement.{statement}
 use Rattle.typed_program.proofs.words.put_place.Tie as tie

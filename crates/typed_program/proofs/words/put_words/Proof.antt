@@ -6,7 +6,7 @@ use borrow.Author.Needs.{needs}
 use borrow.Author.Tests.{ltb-true, ltb-false}
 use lib.ListN.{length-take}
 use Rattle.typed_program.specs.Words.{faultWords, wordsLarge}
-use Rattle.typed_program.proofs.Said.{Row, row, words-below, words-above}
+use Rattle.typed_program.proofs.FaultText.{Row, row, words-below, words-above}
 use Rattle.typed_program.proofs.words.put_words.Statement.{statement}
 use Rattle.typed_program.proofs.words.put_words.Tie as tie
 

@@ -1,7 +1,7 @@
 use native.Mathlib.Omega.{arith}
 use mathlib.Core.Path.{_∙_}
 use lib.ListN.{length-set}
-use Rattle.typed_program.proofs.Said.{fault-put}
+use Rattle.typed_program.proofs.FaultText.{fault-put}
 use borrow.Author.Needs.{needs}
 use Rattle.typed_program.proofs.words.tell.Statement.{statement}
 use Rattle.typed_program.proofs.words.tell.Tie as tie

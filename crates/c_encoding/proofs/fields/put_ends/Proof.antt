@@ -1,0 +1,27 @@
+use borrow.Author.Needs.{needs}
+use Rattle.c_encoding.proofs.Plans.{four}
+use Rattle.c_encoding.proofs.fields.put_ends.Statement.{statement}
+use Rattle.c_encoding.proofs.fields.put_ends.Tie as tie
+
+slice-write-out : tie.Need-slice-write-out
+slice-write-out c = search needs
+
+slice-write-out-2 : tie.Need-slice-write-out-2
+slice-write-out-2 c = search needs
+
+slice-write-out-3 : tie.Need-slice-write-out-3
+slice-write-out-3 c = search needs
+
+slice-write-out-4 : tie.Need-slice-write-out-4
+slice-write-out-4 c = search needs
+
+same-length : tie.Need-same-length
+same-length c = search needs
+
+returns : tie.Need-returns
+returns c = four (c .args .out .now) _ _ _ _ (c .pre)
+
+pub put-ends-spec : {M : Type 1} → statement M
+put-ends-spec =
+    tie.close
+    (tie.spec slice-write-out slice-write-out-2 slice-write-out-3 slice-write-out-4 same-length returns)

@@ -1,0 +1,20 @@
+use native.Mathlib.Omega.{arith}
+use borrow.Author.Needs.{needs}
+use Rattle.paint.proofs.text_lines.text_line.Statement.{statement}
+use Rattle.paint.proofs.text_lines.text_line.Tie as tie
+
+returns : tie.Need-returns
+returns c =
+    let i = c .before .before .before .before .before .line-indent .ensures in
+    (rw (c .before .before .copy .ensures .out-is, i .0), omega (arith, i .0, i .1))
+
+pub text-line-spec : {M : Type 1} → statement M
+text-line-spec =
+    tie.close
+    (tie.spec
+    (λ c κs. search needs)
+    (λ c. search needs)
+    (λ c. search needs)
+    (λ c κs. search needs)
+    (λ c. search needs)
+    returns)

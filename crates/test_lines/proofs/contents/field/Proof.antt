@@ -1,0 +1,28 @@
+use borrow.Author.Needs.{needs}
+use Prim.Native.Nat.{_-_, _≤_}
+use lib.ListN.{length}
+use Rattle.test_lines.proofs.contents.field.Statement.{statement}
+use Rattle.test_lines.proofs.contents.field.Tie as tie
+
+abbrev Inv-loop : tie.InvT-loop
+Inv-loop s k at₀ i₀ at i = (i ≤ k) × (at ≤ length s)
+
+abbrev μ-loop : tie.MeasureT-loop
+μ-loop s k at₀ i₀ at i = k - i
+
+pub field-spec : {M : Type 1} → statement M
+field-spec =
+    tie.close
+    (tie.spec
+    Inv-loop
+    μ-loop
+    (λ c. search needs)
+    (λ c. search needs)
+    (λ c. search needs)
+    (λ c. search needs)
+    (λ c κs. search needs)
+    (λ c. search needs)
+    (λ c. search needs)
+    (λ c. search needs)
+    (λ c. search needs)
+    (λ c. search needs))
