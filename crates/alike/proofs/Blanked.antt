@@ -1,4 +1,4 @@
--- The call that blanks texts, for alike trees: equal answers, and what is written is again alike. Assumes nothing.
+-- The call that blanks texts, for alike trees: equal answers, and what is written is again alike.
 use mathlib.Core.Path.{_≡_, refl, sym, _∙_}
 use Prim.Native.Nat.{ℕ}
 use mathlib.Core.Bool.{Bool, true, false}
@@ -51,7 +51,8 @@ written {x} {y} b o = let e : length y ≡ length x = sym (length-alike b) in rw
     go false e = record { answer = refl; tree = rw (take-at x (drop (length x) o) (length x) refl, take-at y (drop (length x) o) (length x) e) b }
 
 module _ {p q : List ℕ} (b : AlikeBytes p q) (ns o : List ℕ) where
-  papers : (t u : Tree) (z n : ℕ) → Alike t u → readTree p ≡ ReadOne.one t z n → readTree q ≡ ReadOne.one u z n → AlikeBytes (bytesOf (blanked (dotsFor ns) 0 t)) (bytesOf (blanked (dotsFor ns) 0 u))
+  papers : (t u : Tree) (z n : ℕ) → Alike t u → readTree p ≡ ReadOne.one t z n → readTree q ≡ ReadOne.one u z n
+      → AlikeBytes (bytesOf (blanked (dotsFor ns) 0 t)) (bytesOf (blanked (dotsFor ns) 0 u))
   unfolding Alike
   papers t u z n h e d =
       let f = dotsFor ns in
@@ -76,4 +77,5 @@ module _ {p q : List ℕ} (b : AlikeBytes p q) (ns o : List ℕ) where
       go (pairs.both-read t u z n h) e d = rw (flags-alike t u h) (both (allCells (cellFlags u) ns) (papers t u z n h e d))
 
 pub blank-texts-alike : {p q : List ℕ} → AlikeBytes p q → (ns o r : List ℕ) → length o ≡ length r → BothBlank AlikeBytes o r (blankOf p ns o) (blankOf q ns r)
-blank-texts-alike {p} {q} b ns o r e = let k = one-blank b ns o in both-through AlikeBytes o r (k .answer) (k .tree) (blank-lent o o refl p ns) (blank-lent o r e q ns)
+blank-texts-alike {p} {q} b ns o r e = let k = one-blank b ns o in
+    both-through AlikeBytes o r (k .answer) (k .tree) (blank-lent o o refl p ns) (blank-lent o r e q ns)

@@ -1,4 +1,4 @@
--- The block of a leaf whose text is replaced byte for byte. Assumes nothing.
+-- The block of a leaf whose text is replaced byte for byte.
 use mathlib.Core.Path.{_≡_}
 use Prim.Native.Nat.{ℕ, _-_}
 use mathlib.Core.Bool.{Bool, not}
@@ -77,7 +77,8 @@ module _ (f : ℕ → ℕ) (mask-keeps : (b : ℕ) → eqb (f b) 10 ≡ eqb b 10
       rw (height-recast f mask-keeps t, width-recast f mask-keeps t, lines-recast f mask-keeps t)
       (rows-append (rows-replicate (slackBefore (s .vertical) slack) (over-replicate w 32 (p .space)))
       (rows-append (rows-replicate (s .top) (over-replicate w (fill 2) (p .fills 2)))
-      (rows-append (rows-map (textLine s (w - s .left - s .right) (textWidth t)) (textLine s (w - s .left - s .right) (textWidth t)) (map f) (at-text-line (w - s .left - s .right) (textWidth t)) (lines t))
+      (rows-append (rows-map (textLine s (w - s .left - s .right) (textWidth t)) (textLine s (w - s .left - s .right) (textWidth t)) (map f)
+      (at-text-line (w - s .left - s .right) (textWidth t)) (lines t))
       (rows-append (rows-replicate (s .bottom) (over-replicate w (fill 3) (p .fills 3)))
       (rows-replicate (slack - slackBefore (s .vertical) slack) (over-replicate w 32 (p .space)))))))
 
@@ -97,8 +98,10 @@ module _ (f : ℕ → ℕ) (mask-keeps : (b : ℕ) → eqb (f b) 10 ≡ eqb b 10
 
   at-bottom-line : (l : Leaf) → Over R (bottomLine s (withText (map f) l)) (bottomLine s l)
   unfolding bottomLine
-  at-bottom-line l = over-append (over-replicate (sep s) (bottomLeft s (l .flags)) (at-bottom-left (l .flags))) (over-append (over-replicate (l .size .width) (mark s 1) (at-mark 1)) (at-edge (l .flags .«last_col») (mark s 10) (at-mark 10)))
+  at-bottom-line l = over-append (over-replicate (sep s) (bottomLeft s (l .flags)) (at-bottom-left (l .flags))) (over-append
+      (over-replicate (l .size .width) (mark s 1) (at-mark 1)) (at-edge (l .flags .«last_col») (mark s 10) (at-mark 10)))
 
   pub block-recast : (l : Leaf) → Rows R (block s (withText (map f) l)) (block s l)
   unfolding block
-  block-recast l = rows-append (rows-replicate (sep s) (at-top-line l)) (rows-append (at-middle l) (rows-replicate (pick (l .flags .«last_row») (sep s) 0) (at-bottom-line l)))
+  block-recast l = rows-append (rows-replicate (sep s) (at-top-line l)) (rows-append (at-middle l)
+      (rows-replicate (pick (l .flags .«last_row») (sep s) 0) (at-bottom-line l)))

@@ -1,4 +1,4 @@
--- Bytes that are equal once the texts of the Cells that a reader meets are covered are alike. Assumes nothing.
+-- Bytes that are equal once the texts of the Cells that a reader meets are covered are alike.
 use mathlib.Core.Path.{_≡_, refl, sym, ap, ap₂, _∙_}
 use Prim.Native.Nat.{ℕ, zero, suc, _+_, _*_, _≤_, _<_}
 use native.Mathlib.Omega.{arith}
@@ -30,7 +30,8 @@ module _ (f : ℕ) (s : List ℕ) where
   inside false true = blurred f (contents s)
   inside false false = contents s
 
-  covers : whole? s ≡ true → (a b : Bool) → eqb (getD s 0 0) 1 ≡ a → group? (getD s 0 0) ≡ b → blurred (suc f) s ≡ take 3 s ++ (inside a b ++ blurred f (afterElement s))
+  covers : whole? s ≡ true → (a b : Bool) → eqb (getD s 0 0) 1 ≡ a → group? (getD s 0 0) ≡ b
+      → blurred (suc f) s ≡ take 3 s ++ (inside a b ++ blurred f (afterElement s))
   unfolding blurred inside
   covers w true b e k = rw (blurred, w, e)
   covers w false true e k = rw (blurred, w, e, k)
@@ -60,7 +61,15 @@ next-length f ih s = go (whole? s) refl
         let x = inside f s (eqb (getD s 0 0) 1) (group? (getD s 0 0)) in
         let h = whole-le s w in
         ap length (covers f s w (eqb (getD s 0 0) 1) (group? (getD s 0 0)) refl refl)
-        ∙ omega (arith, length-append (take 3 s) (x ++ blurred f (afterElement s)), length-append x (blurred f (afterElement s)), length-take-le 3 s (omega arith), inside-length f ih s w (eqb (getD s 0 0) 1) (group? (getD s 0 0)), ih (afterElement s), length-drop (3 + lengthAt s) s)
+        ∙ omega (
+          arith,
+          length-append (take 3 s) (x ++ blurred f (afterElement s)),
+          length-append x (blurred f (afterElement s)),
+          length-take-le 3 s (omega arith),
+          inside-length f ih s w (eqb (getD s 0 0) 1) (group? (getD s 0 0)),
+          ih (afterElement s),
+          length-drop (3 + lengthAt s) s,
+        )
     go false w = ap length (stays f s w)
 
 blurred-length : (f : ℕ) → Long f
@@ -136,19 +145,25 @@ module _ (f : ℕ) (ih : Blurs f) (p q : List ℕ) (e : blurred (suc f) p ≡ bl
   unfolding inside
   step = go (whole? p) refl
     where
-      whole-step : (w : whole? p ≡ true) → whole? q ≡ true → (a b : Bool) → eqb (getD p 0 0) 1 ≡ a → group? (getD p 0 0) ≡ b → eqb (getD q 0 0) 1 ≡ a → group? (getD q 0 0) ≡ b → AlikeBytes p q
+      whole-step : (w : whole? p ≡ true) → whole? q ≡ true → (a b : Bool) → eqb (getD p 0 0) 1 ≡ a → group? (getD p 0 0) ≡ b → eqb (getD q 0 0) 1 ≡ a
+          → group? (getD q 0 0) ≡ b → AlikeBytes p q
       whole-step w v a b t u t′ u′ =
           let front : SameFront p q = record { tag = tags; long = longs; whole = whole-le p w; other-whole = whole-le q v } in
-          let h : take 3 p ++ (inside f p a b ++ blurred f (afterElement p)) ≡ take 3 q ++ (inside f q a b ++ blurred f (afterElement q)) = sym (covers f p w a b t u) ∙ e ∙ covers f q v a b t′ u′ in
-          let x = split 3 (take 3 p) (take 3 q) (inside f p a b ++ blurred f (afterElement p)) (inside f q a b ++ blurred f (afterElement q)) (length-take-le 3 p (omega (arith, whole-le p w))) (length-take-le 3 q (omega (arith, whole-le q v))) h .1 in
-          let y = split (lengthAt p) (inside f p a b) (inside f q a b) (blurred f (afterElement p)) (blurred f (afterElement q)) (inside-length f (blurred-length f) p w a b) (inside-length f (blurred-length f) q v a b ∙ sym longs) x in
+          let h : take 3 p ++ (inside f p a b ++ blurred f (afterElement p)) ≡ take 3 q ++ (inside f q a b ++ blurred f (afterElement q)) =
+          sym (covers f p w a b t u) ∙ e ∙ covers f q v a b t′ u′ in
+          let x = split 3 (take 3 p) (take 3 q) (inside f p a b ++ blurred f (afterElement p)) (inside f q a b ++ blurred f (afterElement q))
+          (length-take-le 3 p (omega (arith, whole-le p w))) (length-take-le 3 q (omega (arith, whole-le q v))) h .1 in
+          let y = split (lengthAt p) (inside f p a b) (inside f q a b) (blurred f (afterElement p)) (blurred f (afterElement q))
+          (inside-length f (blurred-length f) p w a b) (inside-length f (blurred-length f) q v a b ∙ sym longs) x in
           by a b t u t′ u′ front (y .0) (y .1)
         where
-          by : (a b : Bool) → eqb (getD p 0 0) 1 ≡ a → group? (getD p 0 0) ≡ b → eqb (getD q 0 0) 1 ≡ a → group? (getD q 0 0) ≡ b → SameFront p q → inside f p a b ≡ inside f q a b → blurred f (afterElement p) ≡ blurred f (afterElement q) → AlikeBytes p q
+          by : (a b : Bool) → eqb (getD p 0 0) 1 ≡ a → group? (getD p 0 0) ≡ b → eqb (getD q 0 0) 1 ≡ a → group? (getD q 0 0) ≡ b → SameFront p q
+              → inside f p a b ≡ inside f q a b → blurred f (afterElement p) ≡ blurred f (afterElement q) → AlikeBytes p q
           by true b t u t′ u′ front x y =
               let m = clean-cell f p w c t in
               let n = clean-cell f q v d t′ in
-              pairs.cell front (eqb-true (getD p 0 0) 1 t) (alike-lines (contents p) (contents q) x) (m .0 ∙ sym (n .0)) (ih (afterElement p) (afterElement q) y (m .1) (n .1))
+              pairs.cell front (eqb-true (getD p 0 0) 1 t) (alike-lines (contents p) (contents q) x) (m .0 ∙ sym (n .0))
+              (ih (afterElement p) (afterElement q) y (m .1) (n .1))
           by false true t u t′ u′ front x y =
               let m = clean-group f p w c t u in
               let n = clean-group f q v d t′ u′ in

@@ -1,4 +1,4 @@
--- The bytes of alike trees agree outside their texts: so do stores that keep them. Assumes nothing.
+-- The bytes of alike trees agree outside their texts: so do stores that keep them.
 use mathlib.Core.Path.{_≡_, refl, sym, ap, ap₂, _∙_}
 use Prim.Native.Nat.{ℕ, suc, _+_, _<_}
 use mathlib.Core.Bool.{Bool, true, false}
@@ -77,7 +77,8 @@ trees-agree t u a i h =
     sym x ∙ ap (λ (v : Tree). getD (bytesOf v) i 0) (blanked-equal t u a) ∙ y
 
 -- bytes that are read as them: they are those, where each is below 256, as in every slice of bytes
-pub bytes-agree : {p q : List ℕ} (b : AlikeTrees p q) → Every (λ c. c < 256) p → Every (λ c. c < 256) q → (i : ℕ) → getD (inTexts (λ n. true) 0 (b .tree)) i false ≡ false → getD p i 0 ≡ getD q i 0
+pub bytes-agree : {p q : List ℕ} (b : AlikeTrees p q) → Every (λ c. c < 256) p → Every (λ c. c < 256) q → (i : ℕ)
+    → getD (inTexts (λ n. true) 0 (b .tree)) i false ≡ false → getD p i 0 ≡ getD q i 0
 bytes-agree {p} {q} b k l i h =
     let e : p ≡ bytesOf (b .tree) = tree-exact (b .tree) p k (b .first .is) (b .first .ends) in
     let d : q ≡ bytesOf (b .other) = tree-exact (b .other) q l (b .second .is) (b .second .ends) in

@@ -1,5 +1,6 @@
--- The calls whose answers have no byte of a text: for bytes that are alike, under equal settings and whatever else is handed in, with as much memory lent, the answers
--- and all that is written are equal, and what is past that stays. Assumes nothing.
+-- The calls whose answers have no byte of a text: for bytes that are alike, under equal settings and whatever else is handed in, with as much memory lent, the
+-- answers
+-- and all that is written are equal, and what is past that stays.
 use mathlib.Core.Path.{_≡_, refl, ap}
 use Prim.Native.Nat.{ℕ}
 use mathlib.Core.Bool.{Bool, true, false}
@@ -62,7 +63,8 @@ module _ (s : Settings) (t : Tree) where
   record-placed n [] = refl
   record-placed n (l ∷ ls) = go (eqb (l .at .node) n) (leafNumbered n (map (placed (covered 1)) ls)) (leafNumbered n ls) (record-placed n ls)
     where
-      go : (c : Bool) (x y : Option Placed) → recordFound x ≡ recordFound y → recordFound (pick c (some (placed (covered 1) l)) x) ≡ recordFound (pick c (some l) y)
+      go : (c : Bool) (x y : Option Placed) → recordFound x ≡ recordFound y
+          → recordFound (pick c (some (placed (covered 1) l)) x) ≡ recordFound (pick c (some l) y)
       go true x y e = refl
       go false x y e = e
 
@@ -111,7 +113,8 @@ module _ (s : Settings) (t : Tree) where
 
   masked-fold : (w budget : ℕ) (l : List ℕ) → foldOf (given s (masked t)) w budget l ≡ foldOf (given s t) w budget l
   unfolding foldOf masked
-  masked-fold w budget l = rw (list-recast (covered 1) mask-keeps t, listed-recast (covered 1) mask-keeps t, naturals-recast (covered 1) mask-keeps s (listedTrees t))
+  masked-fold w budget l =
+      rw (list-recast (covered 1) mask-keeps t, listed-recast (covered 1) mask-keeps t, naturals-recast (covered 1) mask-keeps s (listedTrees t))
 
   masked-nearest : (ns ls : List ℕ) → nearestOf (given s (masked t)) ns ls ≡ nearestOf (given s t) ns ls
   unfolding nearestOf treeNeeds masked
@@ -153,17 +156,21 @@ module _ {p q : List ℕ} (b : AlikeBytes p q) where
 
     pub find-places-alike : (places o r : List ℕ) → length o ≡ length r → BothFind o r (findsOf x places o) (findsOf y places r)
     find-places-alike places o r e =
-        let k : findsOf x places r ≡ findsOf y places r = same-by (λ (i : Input). findsOf i places r) (λ s t. masked-finds s t places r) (inputs-alike b settings) in
+        let k : findsOf x places r ≡ findsOf y places r =
+        same-by (λ (i : Input). findsOf i places r) (λ s t. masked-finds s t places r) (inputs-alike b settings) in
         rw (← k) (finds-lent o r e x places)
 
     pub fold-list-alike : (width budget : ℕ) (o r : List ℕ) → length o ≡ length r → BothFold o r (foldOf x width budget o) (foldOf y width budget r)
     fold-list-alike width budget o r e =
-        let k : foldOf x width budget r ≡ foldOf y width budget r = same-by (λ (i : Input). foldOf i width budget r) (λ s t. masked-fold s t width budget r) (inputs-alike b settings) in
+        let k : foldOf x width budget r ≡ foldOf y width budget r =
+        same-by (λ (i : Input). foldOf i width budget r) (λ s t. masked-fold s t width budget r) (inputs-alike b settings) in
         rw (← k) (fold-lent o r e x width budget)
 
-    pub nearest-cells-alike : (ns ms ls ks : List ℕ) → length ns ≡ length ms → length ls ≡ length ks → BothNearest ns ms ls ks (nearestOf x ns ls) (nearestOf y ms ks)
+    pub nearest-cells-alike : (ns ms ls ks : List ℕ) → length ns ≡ length ms → length ls ≡ length ks
+        → BothNearest ns ms ls ks (nearestOf x ns ls) (nearestOf y ms ks)
     nearest-cells-alike ns ms ls ks e d =
-        let k : nearestOf x ms ks ≡ nearestOf y ms ks = same-by (λ (i : Input). nearestOf i ms ks) (λ s t. masked-nearest s t ms ks) (inputs-alike b settings) in
+        let k : nearestOf x ms ks ≡ nearestOf y ms ks =
+        same-by (λ (i : Input). nearestOf i ms ks) (λ s t. masked-nearest s t ms ks) (inputs-alike b settings) in
         rw (← k) (nearest-lent ns ms ls ks e d x)
 
 planned-same : {x y : PlanInput} → SamePlanInput x y → plannedOf x ≡ plannedOf y

@@ -1,4 +1,4 @@
--- Where two contents of one shape differ: only where the parts do in which they are not the same. Assumes nothing.
+-- Where two contents of one shape differ: only where the parts do in which they are not the same.
 use mathlib.Core.Path.{_≡_, refl, sym, ap, _∙_}
 use Prim.Native.Nat.{ℕ, zero, suc, _+_, _-_, _*_, _≤_, _<_}
 use native.Mathlib.Omega.{arith}
@@ -75,7 +75,13 @@ apart-through {n = n} {m} {k} {l} p q = record {
   found = λ i j h.
       let c = p .found i j h in
       let d = q .found (c .line) (c .column) (c .differ) in
-      record { line = d .line; column = d .column; line-is = omega (arith, c .line-is, d .line-is); column-is = omega (arith, c .column-is, d .column-is); differ = d .differ };
+      record {
+        line = d .line;
+        column = d .column;
+        line-is = omega (arith, c .line-is, d .line-is);
+        column-is = omega (arith, c .column-is, d .column-is);
+        differ = d .differ;
+      };
   shown = λ i j c.
       p .shown i j (record {
         line = k + c .line;
@@ -96,7 +102,8 @@ past-line {x} d i j p = ap (λ l. getD l j 0) (List·getD-eq-default x [] (omega
 
 past-column : {x : List (List ℕ)} {h w : ℕ} → Dims x h w → (i j : ℕ) → i < h → w ≤ j → byteAt x i j ≡ 0
 unfolding byteAt
-past-column {x} {h} {w} d i j p q = let e : length (getD x i []) ≡ w = every-at (λ l. length l ≡ w) x [] i (d .columns) (omega (arith, d .lines)) in List·getD-eq-default (getD x i []) 0 (omega arith)
+past-column {x} {h} {w} d i j p q = let e : length (getD x i []) ≡ w = every-at (λ l. length l ≡ w) x [] i (d .columns) (omega (arith, d .lines)) in
+    List·getD-eq-default (getD x i []) 0 (omega arith)
 
 module _ {x y : List (List ℕ)} {h w : ℕ} (c : Dims x h w) (d : Dims y h w) where
   pub differ-line : (i j : ℕ) → Differ x y i j → i < h
@@ -111,7 +118,8 @@ unfolding byteAt
 apart-under a {k} u v c = record {
   found = λ i j n.
       either k i
-      (λ p. let q : i ≡ k + (i - k) = omega arith in record { line = i - k; column = j; line-is = q; column-is = omega arith; differ = λ r. n (below u i j (i - k) q ∙ r ∙ sym (below v i j (i - k) q)) })
+      (λ p. let q : i ≡ k + (i - k) = omega arith in
+      record { line = i - k; column = j; line-is = q; column-is = omega arith; differ = λ r. n (below u i j (i - k) q ∙ r ∙ sym (below v i j (i - k) q)) })
       (λ p. absurd (n (above u i j (omega arith) ∙ sym (above v i j (omega arith)))));
   shown = λ i j p r.
       let q : j ≡ p .column = omega (arith, p .column-is) in
@@ -133,7 +141,13 @@ apart-over {u} {v} {h} a d e = record {
       (λ p.
       let q : i ≡ h + (i - h) = omega arith in
       absurd (n (ap (λ o. byteAt (u ++ a) o j) q ∙ byte-below a (i - h) j d ∙ sym (ap (λ o. byteAt (v ++ a) o j) q ∙ byte-below a (i - h) j e))))
-      (λ p. record { line = i; column = j; line-is = omega arith; column-is = omega arith; differ = λ r. n (byte-above a i j d p ∙ r ∙ sym (byte-above a i j e p)) });
+      (λ p. record {
+        line = i;
+        column = j;
+        line-is = omega arith;
+        column-is = omega arith;
+        differ = λ r. n (byte-above a i j d p ∙ r ∙ sym (byte-above a i j e p));
+      });
   shown = λ i j p r.
       let o : i ≡ p .line = omega (arith, p .line-is) in
       let q : j ≡ p .column = omega (arith, p .column-is) in
@@ -155,7 +169,8 @@ apart-right {a} {u} {v} {h} {w} c d e = record {
         column = j - w;
         line-is = omega arith;
         column-is = q;
-        differ = λ r. n (ap (λ o. byteAt (sideBySide a u) i o) q ∙ byte-right u i (j - w) c l ∙ r ∙ sym (ap (λ o. byteAt (sideBySide a v) i o) q ∙ byte-right v i (j - w) c l));
+        differ = λ r. n (ap (λ o. byteAt (sideBySide a u) i o) q ∙ byte-right u i (j - w) c l ∙ r
+            ∙ sym (ap (λ o. byteAt (sideBySide a v) i o) q ∙ byte-right v i (j - w) c l));
       })
       (λ p. absurd (n (byte-left u i j c l p ∙ sym (byte-left v i j c l p))));
   shown = λ i j p r.
@@ -173,8 +188,15 @@ apart-left {u} {v} {a} {h} {w} d e c = record {
       either w j
       (λ p.
       let q : j ≡ w + (j - w) = omega arith in
-      absurd (n (ap (λ o. byteAt (sideBySide u a) i o) q ∙ byte-right a i (j - w) d l ∙ sym (ap (λ o. byteAt (sideBySide v a) i o) q ∙ byte-right a i (j - w) e l))))
-      (λ p. record { line = i; column = j; line-is = omega arith; column-is = omega arith; differ = λ r. n (byte-left a i j d l p ∙ r ∙ sym (byte-left a i j e l p)) });
+      absurd (n (ap (λ o. byteAt (sideBySide u a) i o) q ∙ byte-right a i (j - w) d l
+      ∙ sym (ap (λ o. byteAt (sideBySide v a) i o) q ∙ byte-right a i (j - w) e l))))
+      (λ p. record {
+        line = i;
+        column = j;
+        line-is = omega arith;
+        column-is = omega arith;
+        differ = λ r. n (byte-left a i j d l p ∙ r ∙ sym (byte-left a i j e l p));
+      });
   shown = λ i j p r.
       let o : i ≡ p .line = omega (arith, p .line-is) in
       let q : j ≡ p .column = omega (arith, p .column-is) in
@@ -213,18 +235,22 @@ joined-found (l ∷ []) (m ∷ b ∷ y) c d i n = absurd (omega (arith, c .lines
 joined-found (l ∷ a ∷ x) (m ∷ []) c d i n = absurd (omega (arith, c .lines, d .lines))
 joined-found (l ∷ a ∷ x) (m ∷ b ∷ y) {w = w} c d i n =
     either w i
-    (λ p. later (i - w) (omega arith) (λ k h. joined-found (a ∷ x) (b ∷ y) (record { lines = refl; columns = c .columns .1 }) (record { lines = omega (arith, c .lines, d .lines); columns = d .columns .1 }) k h))
+    (λ p. later (i - w) (omega arith)
+    (λ k h. joined-found (a ∷ x) (b ∷ y) (record { lines = refl; columns = c .columns .1 })
+    (record { lines = omega (arith, c .lines, d .lines); columns = d .columns .1 }) k h))
     (λ p.
     record {
       line = 0;
       column = i;
       is = omega arith;
-      differ = λ e. n (List·getD-append l (10 ∷ joinLines (a ∷ x)) 0 i (omega (arith, c .columns .0)) ∙ e ∙ sym (List·getD-append m (10 ∷ joinLines (b ∷ y)) 0 i (omega (arith, d .columns .0))));
+      differ = λ e. n (List·getD-append l (10 ∷ joinLines (a ∷ x)) 0 i (omega (arith, c .columns .0)) ∙ e
+          ∙ sym (List·getD-append m (10 ∷ joinLines (b ∷ y)) 0 i (omega (arith, d .columns .0))));
     })
   where
     at : (z : List ℕ) (u : List (List ℕ)) → length z ≡ w → (k : ℕ) → i ≡ w + k → getD (z ++ (10 ∷ joinLines u)) i 0 ≡ getD (10 ∷ joinLines u) k 0
     at z u e k h = let q : i ≡ length z + k = omega arith in rw q (getD-append-add z (10 ∷ joinLines u) k 0)
 
-    later : (k : ℕ) → i ≡ w + k → ((k : ℕ) → (getD (joinLines (a ∷ x)) k 0 ≡ getD (joinLines (b ∷ y)) k 0 → ⊥) → Joined w (a ∷ x) (b ∷ y) k) → Joined w (l ∷ a ∷ x) (m ∷ b ∷ y) i
+    later : (k : ℕ) → i ≡ w + k → ((k : ℕ) → (getD (joinLines (a ∷ x)) k 0 ≡ getD (joinLines (b ∷ y)) k 0 → ⊥) → Joined w (a ∷ x) (b ∷ y) k)
+        → Joined w (l ∷ a ∷ x) (m ∷ b ∷ y) i
     later zero h r = absurd (n (at l (a ∷ x) (c .columns .0) 0 h ∙ sym (at m (b ∷ y) (d .columns .0) 0 h)))
     later (suc k) h r = joined-next w l m i k h (r k (λ e. n (at l (a ∷ x) (c .columns .0) (suc k) h ∙ e ∙ sym (at m (b ∷ y) (d .columns .0) (suc k) h))))

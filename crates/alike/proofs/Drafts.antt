@@ -1,4 +1,4 @@
--- Drafts of alike trees: equal numbers and counts from every call, and stores that stay alike. Assumes nothing.
+-- Drafts of alike trees: equal numbers and counts from every call, and stores that stay alike.
 use mathlib.Core.Path.{_≡_, refl, sym, ap, _∙_}
 use Prim.Native.Nat.{ℕ, _+_, _≤_}
 use native.Mathlib.Omega.{arith}
@@ -88,7 +88,15 @@ store-formed o fs e = record { fields = fs; others = fs; reads = e; other-reads 
 made : (n : ℕ) {fs gs : List (List ℕ)} → Fields fs → Fields gs → SameFields fs gs → length (fieldBytes fs) ≤ n → FormedStores (storeOf n fs) (storeOf n gs)
 made n {fs} {gs} p q k h =
     let l : length (fieldBytes gs) ≤ n = omega (arith, same-length k) in
-    record { fields = fs; others = gs; reads = read-store n fs p h; other-reads = read-store n gs q l; same = k; long = store-of-length n fs h ∙ sym (store-of-length n gs l) }
+    record {
+      fields = fs;
+      others = gs;
+      reads = read-store n fs p h;
+      other-reads = read-store n gs q l;
+      same = k;
+      long = store-of-length n fs h
+          ∙ sym (store-of-length n gs l);
+    }
 
 module _ {o r : List ℕ} (a : FormedStores o r) where
   abbrev fs : List (List ℕ)
@@ -117,8 +125,10 @@ module _ {o r : List ℕ} (a : FormedStores o r) where
       rw (a .reads, a .other-reads, e, ← same-has (tagFor n) (a .same)) (go (isName n) (hasTag (tagFor n) fs))
     where
       go : (c d : Bool) → FormedAnswer
-          (pick c (pick d (record { number = 0; store = storeOf (length o) (withoutTag (tagFor n) fs) }) (record { number = 19; store = o })) (record { number = 19; store = o }))
-          (pick c (pick d (record { number = 0; store = storeOf (length o) (withoutTag (tagFor n) gs) }) (record { number = 19; store = r })) (record { number = 19; store = r }))
+          (pick c (pick d (record { number = 0; store = storeOf (length o) (withoutTag (tagFor n) fs) }) (record { number = 19; store = o }))
+          (record { number = 19; store = o }))
+          (pick c (pick d (record { number = 0; store = storeOf (length o) (withoutTag (tagFor n) gs) }) (record { number = 19; store = r }))
+          (record { number = 19; store = r }))
       go true true = record { number = refl; stores = forgotten (tagFor n) }
       go true false = record { number = refl; stores = a }
       go false d = record { number = refl; stores = a }
@@ -136,18 +146,23 @@ module _ {o r : List ℕ} (a : FormedStores o r) where
           (pick c (noReturn 8 out) (record { answer = record { number = 0; count = length d }; out = d ++ drop (length d) out }))
           (pick c (noReturn 8 out) (record { answer = record { number = 0; count = length d }; out = e ++ drop (length d) out }))
       go true = nothing 8 out
-      go false = record { answer = refl; draft = rw (take-at d (drop (length d) out) (length d) refl, take-at e (drop (length d) out) (length d) (sym (length-alike s))) s }
+      go false = record {
+        answer = refl;
+        draft = rw (take-at d (drop (length d) out) (length d) refl, take-at e (drop (length d) out) (length d) (sym (length-alike s))) s;
+      }
 
   one-return : (n : ℕ) (out : List ℕ) → SameReturn (returnOf o n out) (returnOf r n out)
   unfolding returnOf
   one-return n out = rw (a .reads, a .other-reads) (go (isName n))
     where
-      go : (c : Bool) → SameReturn (pick c (returnFound (draftOf (tagFor n) fs) out) (noReturn 19 out)) (pick c (returnFound (draftOf (tagFor n) gs) out) (noReturn 19 out))
+      go : (c : Bool) → SameReturn (pick c (returnFound (draftOf (tagFor n) fs) out) (noReturn 19 out)) (pick c (returnFound (draftOf (tagFor n) gs) out)
+          (noReturn 19 out))
       go true = returned (same-found (tagFor n) (a .same)) out
       go false = nothing 19 out
 
   return-formed : (n : ℕ) (out other : List ℕ) → length out ≡ length other → BothReturn AlikeBytes out other (returnOf o n out) (returnOf r n other)
-  return-formed n out other e = let k = one-return n out in both-through AlikeBytes out other (k .answer) (k .draft) (return-lent out out refl o n) (return-lent out other e r n)
+  return-formed n out other e = let k = one-return n out in
+      both-through AlikeBytes out other (k .answer) (k .draft) (return-lent out out refl o n) (return-lent out other e r n)
 
   -- ---- save
 
@@ -162,8 +177,10 @@ module _ {o r : List ℕ} (a : FormedStores o r) where
         → FormedStores (storeOf (length o) (withoutTag k fs ++ (element k p ∷ []))) (storeOf (length o) (withoutTag k gs ++ (element k q ∷ [])))
     saved name h =
         made (length o)
-        (fields-last (withoutTag k fs) (element k p) (fields-without k fs (left-formed .good)) (element-field k p (name-tag n name)) (without-gone k fs (left-formed .good)))
-        (fields-last (withoutTag k gs) (element k q) (fields-without k gs (right-formed .good)) (element-field k q (name-tag n name)) (without-gone k gs (right-formed .good)))
+        (fields-last (withoutTag k fs) (element k p) (fields-without k fs (left-formed .good)) (element-field k p (name-tag n name))
+        (without-gone k fs (left-formed .good)))
+        (fields-last (withoutTag k gs) (element k q) (fields-without k gs (right-formed .good)) (element-field k q (name-tag n name))
+        (without-gone k gs (right-formed .good)))
         (same-last (same-without k (a .same)) pair) (omega (arith, joined-last (withoutTag k fs) (element k p)))
 
     room : (c : Bool) → isName n ≡ true → ltb (length o) (length (fieldBytes (withoutTag k fs)) + (3 + length p)) ≡ c → FormedAnswer
@@ -176,14 +193,16 @@ module _ {o r : List ℕ} (a : FormedStores o r) where
     read name (pairs.both-refused j) = record { number = refl; stores = a }
     read name (pairs.both-read t u z w h) =
         let e₁ : length r ≡ length o = sym (a .long) in
-        let e₂ : length (fieldBytes (withoutTag k gs)) + (3 + length q) ≡ length (fieldBytes (withoutTag k fs)) + (3 + length p) = omega (arith, same-length (same-without k (a .same)), length-alike b) in
+        let e₂ : length (fieldBytes (withoutTag k gs)) + (3 + length q) ≡ length (fieldBytes (withoutTag k fs)) + (3 + length p) =
+        omega (arith, same-length (same-without k (a .same)), length-alike b) in
         rw (e₁, e₂) (room (ltb (length o) (length (fieldBytes (withoutTag k fs)) + (3 + length p))) name refl)
 
     save-formed : FormedAnswer (saveOf o n p) (saveOf r n q)
     unfolding saveOf
     save-formed = rw (a .reads, a .other-reads) (go (isName n) refl)
       where
-        go : (c : Bool) → isName n ≡ c → FormedAnswer (pick c (saveTree o fs k p (readTree p)) (record { number = 19; store = o })) (pick c (saveTree r gs k q (readTree q)) (record { number = 19; store = r }))
+        go : (c : Bool) → isName n ≡ c → FormedAnswer (pick c (saveTree o fs k p (readTree p)) (record { number = 19; store = o }))
+            (pick c (saveTree r gs k q (readTree q)) (record { number = 19; store = r }))
         go true name = read name (reads-alike b)
         go false name = record { number = refl; stores = a }
 
@@ -209,9 +228,11 @@ pub forget-draft-alike : {o r : List ℕ} → AlikeStores o r → (n : ℕ) → 
 forget-draft-alike (pairs.one-store o) n = record { number = refl; stores = pairs.one-store (forgetOf o n .store) }
 forget-draft-alike (pairs.two-stores a) n = formed-answer (forget-formed a n)
 
-pub return-draft-alike : {o r : List ℕ} → AlikeStores o r → (n : ℕ) (out other : List ℕ) → length out ≡ length other → BothReturn AlikeBytes out other (returnOf o n out) (returnOf r n other)
+pub return-draft-alike : {o r : List ℕ} → AlikeStores o r → (n : ℕ) (out other : List ℕ) → length out ≡ length other
+    → BothReturn AlikeBytes out other (returnOf o n out) (returnOf r n other)
 return-draft-alike (pairs.one-store o) n out other e =
-    both-through AlikeBytes out other {y = returnOf o n out} refl (pairs.same (take (returnOf o n out .answer .count) (returnOf o n out .out))) (return-lent out out refl o n) (return-lent out other e o n)
+    both-through AlikeBytes out other {y = returnOf o n out} refl (pairs.same (take (returnOf o n out .answer .count) (returnOf o n out .out)))
+    (return-lent out out refl o n) (return-lent out other e o n)
 return-draft-alike (pairs.two-stores a) n out other e = return-formed a n out other e
 
 -- ---- series of calls

@@ -1,4 +1,4 @@
--- The mask is exact: under settings that are read, where the masked sheet or block has 1, some tree alike has any byte but 0A. Assumes nothing.
+-- The mask is exact: under settings that are read, where the masked sheet or block has 1, some tree alike has any byte but 0A.
 use mathlib.Core.Path.{_≡_, refl, sym, ap, ap₂}
 use Prim.Native.Nat.{ℕ, _≤_}
 use native.Mathlib.Omega.{arith}
@@ -96,7 +96,17 @@ module _ (settings : List ℕ) (s : Settings) (read : readSettings settings ≡ 
   frame = covered-frame v s (settings-small settings s read)
 
   pub sheet-own-exact : (i : ℕ) → getD (sheet s (masked t)) i 0 ≡ 1 → CanShow (sheet s) t i v
-  sheet-own-exact i e = record { tree = recast (covered v) (masked t); alike = covered-alike t v h; byte = has-one v (sheet-recast (covered v) (covered-keeps v h) (Covered v) s frame (covered-own v) (masked t)) i e }
+  sheet-own-exact i e =
+      record {
+        tree = recast (covered v) (masked t);
+        alike = covered-alike t v h;
+        byte = has-one v (sheet-recast (covered v) (covered-keeps v h) (Covered v) s frame (covered-own v) (masked t)) i e;
+      }
 
   pub leaf-own-exact : (n i : ℕ) → getD (leafBytes s (masked t) n) i 0 ≡ 1 → CanShow (λ (u : Tree). leafBytes s u n) t i v
-  leaf-own-exact n i e = record { tree = recast (covered v) (masked t); alike = covered-alike t v h; byte = has-one v (leaf-recast (covered v) (covered-keeps v h) (Covered v) s frame (covered-own v) (masked t) n) i e }
+  leaf-own-exact n i e =
+      record {
+        tree = recast (covered v) (masked t);
+        alike = covered-alike t v h;
+        byte = has-one v (leaf-recast (covered v) (covered-keeps v h) (Covered v) s frame (covered-own v) (masked t) n) i e;
+      }

@@ -1,5 +1,6 @@
--- The C functions (include/leg_sheet.h) for bytes that are alike: each contract's word and numbers, as c_api/src states them. The lists of places, folds and letters,
--- the printers' outputs, those of drafts and of blanked trees are the calls' own. Assumes nothing.
+-- The C functions (include/leg_sheet.h) for bytes that are alike: each contract's word and numbers, as c_api/src states them. The lists of places, folds and
+-- letters,
+-- the printers' outputs, those of drafts and of blanked trees are the calls' own.
 use mathlib.Core.Path.{_≡_, refl, sym, ap}
 use Prim.Native.Nat.{ℕ}
 use mathlib.Core.Bool.{Bool, true, false}
@@ -50,8 +51,10 @@ unfolding sizesGiven masked
 masked-sizes-given o s t = rw (nodes-recast (covered 1) mask-keeps t, masked-records s t)
 
 -- numbers that are lent one by one: written where the answer is 0, else each is as it was
-after-lent : (c : Bool) (x old other : List ℕ) → length old ≡ length x → length other ≡ length x → Lent Equal (pick c (length x) 0) old other (pick c x old) (pick c x other)
-after-lent true x old other e d = record { front = refl; rest = rw (drop-length x, ← e) (sym (drop-length old)); other-rest = rw (drop-length x, ← d) (sym (drop-length other)) }
+after-lent : (c : Bool) (x old other : List ℕ) → length old ≡ length x → length other ≡ length x
+    → Lent Equal (pick c (length x) 0) old other (pick c x old) (pick c x other)
+after-lent true x old other e d =
+    record { front = refl; rest = rw (drop-length x, ← e) (sym (drop-length old)); other-rest = rw (drop-length x, ← d) (sym (drop-length other)) }
 after-lent false x old other e d = lent-none Equal old other refl
 
 number-lent : (c : Bool) (x old other : ℕ) → Lent Equal (pick c 1 0) (old ∷ []) (other ∷ []) (pick c x old ∷ []) (pick c x other ∷ [])
@@ -59,7 +62,8 @@ number-lent true x old other = record { front = refl; rest = refl; other-rest = 
 number-lent false x old other = lent-none Equal (old ∷ []) (other ∷ []) refl
 
 module _ {p q : List ℕ} (b : AlikeBytes p q) where
-  pub leg-read-tree-alike : packed (treeAnswer (readTree p) .number) (treeAnswer (readTree p) .nodes) ≡ packed (treeAnswer (readTree q) .number) (treeAnswer (readTree q) .nodes)
+  pub leg-read-tree-alike :
+      packed (treeAnswer (readTree p) .number) (treeAnswer (readTree p) .nodes) ≡ packed (treeAnswer (readTree q) .number) (treeAnswer (readTree q) .nodes)
   leg-read-tree-alike = ap (λ (r : ReadTree). packed (r .number) (r .nodes)) (read-tree-alike b)
 
   module _ (settings : List ℕ) where
@@ -89,15 +93,21 @@ module _ {p q : List ℕ} (b : AlikeBytes p q) where
 
       -- with one number lent for the elements read
       pub leg-places-alike : (places : List ℕ) (old other : ℕ)
-          → (packed (findsOf x places o .answer .number) (findsOf x places o .answer .count) ≡ packed (findsOf y places r .answer .number) (findsOf y places r .answer .count))
-          × Lent Equal (pick (eqb (findsOf x places o .answer .number) 0) 1 0) (old ∷ []) (other ∷ []) (readAfter (findsOf x places o .answer) old ∷ []) (readAfter (findsOf y places r .answer) other ∷ [])
+          → (packed (findsOf x places o .answer .number) (findsOf x places o .answer .count)
+          ≡ packed (findsOf y places r .answer .number) (findsOf y places r .answer .count))
+          × Lent Equal (pick (eqb (findsOf x places o .answer .number) 0) 1 0) (old ∷ []) (other ∷ []) (readAfter (findsOf x places o .answer) old ∷ [])
+          (readAfter (findsOf y places r .answer) other ∷ [])
       leg-places-alike places old other =
-          let a : findsOf x places o .answer ≡ findsOf y places r .answer = find-places-alike b settings places o r e .answer in
-          (ap (λ (z : FoundPlaces). packed (z .number) (z .count)) a, rw (← a) (number-lent (eqb (findsOf x places o .answer .number) 0) (findsOf x places o .answer .steps) old other))
+          let a : findsOf x places o .answer ≡ findsOf y places r .answer = find-places-alike b settings places o r e .answer in (
+            ap (λ (z : FoundPlaces). packed (z .number) (z .count)) a,
+            rw (← a) (number-lent (eqb (findsOf x places o .answer .number) 0) (findsOf x places o .answer .steps) old other),
+          )
 
       pub leg-fold-alike : (width budget : ℕ) (old other : List ℕ) → length old ≡ 3 → length other ≡ 3
-          → (packed (foldOf x width budget o .answer .number) (foldOf x width budget o .answer .columns) ≡ packed (foldOf y width budget r .answer .number) (foldOf y width budget r .answer .columns))
-          × Lent Equal (pick (eqb (foldOf x width budget o .answer .number) 0) 3 0) old other (foundAfter (foldOf x width budget o .answer) old) (foundAfter (foldOf y width budget r .answer) other)
+          → (packed (foldOf x width budget o .answer .number) (foldOf x width budget o .answer .columns)
+          ≡ packed (foldOf y width budget r .answer .number) (foldOf y width budget r .answer .columns))
+          × Lent Equal (pick (eqb (foldOf x width budget o .answer .number) 0) 3 0) old other (foundAfter (foldOf x width budget o .answer) old)
+          (foundAfter (foldOf y width budget r .answer) other)
       leg-fold-alike width budget old other h k =
           let a : foldOf x width budget o .answer ≡ foldOf y width budget r .answer = fold-list-alike b settings width budget o r e .answer in (
             ap (λ (z : Folded). packed (z .number) (z .columns)) a,
@@ -105,17 +115,20 @@ module _ {p q : List ℕ} (b : AlikeBytes p q) where
           )
 
     pub leg-widen-alike : (ns ms ls ks : List ℕ) → length ns ≡ length ms → length ls ≡ length ks
-        → packed (nearestOf x ns ls .answer .number) (nearestOf x ns ls .answer .count) ≡ packed (nearestOf y ms ks .answer .number) (nearestOf y ms ks .answer .count)
+        → packed (nearestOf x ns ls .answer .number) (nearestOf x ns ls .answer .count)
+        ≡ packed (nearestOf y ms ks .answer .number) (nearestOf y ms ks .answer .count)
     leg-widen-alike ns ms ls ks e d = ap (λ (r : Widened). packed (r .number) (r .count)) (nearest-cells-alike b settings ns ms ls ks e d .answer)
 
     pub leg-plan-alike : (old other : List ℕ) → length old ≡ 4 → length other ≡ 4
         → (endsWord (plannedOf (planInput settings p)) ≡ endsWord (plannedOf (planInput settings q)))
-        × Lent Equal (pick (eqb (plannedOf (planInput settings p) .number) 0) 4 0) old other (endsAfter (plannedOf (planInput settings p)) old) (endsAfter (plannedOf (planInput settings q)) other)
+        × Lent Equal (pick (eqb (plannedOf (planInput settings p) .number) 0) 4 0) old other (endsAfter (plannedOf (planInput settings p)) old)
+        (endsAfter (plannedOf (planInput settings q)) other)
     leg-plan-alike old other h k =
         let a : plannedOf (planInput settings p) ≡ plannedOf (planInput settings q) = plan-sheet-alike b settings in
         (ap endsWord a, rw (← a) (after-lent (eqb (plannedOf (planInput settings p) .number) 0) (endsNumbers (plannedOf (planInput settings p))) old other h k))
 
-  pub leg-blank-alike : (ns o r : List ℕ) → length o ≡ length r → packed (blankOf p ns o .answer .number) (blankOf p ns o .answer .count) ≡ packed (blankOf q ns r .answer .number) (blankOf q ns r .answer .count)
+  pub leg-blank-alike : (ns o r : List ℕ) → length o ≡ length r
+      → packed (blankOf p ns o .answer .number) (blankOf p ns o .answer .count) ≡ packed (blankOf q ns r .answer .number) (blankOf q ns r .answer .count)
   leg-blank-alike ns o r e = ap (λ (k : Blanked). packed (k .number) (k .count)) (blank-texts-alike b ns o r e .answer)
 
 module _ {o r : List ℕ} (a : AlikeStores o r) (n : ℕ) where
@@ -125,5 +138,7 @@ module _ {o r : List ℕ} (a : AlikeStores o r) (n : ℕ) where
   pub leg-forget-draft-alike : packed (forgetOf o n .number) 0 ≡ packed (forgetOf r n .number) 0
   leg-forget-draft-alike = ap (λ (k : ℕ). packed k 0) (forget-draft-alike a n .number)
 
-  pub leg-return-draft-alike : (out other : List ℕ) → length out ≡ length other → packed (returnOf o n out .answer .number) (returnOf o n out .answer .count) ≡ packed (returnOf r n other .answer .number) (returnOf r n other .answer .count)
+  pub leg-return-draft-alike : (out other : List ℕ) → length out ≡ length other
+      → packed (returnOf o n out .answer .number) (returnOf o n out .answer .count)
+      ≡ packed (returnOf r n other .answer .number) (returnOf r n other .answer .count)
   leg-return-draft-alike out other e = ap (λ (k : Returned). packed (k .number) (k .count)) (return-draft-alike a n out other e .answer)

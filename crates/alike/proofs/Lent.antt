@@ -1,4 +1,4 @@
--- Each call looks at lent memory's length alone: with as much lent it answers the same and writes the same, and what is past that stays. Assumes nothing.
+-- Each call looks at lent memory's length alone: with as much lent it answers the same and writes the same, and what is past that stays.
 use mathlib.Core.Path.{_≡_, refl, sym, ap, subst, _∙_}
 use Prim.Native.Nat.{ℕ}
 use mathlib.Core.Bool.{Bool, true, false}
@@ -109,7 +109,8 @@ module _ (o r : List ℕ) (e : length o ≡ length r) where
   pub leaf-lent : (x : Input) (n : ℕ) → BothPrint Equal o r (leafPrintOf x n o) (leafPrintOf x n r)
   unfolding leafPrintOf
   leaf-lent (refused k) n = record { answer = refl; lent = lent-none Equal o r refl }
-  leaf-lent (given s t) n = both-pick Equal o r (tooLarge s t) (record { answer = refl; lent = lent-none Equal o r refl }) (found-lent s (leafNumbered n (leaves s t)))
+  leaf-lent (given s t) n =
+      both-pick Equal o r (tooLarge s t) (record { answer = refl; lent = lent-none Equal o r refl }) (found-lent s (leafNumbered n (leaves s t)))
 
   -- ---- places, folds, letters
 
@@ -140,7 +141,8 @@ module _ (o r : List ℕ) (e : length o ≡ length r) where
   pub fold-lent : (x : Input) (w budget : ℕ) → BothFold o r (foldOf x w budget o) (foldOf x w budget r)
   unfolding foldOf
   fold-lent (refused k) w budget = record { answer = refl; lent = lent-none Equal o r refl }
-  fold-lent (given s t) w budget = both-pick Equal o r (list? t) (cells-lent s w budget (naturals s (listedTrees t))) (record { answer = refl; lent = lent-none Equal o r refl })
+  fold-lent (given s t) w budget =
+      both-pick Equal o r (list? t) (cells-lent s w budget (naturals s (listedTrees t))) (record { answer = refl; lent = lent-none Equal o r refl })
 
   -- ---- drafts and blanked trees
 
@@ -171,7 +173,8 @@ module _ (o r : List ℕ) (e : length o ≡ length r) where
 
       go : (x : ReadOne) → BothBlank Equal o r (blankIn x ns o) (blankIn x ns r)
       go (ReadOne.refused k) = record { answer = refl; lent = lent-none Equal o r refl }
-      go (ReadOne.one t z n) = both-pick Equal o r (allCells (cellFlags t) ns) (to (bytesOf (blanked (dotsFor ns) 0 t))) (record { answer = refl; lent = lent-none Equal o r refl })
+      go (ReadOne.one t z n) =
+          both-pick Equal o r (allCells (cellFlags t) ns) (to (bytesOf (blanked (dotsFor ns) 0 t))) (record { answer = refl; lent = lent-none Equal o r refl })
 
   -- ---- the C functions that write numbers
 
@@ -187,7 +190,8 @@ module _ (o r : List ℕ) (e : length o ≡ length r) where
       go true = none-given 8
       go false = record { word = refl; many = length numbers; lent = lent-same o r (length numbers) numbers refl }
 
-  given-pick : (c : Bool) (count k : ℕ) (numbers : List ℕ) → BothGive o r (pick c (offered count numbers o) (refusal k o)) (pick c (offered count numbers r) (refusal k r))
+  given-pick : (c : Bool) (count k : ℕ) (numbers : List ℕ)
+      → BothGive o r (pick c (offered count numbers o) (refusal k o)) (pick c (offered count numbers r) (refusal k r))
   given-pick true count k numbers = offer-lent count numbers
   given-pick false count k numbers = none-given k
 
@@ -214,8 +218,20 @@ module _ (ns ms ls ks : List ℕ) (e : length ns ≡ length ms) (d : length ls �
       none-near k = record { answer = refl; nodes = lent-none Equal ns ms refl; letters = lent-none Equal ls ks refl }
 
       go : (b c : Bool) → BothNearest ns ms ls ks
-          (pick b (noNearest 8 ns ls) (pick c (noNearest 8 ns ls) (record { answer = record { number = 0; count = length l }; nodes = nodesOf l ++ drop (length l) ns; letters = lettersOf l ++ drop (length l) ls })))
-          (pick b (noNearest 8 ms ks) (pick c (noNearest 8 ms ks) (record { answer = record { number = 0; count = length l }; nodes = nodesOf l ++ drop (length l) ms; letters = lettersOf l ++ drop (length l) ks })))
+          (pick b (noNearest 8 ns ls)
+          (pick c (noNearest 8 ns ls)
+          (record {
+            answer = record { number = 0; count = length l };
+            nodes = nodesOf l ++ drop (length l) ns;
+            letters = lettersOf l ++ drop (length l) ls;
+          })))
+          (pick b (noNearest 8 ms ks)
+          (pick c (noNearest 8 ms ks)
+          (record {
+            answer = record { number = 0; count = length l };
+            nodes = nodesOf l ++ drop (length l) ms;
+            letters = lettersOf l ++ drop (length l) ks;
+          })))
       go true c = none-near 8
       go false true = none-near 8
       go false false = record {

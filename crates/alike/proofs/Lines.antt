@@ -1,4 +1,4 @@
--- `alike-is`: the mask compares just what document 02, 14 asks, the lines' lengths. Assumes nothing.
+-- `alike-is`: the mask compares just what document 02, 14 asks, the lines' lengths.
 use mathlib.Core.Path.{_≡_, refl, sym, ap, ap₂, _∙_}
 use mathlib.Core.Logic.{_↔_}
 use Prim.Native.Nat.{ℕ, suc}

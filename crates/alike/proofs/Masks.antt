@@ -1,4 +1,4 @@
--- What depends on a tree through its mask alone is equal for alike trees. Assumes nothing.
+-- What depends on a tree through its mask alone is equal for alike trees.
 use mathlib.Core.Path.{_≡_, refl, sym, ap, _∙_}
 use mathlib.Core.Logic.{_⊎_, inl, inr}
 use Prim.Native.Nat.{ℕ}

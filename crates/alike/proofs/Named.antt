@@ -1,4 +1,4 @@
--- Some Cells alone: the sheets and blocks of trees that differ in no other texts agree outside those texts' own bytes; those of a blanked tree have dots there. Assumes nothing.
+-- Some Cells alone: the sheets and blocks of trees that differ in no other texts agree outside those texts' own bytes; those of a blanked tree have dots there.
 use mathlib.Core.Path.{_≡_, refl, sym, ap, ap₂, _∙_}
 use Prim.Native.Nat.{ℕ, suc, _+_, _<_}
 use native.Mathlib.Omega.{arith}
@@ -90,18 +90,22 @@ module _ (some : ℕ → Bool) (s : Settings) (r : Ranges s) (t u : Tree) (p : T
       let l = sheet-lengths s t u (alike-in some t u e) in
       outside-same s r (sheet s) (λ f keep R a own v. sheet-recast f keep R s a own v) some t p i h k
       ∙ ap (λ (v : Tree). getD (sheet s v) i 0) e
-      ∙ sym (outside-same s r (sheet s) (λ f keep R a own v. sheet-recast f keep R s a own v) some u q i (omega arith) (λ z. k (ap (λ (v : Tree). getD (sheet s v) i 0) e ∙ z)))
+      ∙ sym (outside-same s r (sheet s) (λ f keep R a own v. sheet-recast f keep R s a own v) some u q i (omega arith)
+      (λ z. k (ap (λ (v : Tree). getD (sheet s v) i 0) e ∙ z)))
 
-  pub leaves-agree-in : (n i : ℕ) → i < length (leafBytes s t n) → (getD (leafBytes s (maskedIn some t) n) i 0 ≡ 1 → ⊥) → getD (leafBytes s t n) i 0 ≡ getD (leafBytes s u n) i 0
+  pub leaves-agree-in : (n i : ℕ) → i < length (leafBytes s t n) → (getD (leafBytes s (maskedIn some t) n) i 0 ≡ 1 → ⊥)
+      → getD (leafBytes s t n) i 0 ≡ getD (leafBytes s u n) i 0
   leaves-agree-in n i h k =
       let l = leaf-lengths s t u (alike-in some t u e) n in
       outside-same s r (λ (v : Tree). leafBytes s v n) (λ f keep R a own v. leaf-recast f keep R s a own v n) some t p i h k
       ∙ ap (λ (v : Tree). getD (leafBytes s v n) i 0) e
-      ∙ sym (outside-same s r (λ (v : Tree). leafBytes s v n) (λ f keep R a own v. leaf-recast f keep R s a own v n) some u q i (omega arith) (λ z. k (ap (λ (v : Tree). getD (leafBytes s v n) i 0) e ∙ z)))
+      ∙ sym (outside-same s r (λ (v : Tree). leafBytes s v n) (λ f keep R a own v. leaf-recast f keep R s a own v n) some u q i (omega arith)
+      (λ z. k (ap (λ (v : Tree). getD (leafBytes s v n) i 0) e ∙ z)))
 
 -- ---- the printers
 
-module _ (some : ℕ → Bool) (settings p q : List ℕ) (s : Settings) (t u : Tree) (x : inputOf settings p ≡ given s t) (y : inputOf settings q ≡ given s u) (e : maskedIn some t ≡ maskedIn some u)
+module _ (some : ℕ → Bool) (settings p q : List ℕ) (s : Settings) (t u : Tree) (x : inputOf settings p ≡ given s t) (y : inputOf settings q ≡ given s u)
+    (e : maskedIn some t ≡ maskedIn some u)
     (o r : List ℕ) (l : length o ≡ length r) where
   pub print-sheet-in : BothPrint (Agree (SheetOwnIn some (given s t))) o r (sheetOf (inputOf settings p) o) (sheetOf (inputOf settings q) r)
   print-sheet-in =
@@ -114,7 +118,8 @@ module _ (some : ℕ → Bool) (settings p q : List ℕ) (s : Settings) (t u : T
       (sheet-outs-by s t u h o i (λ c j. sheets-agree-in some s (a .ranges) t u (a .got .texts) (b .got .texts) e i j (λ z. d (c, z)))))
       (sheet-lent o o refl (given s t)) (sheet-lent o r l (given s u)))
 
-  pub print-leaf-in : (n : ℕ) → BothPrint (Agree (LeafOwnIn some (given s t) n)) o r (leafPrintOf (inputOf settings p) n o) (leafPrintOf (inputOf settings q) n r)
+  pub print-leaf-in : (n : ℕ)
+      → BothPrint (Agree (LeafOwnIn some (given s t) n)) o r (leafPrintOf (inputOf settings p) n o) (leafPrintOf (inputOf settings q) n r)
   print-leaf-in n =
       let a = takes settings p s t x in
       let b = takes settings q s u y in
@@ -131,7 +136,9 @@ module _ (some : ℕ → Bool) (settings p q : List ℕ) (s : Settings) (t u : T
 printed-at : (bytes r : List ℕ) (i v : ℕ) → (v ≡ 0 → ⊥) → printTo bytes r .answer .number ≡ 0 → getD bytes i 0 ≡ v → getD (printTo bytes r .out) i 0 ≡ v
 printed-at bytes r i v k n e = go (ltb (length r) (length bytes)) n (ltb i (length bytes)) refl
   where
-    go : (c : Bool) → pick c (noPrint 8 r) (record { answer = record { number = 0; count = length bytes }; out = bytes ++ drop (length bytes) r }) .answer .number ≡ 0 → (d : Bool) → ltb i (length bytes) ≡ d
+    go : (c : Bool) → pick c (noPrint 8 r) (record
+        { answer = record { number = 0; count = length bytes }; out = bytes ++ drop (length bytes) r }) .answer .number ≡ 0 → (d :
+        Bool) → ltb i (length bytes) ≡ d
         → getD (pick c (noPrint 8 r) (record { answer = record { number = 0; count = length bytes }; out = bytes ++ drop (length bytes) r }) .out) i 0 ≡ v
     go true z d h = absurd (omega arith)
     go false z true h = List·getD-append bytes (drop (length bytes) r) 0 i (ltb-true i (length bytes) h) ∙ e
@@ -146,7 +153,8 @@ sheet-dots some s g t x r n i own =
     let m : printTo (sheet s u) r .answer .number ≡ 0 = rw e at n in
     rw e (printed-at (sheet s u) r i 46 (λ z. omega arith) m (own-dot s g (sheet s) (λ f keep R a k v. sheet-recast f keep R s a k v) some t x i (own .1)))
 
-pub paper-dots : (tree ns o : List ℕ) → blankOf tree ns o .answer .number ≡ 0 → (settings r : List ℕ) → sheetOf (inputOf settings (blankWritten (blankOf tree ns o))) r .answer .number ≡ 0
+pub paper-dots : (tree ns o : List ℕ) → blankOf tree ns o .answer .number ≡ 0 → (settings r : List ℕ)
+    → sheetOf (inputOf settings (blankWritten (blankOf tree ns o))) r .answer .number ≡ 0
     → (i : ℕ) → SheetOwnIn (dotsFor ns) (inputOf settings tree) i → getD (sheetOf (inputOf settings (blankWritten (blankOf tree ns o))) r .out) i 0 ≡ 46
 unfolding inputOf
 paper-dots tree ns o h settings r =
@@ -154,7 +162,9 @@ paper-dots tree ns o h settings r =
     let g = tree-sound tree (k .tree-is) (k .size) (k .count) (k .reads) in
     rw (k .reads, k .accepted) (go (readSettings settings) refl (k .tree-is) (k .size) (k .count) (g .texts))
   where
-    go : (x : Parsed) → readSettings settings ≡ x → (t : Tree) (z n : ℕ) → Texts t → sheetOf (settingsInput x (ReadOne.one (blanked (dotsFor ns) 0 t) z n)) r .answer .number ≡ 0
-        → (i : ℕ) → SheetOwnIn (dotsFor ns) (settingsInput x (ReadOne.one t z n)) i → getD (sheetOf (settingsInput x (ReadOne.one (blanked (dotsFor ns) 0 t) z n)) r .out) i 0 ≡ 46
+    go : (x : Parsed) → readSettings settings ≡ x → (t : Tree) (z n : ℕ) → Texts t
+        → sheetOf (settingsInput x (ReadOne.one (blanked (dotsFor ns) 0 t) z n)) r .answer .number ≡ 0
+        → (i : ℕ) → SheetOwnIn (dotsFor ns) (settingsInput x (ReadOne.one t z n)) i
+        → getD (sheetOf (settingsInput x (ReadOne.one (blanked (dotsFor ns) 0 t) z n)) r .out) i 0 ≡ 46
     go Parsed.refused e t z n x y i own = absurd own
     go (Parsed.read s) e t z n x y i own = sheet-dots (dotsFor ns) s (settings-small settings s e) t x r y i own

@@ -1,4 +1,4 @@
--- `one-layout`: document 02, 14, of every call. Assumes nothing.
+-- `one-layout`: document 02, 14, of every call.
 use mathlib.Core.List.{List}
 use Prim.Native.Nat.{ℕ}
 use Rattle.alike.specs.Pairs.{AlikeBytes}

@@ -1,5 +1,6 @@
--- `sheet-own-layout`, `leaf-own-layout`: the texts' own bytes of a sheet and of a block are just those that the layout gives the texts; `text-printed`: the sheet printer has written the
--- texts' bytes there. Assumes nothing.
+-- `sheet-own-layout`, `leaf-own-layout`: the texts' own bytes of a sheet and of a block are just those that the layout gives the texts; `text-printed`: the
+-- sheet printer has written the
+-- texts' bytes there.
 use mathlib.Core.Path.{_≡_, refl, sym, ap, ap₂, _∙_}
 use mathlib.Core.Logic.{_↔_, _≢_}
 use Prim.Native.Nat.{ℕ}
@@ -119,13 +120,17 @@ module _ (s : Settings) (r : Ranges s) (t : Tree) where
 
   sheet-places : (i : ℕ) → (getD (sheet s (masked t)) i 0 ≡ 1) ↔ SheetPlace s t i
   unfolding masked
-  sheet-places i =
-      (λ e. sheet-found s t (covered 1) both-masks mask-keeps both-keep masks-differ i (one-differs sheet-over i e), λ p. differs-one sheet-over i (sheet-shown s t (covered 1) both-masks mask-keeps both-keep masks-differ i p))
+  sheet-places i = (
+    λ e. sheet-found s t (covered 1) both-masks mask-keeps both-keep masks-differ i (one-differs sheet-over i e),
+    λ p. differs-one sheet-over i (sheet-shown s t (covered 1) both-masks mask-keeps both-keep masks-differ i p),
+  )
 
   leaf-places : (n i : ℕ) → (getD (leafBytes s (masked t) n) i 0 ≡ 1) ↔ BlockPlace s t n i
   unfolding masked
-  leaf-places n i =
-      (λ e. leaf-apart s t (covered 1) both-masks mask-keeps both-keep masks-differ n i (one-differs (leaf-over n) i e), λ p. differs-one (leaf-over n) i (leaf-shown s t (covered 1) both-masks mask-keeps both-keep masks-differ n i p))
+  leaf-places n i = (
+    λ e. leaf-apart s t (covered 1) both-masks mask-keeps both-keep masks-differ n i (one-differs (leaf-over n) i e),
+    λ p. differs-one (leaf-over n) i (leaf-shown s t (covered 1) both-masks mask-keeps both-keep masks-differ n i p),
+  )
 
 same-given : {s u : Settings} {t v : Tree} → given s t ≡ given u v → (s ≡ u) × (t ≡ v)
 same-given e = (cc, cc)
@@ -150,7 +155,8 @@ module _ (settings tree : List ℕ) where
   leaf-own-layout n i = own-leaf-case (inputOf settings tree) refl n i
 
   -- there the sheet printer has written that byte of the text
-  pub text-printed : (o : List ℕ) → sheetOf (inputOf settings tree) o .answer .number ≡ 0 → (s : Settings) (t : Tree) → inputOf settings tree ≡ given s t → {i : ℕ} (p : SheetPlace s t i)
+  pub text-printed : (o : List ℕ) → sheetOf (inputOf settings tree) o .answer .number ≡ 0 → (s : Settings) (t : Tree) → inputOf settings tree ≡ given s t
+      → {i : ℕ} (p : SheetPlace s t i)
       → getD (bytesWritten (sheetOf (inputOf settings tree) o)) i 0 ≡ getD (getD (lines (p .leaf .text)) (p .text .row) []) (p .text .byte) 0
   text-printed o h s t e {i} p =
       let a = sheet-printed settings tree o h in

@@ -1,4 +1,4 @@
--- What the calls are handed for bytes that are alike: the same refusal, or alike trees. The bytes of alike trees, and of alike planning trees, are. Assumes nothing.
+-- What the calls are handed for bytes that are alike: the same refusal, or alike trees. The bytes of alike trees, and of alike planning trees, are.
 use mathlib.Core.Path.{_≡_, refl, sym, ap, ap₂, _∙_}
 use Prim.Native.Nat.{ℕ, _+_, _≤_}
 use native.Mathlib.Omega.{arith}
@@ -101,14 +101,16 @@ empty-alike : (s r : List ℕ) → length s ≡ 0 → length r ≡ 0 → AlikeBy
 empty-alike s r e d = rw (nothing s e, nothing r d) (pairs.same [])
 
 -- whole elements of one tag, whose contents are as long
-same-front : (s r : List ℕ) → 3 + lengthAt s ≤ length s → 3 + lengthAt r ≤ length r → getD s 0 0 ≡ getD r 0 0 → length (contents s) ≡ length (contents r) → SameFront s r
+same-front : (s r : List ℕ) → 3 + lengthAt s ≤ length s → 3 + lengthAt r ≤ length r → getD s 0 0 ≡ getD r 0 0 → length (contents s) ≡ length (contents r)
+    → SameFront s r
 same-front s r h k t e = record { tag = t; long = omega (arith, contents-length s h, contents-length r k); whole = h; other-whole = k }
 
 mask-lengths : (x y : List ℕ) → map (covered 1) x ≡ map (covered 1) y → length x ≡ length y
 mask-lengths x y e = sym (length-map x (covered 1)) ∙ ap length e ∙ length-map y (covered 1)
 
 abbrev Behind : Plan → Plan → Type 0
-Behind p q = (s r : List ℕ) → PlanEncodes p s → PlanEncodes q r → planRecast (covered 1) p ≡ planRecast (covered 1) q → PlanTexts p → PlanTexts q → AlikeBytes (afterElement s) (afterElement r) → AlikeBytes s r
+Behind p q = (s r : List ℕ) → PlanEncodes p s → PlanEncodes q r → planRecast (covered 1) p ≡ planRecast (covered 1) q → PlanTexts p → PlanTexts q
+    → AlikeBytes (afterElement s) (afterElement r) → AlikeBytes s r
 
 cells-front : (x y : List ℕ) → Behind (Plan.cell x) (Plan.cell y)
 unfolding PlanEncodes planRecast PlanTexts
@@ -123,7 +125,8 @@ ranges-front a b c d a′ b′ c′ d′ s r k l e x y z =
     let m : contents s ≡ contents r = k .2 ∙ range-in e ∙ sym (l .2) in
     pairs.kept (same-front s r (k .0) (l .0) (k .1 ∙ sym (l .1)) (ap length m)) m z
 
-groups-front : (x y : Axis) (ps qs : Plans) → (s r : List ℕ) → PlanEncodes (Plan.group x ps) s → PlanEncodes (Plan.group y qs) r → x ≡ y → AlikeBytes (contents s) (contents r) → AlikeBytes (afterElement s) (afterElement r) → AlikeBytes s r
+groups-front : (x y : Axis) (ps qs : Plans) → (s r : List ℕ) → PlanEncodes (Plan.group x ps) s → PlanEncodes (Plan.group y qs) r → x ≡ y
+    → AlikeBytes (contents s) (contents r) → AlikeBytes (afterElement s) (afterElement r) → AlikeBytes s r
 unfolding PlanEncodes
 groups-front x y ps qs s r k l e m z = pairs.group x (same-front s r (k .0) (l .0) (k .1 ∙ ap tagOf e ∙ sym (l .1)) (length-alike m)) (k .1) m z
 
@@ -142,12 +145,14 @@ mutual
   front-alike (Plan.group x ps) (Plan.group y qs) = λ s r k l e m n z.
       groups-front x y ps qs s r k l (group-in e .0) (fronts-alike ps qs (contents s) (contents r) (k .2) (l .2) (group-in e .1) m n) z
 
-  fronts-alike : (ps qs : Plans) (s r : List ℕ) → PlanEncodesAll ps s → PlanEncodesAll qs r → planRecast* (covered 1) ps ≡ planRecast* (covered 1) qs → PlanTexts* ps → PlanTexts* qs → AlikeBytes s r
+  fronts-alike : (ps qs : Plans) (s r : List ℕ) → PlanEncodesAll ps s → PlanEncodesAll qs r → planRecast* (covered 1) ps ≡ planRecast* (covered 1) qs
+      → PlanTexts* ps → PlanTexts* qs → AlikeBytes s r
   fronts-alike Plans.none Plans.none = λ s r k l e m n. empty-alike s r k l
   fronts-alike Plans.none (Plans.more q qs) = λ s r k l e m n. clash (cc)
   fronts-alike (Plans.more p ps) Plans.none = λ s r k l e m n. clash (cc)
   fronts-alike (Plans.more p ps) (Plans.more q qs) = λ s r k l e m n.
-      front-alike p q s r (k .0) (l .0) (more-in e .0) (m .0) (n .0) (fronts-alike ps qs (afterElement s) (afterElement r) (k .1) (l .1) (more-in e .1) (m .1) (n .1))
+      front-alike p q s r (k .0) (l .0) (more-in e .0) (m .0) (n .0)
+      (fronts-alike ps qs (afterElement s) (afterElement r) (k .1) (l .1) (more-in e .1) (m .1) (n .1))
 
 no-more : (s : List ℕ) → 3 + lengthAt s ≡ length s → length (afterElement s) ≡ 0
 no-more s e = rw e (ap length (drop-length s))

@@ -1,4 +1,4 @@
--- The sheets, and the blocks, of a tree with its texts' bytes replaced in two ways differ just where the layout puts the texts (`SheetPlace`, `BlockPlace`). Assumes nothing.
+-- The sheets, and the blocks, of a tree with its texts' bytes replaced in two ways differ just where the layout puts the texts (`SheetPlace`, `BlockPlace`).
 use mathlib.Core.Path.{_≡_, refl, sym, ap, _∙_}
 use mathlib.Core.Logic.{_≢_}
 use Prim.Native.Nat.{ℕ, zero, suc, _+_, _-_, _*_, _<_}
@@ -50,23 +50,34 @@ module _ (m : Margin) {x y : List (List ℕ)} {h w : ℕ} (c : Dims x h w) (d : 
   margin-found i j n =
       let p = differ-line (margined-dims m c) (margined-dims m d) i j n in
       let q = differ-column (margined-dims m c) (margined-dims m d) i j n in
-      go (ltb j (m .left)) (ltb j (m .left + w)) (ltb i (m .top)) (ltb i (m .top + h)) refl refl refl refl (λ e. n (margined-byte m c i j p q ∙ e ∙ sym (margined-byte m d i j p q)))
+      go (ltb j (m .left)) (ltb j (m .left + w)) (ltb i (m .top)) (ltb i (m .top + h)) refl refl refl refl
+      (λ e. n (margined-byte m c i j p q ∙ e ∙ sym (margined-byte m d i j p q)))
     where
       go : (a b e f : Bool) → ltb j (m .left) ≡ a → ltb j (m .left + w) ≡ b → ltb i (m .top) ≡ e → ltb i (m .top + h) ≡ f
-          → (pick a (getD (m .fills) 0 0) (pick b (pick e (getD (m .fills) 2 0) (pick f (byteAt x (i - m .top) (j - m .left)) (getD (m .fills) 3 0))) (getD (m .fills) 1 0))
-          ≡ pick a (getD (m .fills) 0 0) (pick b (pick e (getD (m .fills) 2 0) (pick f (byteAt y (i - m .top) (j - m .left)) (getD (m .fills) 3 0))) (getD (m .fills) 1 0)) → ⊥)
+          → (pick a (getD (m .fills) 0 0)
+          (pick b (pick e (getD (m .fills) 2 0) (pick f (byteAt x (i - m .top) (j - m .left)) (getD (m .fills) 3 0))) (getD (m .fills) 1 0))
+          ≡ pick a (getD (m .fills) 0 0)
+          (pick b (pick e (getD (m .fills) 2 0) (pick f (byteAt y (i - m .top) (j - m .left)) (getD (m .fills) 3 0))) (getD (m .fills) 1 0)) → ⊥)
           → DifferingPlace (m .top) (m .left) x y i j
       go true b e f ae be ee fe r = absurd (r refl)
       go false false e f ae be ee fe r = absurd (r refl)
       go false true true f ae be ee fe r = absurd (r refl)
       go false true false false ae be ee fe r = absurd (r refl)
-      go false true false true ae be ee fe r = record { line = i - m .top; column = j - m .left; line-is = omega (arith, ltb-false i (m .top) ee); column-is = omega (arith, ltb-false j (m .left) ae); differ = r }
+      go false true false true ae be ee fe r =
+          record {
+            line = i - m .top;
+            column = j - m .left;
+            line-is = omega (arith, ltb-false i (m .top) ee);
+            column-is = omega (arith, ltb-false j (m .left) ae);
+            differ = r;
+          }
 
   margin-shown : (i j : ℕ) → DifferingPlace (m .top) (m .left) x y i j → Differ (margined m w x) (margined m w y) i j
   margin-shown i j p r =
       let k = differ-line c d (p .line) (p .column) (p .differ) in
       let l = differ-column c d (p .line) (p .column) (p .differ) in
-      let e : byteAt (margined m w x) (m .top + p .line) (m .left + p .column) ≡ byteAt (margined m w y) (m .top + p .line) (m .left + p .column) = rw (p .line-is, p .column-is) at r in
+      let e : byteAt (margined m w x) (m .top + p .line) (m .left + p .column) ≡ byteAt (margined m w y) (m .top + p .line) (m .left + p .column) =
+      rw (p .line-is, p .column-is) at r in
       p .differ (sym (margined-at m c (p .line) (p .column) k l) ∙ e ∙ margined-at m d (p .line) (p .column) k l)
 
 -- ---- entries of a list that is mapped
@@ -124,7 +135,8 @@ module _ (s : Settings) (t : Tree) (h : ℕ → ℕ) (keep : (b : ℕ) → eqb (
     cast-block : Dims (block s (withText (map h) (leafOf x))) (heightAt s (x .at)) (widthAt s (x .at))
     cast-block = block-dims s (withText (map h) (leafOf x)) cast-fits
 
-    cast-shows : (i j : ℕ) → i < heightAt s (x .at) → j < widthAt s (x .at) → byteAt content (x .at .line + i) (x .at .column + j) ≡ byteAt (block s (withText (map h) (leafOf x))) i j
+    cast-shows : (i j : ℕ) → i < heightAt s (x .at) → j < widthAt s (x .at)
+        → byteAt content (x .at .line + i) (x .at .column + j) ≡ byteAt (block s (withText (map h) (leafOf x))) i j
     cast-shows i j p q = sheet-shows s (recast h t) n (placed h x) (cast-elem n x is) i j p q
 
 -- ---- two ways
@@ -140,7 +152,8 @@ record ContentPlace (s : Settings) (t : Tree) (l k : ℕ) : Type 0 where
   line-is : l ≡ leaf .at .line + line
   column-is : k ≡ leaf .at .column + column
 
-module _ (s : Settings) (t : Tree) (f g : ℕ → ℕ) (keep : (b : ℕ) → eqb (f b) 10 ≡ eqb b 10) (keep′ : (b : ℕ) → eqb (g b) 10 ≡ eqb b 10) (two : (b : ℕ) → b ≢ 10 → f b ≢ g b) where
+module _ (s : Settings) (t : Tree) (f g : ℕ → ℕ) (keep : (b : ℕ) → eqb (f b) 10 ≡ eqb b 10) (keep′ : (b : ℕ) → eqb (g b) 10 ≡ eqb b 10)
+    (two : (b : ℕ) → b ≢ 10 → f b ≢ g b) where
   -- the contents
   abbrev one : List (List ℕ)
   one = content s t f keep
@@ -169,14 +182,16 @@ module _ (s : Settings) (t : Tree) (f g : ℕ → ℕ) (keep : (b : ℕ) → eqb
 
     in-leaf : Covers s x l k → ContentPlace s t l k
     in-leaf c =
-        in-block (l - x .at .line) (k - x .at .column) (omega (arith, c .from-line)) (omega (arith, c .from-column)) (omega (arith, c .from-line, c .to-line)) (omega (arith, c .from-column, c .to-column))
+        in-block (l - x .at .line) (k - x .at .column) (omega (arith, c .from-line)) (omega (arith, c .from-column)) (omega (arith, c .from-line, c .to-line))
+        (omega (arith, c .from-column, c .to-column))
 
   content-found : (l k : ℕ) → Differ one other l k → ContentPlace s t l k
   content-found l k n =
       let p = differ-line (content-dims s t f keep) (content-dims s t g keep′) l k n in
       let q = differ-column (content-dims s t f keep) (content-dims s t g keep′) l k n in
       let o = tiling s (recast f t) l k (rw (cast-tall s t f keep) p) (rw (cast-wide s t f keep) q) in
-      elem-unmap (placed f) (leaves s t) (o .index) (o .leaf) (rw (cast-leaves s t f keep) at (o .stands)) (λ x e d. in-leaf (o .index) x e l k n (covered x (o .leaf) d (o .covered)))
+      elem-unmap (placed f) (leaves s t) (o .index) (o .leaf) (rw (cast-leaves s t f keep) at (o .stands))
+      (λ x e d. in-leaf (o .index) x e l k n (covered x (o .leaf) d (o .covered)))
     where
       covered : (x y : Placed) → placed f x ≡ y → Covers s y l k → Covers s x l k
       covered x y e c = let z : y .at ≡ x .at = sym (ap (λ (v : Placed). v .at) e) in
@@ -193,8 +208,10 @@ module _ (s : Settings) (t : Tree) (f g : ℕ → ℕ) (keep : (b : ℕ) → eqb
       let d = text-shown s f g keep keep′ two (leafOf x) (leaf-fits (c .index) x (c .stands)) (c .line) (c .column) (c .text) in
       let p = differ-line (cast-block s t f keep (c .index) x (c .stands)) (cast-block s t g keep′ (c .index) x (c .stands)) (c .line) (c .column) d in
       let q = differ-column (cast-block s t f keep (c .index) x (c .stands)) (cast-block s t g keep′ (c .index) x (c .stands)) (c .line) (c .column) d in
-      let r : byteAt one (x .at .line + c .line) (x .at .column + c .column) ≡ byteAt other (x .at .line + c .line) (x .at .column + c .column) = rw (c .line-is, c .column-is) at e in
-      d (sym (cast-shows s t f keep (c .index) x (c .stands) (c .line) (c .column) p q) ∙ r ∙ cast-shows s t g keep′ (c .index) x (c .stands) (c .line) (c .column) p q)
+      let r : byteAt one (x .at .line + c .line) (x .at .column + c .column) ≡ byteAt other (x .at .line + c .line) (x .at .column + c .column) =
+      rw (c .line-is, c .column-is) at e in
+      d (sym (cast-shows s t f keep (c .index) x (c .stands) (c .line) (c .column) p q) ∙ r
+      ∙ cast-shows s t g keep′ (c .index) x (c .stands) (c .line) (c .column) p q)
 
   -- ---- the sheets
 
@@ -220,9 +237,21 @@ module _ (s : Settings) (t : Tree) (f g : ℕ → ℕ) (keep : (b : ℕ) → eqb
       let a = found-leaf s t (p .node) (p .leaf) (p .named) in
       let l = p .leaf .at .line + p .line in
       let k = p .leaf .at .column + p .column in
-      let c = content-shown l k (record { index = a .index; leaf = p .leaf; stands = a .stands; line = p .line; column = p .column; text = p .text; line-is = refl; column-is = refl }) in
-      let m = margin-shown (s .margin) (content-dims s t f keep) (content-dims s t g keep′) (s .margin .top + l) (s .margin .left + k) (record { line = l; column = k; line-is = refl; column-is = refl; differ = c }) in
-      joined-shown (cast-dims s t f keep) (cast-dims s t g keep′) i (record { line = s .margin .top + l; column = s .margin .left + k; is = p .place; differ = m }) (rw (cast-sheet s t f keep, cast-sheet s t g keep′) at e)
+      let c = content-shown l k
+      (record {
+        index = a .index;
+        leaf = p .leaf;
+        stands = a .stands;
+        line = p .line;
+        column = p .column;
+        text = p .text;
+        line-is = refl;
+        column-is = refl;
+      }) in
+      let m = margin-shown (s .margin) (content-dims s t f keep) (content-dims s t g keep′) (s .margin .top + l) (s .margin .left + k)
+      (record { line = l; column = k; line-is = refl; column-is = refl; differ = c }) in
+      joined-shown (cast-dims s t f keep) (cast-dims s t g keep′) i (record
+      { line = s .margin .top + l; column = s .margin .left + k; is = p .place; differ = m }) (rw (cast-sheet s t f keep, cast-sheet s t g keep′) at e)
 
 -- ---- the block of one leaf
 
@@ -244,7 +273,8 @@ module _ (s : Settings) (t : Tree) (h : ℕ → ℕ) (keep : (b : ℕ) → eqb (
   unfolding leafBytes
   cast-bytes y e = rw (cast-leaves s t h keep, cast-numbered h n (leaves s t), e)
 
-module _ (s : Settings) (t : Tree) (f g : ℕ → ℕ) (keep : (b : ℕ) → eqb (f b) 10 ≡ eqb b 10) (keep′ : (b : ℕ) → eqb (g b) 10 ≡ eqb b 10) (two : (b : ℕ) → b ≢ 10 → f b ≢ g b) (n : ℕ) where
+module _ (s : Settings) (t : Tree) (f g : ℕ → ℕ) (keep : (b : ℕ) → eqb (f b) 10 ≡ eqb b 10) (keep′ : (b : ℕ) → eqb (g b) 10 ≡ eqb b 10)
+    (two : (b : ℕ) → b ≢ 10 → f b ≢ g b) (n : ℕ) where
   pub leaf-apart : (i : ℕ) → (getD (leafBytes s (recast f t) n) i 0 ≡ getD (leafBytes s (recast g t) n) i 0 → ⊥) → BlockPlace s t n i
   leaf-apart i d = go (leafNumbered n (leaves s t)) refl
     where
@@ -252,7 +282,8 @@ module _ (s : Settings) (t : Tree) (f g : ℕ → ℕ) (keep : (b : ℕ) → eqb
       go none e = absurd (d (rw (cast-bytes s t f keep n none e, cast-bytes s t g keep′ n none e)))
       go (some x) e =
           let a = found-leaf s t n x e in
-          let j = joined-found _ _ (cast-block s t f keep (a .index) x (a .stands)) (cast-block s t g keep′ (a .index) x (a .stands)) i (rw (cast-bytes s t f keep n (some x) e, cast-bytes s t g keep′ n (some x) e) at d) in
+          let j = joined-found _ _ (cast-block s t f keep (a .index) x (a .stands)) (cast-block s t g keep′ (a .index) x (a .stands)) i
+          (rw (cast-bytes s t f keep n (some x) e, cast-bytes s t g keep′ n (some x) e) at d) in
           record {
             leaf = x;
             named = e;
@@ -267,5 +298,6 @@ module _ (s : Settings) (t : Tree) (f g : ℕ → ℕ) (keep : (b : ℕ) → eqb
       let x = p .leaf in
       let a = found-leaf s t n x (p .named) in
       let d = text-shown s f g keep keep′ two (leafOf x) (leaf-fits s t f g keep keep′ two (a .index) x (a .stands)) (p .line) (p .column) (p .text) in
-      joined-shown (cast-block s t f keep (a .index) x (a .stands)) (cast-block s t g keep′ (a .index) x (a .stands)) i (record { line = p .line; column = p .column; is = p .place; differ = d })
+      joined-shown (cast-block s t f keep (a .index) x (a .stands)) (cast-block s t g keep′ (a .index) x (a .stands)) i (record
+      { line = p .line; column = p .column; is = p .place; differ = d })
       (rw (cast-bytes s t f keep n (some x) (p .named), cast-bytes s t g keep′ n (some x) (p .named)) at e)

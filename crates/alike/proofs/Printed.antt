@@ -1,4 +1,4 @@
--- The printers and the program for alike trees: equal answers, and outputs that agree at every byte outside the texts' own. Assumes nothing.
+-- The printers and the program for alike trees: equal answers, and outputs that agree at every byte outside the texts' own.
 use mathlib.Core.Path.{_≡_, refl, sym, ap, _∙_}
 use Prim.Native.Nat.{ℕ, zero, suc, _≤_, _<_}
 use native.Mathlib.Omega.{arith}
@@ -50,7 +50,8 @@ append-agree (a ∷ x) [] r e i h = absurd (omega arith)
 append-agree (a ∷ x) (b ∷ y) r e zero h = h (omega arith)
 append-agree (a ∷ x) (b ∷ y) r e (suc i) h = append-agree x y r (omega arith) i (λ k. h (omega arith))
 
-print-agree : (o x y : List ℕ) → length x ≡ length y → (i : ℕ) → (i < length x → getD x i 0 ≡ getD y i 0) → getD (printTo x o .out) i 0 ≡ getD (printTo y o .out) i 0
+print-agree : (o x y : List ℕ) → length x ≡ length y → (i : ℕ) → (i < length x → getD x i 0 ≡ getD y i 0)
+    → getD (printTo x o .out) i 0 ≡ getD (printTo y o .out) i 0
 print-agree o x y e i h = rw e (go (ltb (length o) (length y)))
   where
     go : (c : Bool) → getD (pick c (noPrint 8 o) (record { answer = record { number = 0; count = length y }; out = x ++ drop (length y) o }) .out) i 0
@@ -101,7 +102,8 @@ module _ (s : Settings) (t u : Tree) (h : Alike t u) where
       go false false e = refl
 
   -- where the bytes to print agree
-  pub leaf-outs-by : (n : ℕ) (o : List ℕ) (i : ℕ) → (tooLarge s t ≡ false → i < length (leafBytes s t n) → getD (leafBytes s t n) i 0 ≡ getD (leafBytes s u n) i 0)
+  pub leaf-outs-by : (n : ℕ) (o : List ℕ) (i : ℕ)
+      → (tooLarge s t ≡ false → i < length (leafBytes s t n) → getD (leafBytes s t n) i 0 ≡ getD (leafBytes s u n) i 0)
       → getD (leafPrintOf (given s t) n o .out) i 0 ≡ getD (leafPrintOf (given s u) n o .out) i 0
   unfolding leafPrintOf leafBytes
   leaf-outs-by n o i d =
@@ -114,22 +116,26 @@ module _ (s : Settings) (t u : Tree) (h : Alike t u) where
       go false e true = print-agree o (leafBytes s t n) (leafBytes s u n) (leaf-lengths s t u h n) i (d e)
       go false e false = refl
 
-  leaf-outs : (n : ℕ) (o : List ℕ) (i : ℕ) → (LeafOwn (given s t) n i → ⊥) → getD (leafPrintOf (given s t) n o .out) i 0 ≡ getD (leafPrintOf (given s u) n o .out) i 0
+  leaf-outs : (n : ℕ) (o : List ℕ) (i : ℕ) → (LeafOwn (given s t) n i → ⊥)
+      → getD (leafPrintOf (given s t) n o .out) i 0 ≡ getD (leafPrintOf (given s u) n o .out) i 0
   leaf-outs n o i d = leaf-outs-by n o i (λ e j. leaves-agree s t u h n i j (λ z. d (e, z)))
 
   pub alike-sheet-answer : (o : List ℕ) → sheetOf (given s t) o .answer ≡ sheetOf (given s u) o .answer
   unfolding sheetOf
   alike-sheet-answer o = rw large-alike (go (tooLarge s t) (print-answer o (sheet s t) (sheet s u) (sheet-lengths s t u h)))
     where
-      go : (c : Bool) → printTo (sheet s t) o .answer ≡ printTo (sheet s u) o .answer → pick c (noPrint 6 o) (printTo (sheet s t) o) .answer ≡ pick c (noPrint 6 o) (printTo (sheet s u) o) .answer
+      go : (c : Bool) → printTo (sheet s t) o .answer ≡ printTo (sheet s u) o .answer
+          → pick c (noPrint 6 o) (printTo (sheet s t) o) .answer ≡ pick c (noPrint 6 o) (printTo (sheet s u) o) .answer
       go true e = refl
       go false e = e
 
-  pub sheet-outs-by : (o : List ℕ) (i : ℕ) → (tooLarge s t ≡ false → i < length (sheet s t) → getD (sheet s t) i 0 ≡ getD (sheet s u) i 0) → getD (sheetOf (given s t) o .out) i 0 ≡ getD (sheetOf (given s u) o .out) i 0
+  pub sheet-outs-by : (o : List ℕ) (i : ℕ) → (tooLarge s t ≡ false → i < length (sheet s t) → getD (sheet s t) i 0 ≡ getD (sheet s u) i 0)
+      → getD (sheetOf (given s t) o .out) i 0 ≡ getD (sheetOf (given s u) o .out) i 0
   unfolding sheetOf
   sheet-outs-by o i d = rw large-alike (go (tooLarge s t) refl)
     where
-      go : (c : Bool) → tooLarge s t ≡ c → getD (pick c (noPrint 6 o) (printTo (sheet s t) o) .out) i 0 ≡ getD (pick c (noPrint 6 o) (printTo (sheet s u) o) .out) i 0
+      go : (c : Bool) → tooLarge s t ≡ c
+          → getD (pick c (noPrint 6 o) (printTo (sheet s t) o) .out) i 0 ≡ getD (pick c (noPrint 6 o) (printTo (sheet s u) o) .out) i 0
       go true e = refl
       go false e = print-agree o (sheet s t) (sheet s u) (sheet-lengths s t u h) i (d e)
 
@@ -172,10 +178,12 @@ module _ {p q : List ℕ} (b : AlikeBytes p q) (settings : List ℕ) where
   abbrev y : Input
   y = inputOf settings q
 
-  one-leaf : (n : ℕ) (o : List ℕ) → (leafPrintOf x n o .answer ≡ leafPrintOf y n o .answer) × Agree (LeafOwn x n) (leafPrintOf x n o .out) (leafPrintOf y n o .out)
+  one-leaf : (n : ℕ) (o : List ℕ)
+      → (leafPrintOf x n o .answer ≡ leafPrintOf y n o .answer) × Agree (LeafOwn x n) (leafPrintOf x n o .out) (leafPrintOf y n o .out)
   one-leaf n o = go (inputs-alike b settings)
     where
-      go : {x y : Input} → SameInput x y → (leafPrintOf x n o .answer ≡ leafPrintOf y n o .answer) × Agree (LeafOwn x n) (leafPrintOf x n o .out) (leafPrintOf y n o .out)
+      go : {x y : Input} → SameInput x y
+          → (leafPrintOf x n o .answer ≡ leafPrintOf y n o .answer) × Agree (LeafOwn x n) (leafPrintOf x n o .out) (leafPrintOf y n o .out)
       go (pairs.both-refused k) = (refl, λ i d. refl)
       go (pairs.both-given s t u h) = (leaf-answers s t u h n o, leaf-outs s t u h n o)
 
@@ -189,12 +197,15 @@ module _ {p q : List ℕ} (b : AlikeBytes p q) (settings : List ℕ) where
   pub print-leaf-alike : (n : ℕ) (o r : List ℕ) → length o ≡ length r → BothPrint (Agree (LeafOwn x n)) o r (leafPrintOf x n o) (leafPrintOf y n r)
   print-leaf-alike n o r e =
       let k = one-leaf n o in
-      both-through (Agree (LeafOwn x n)) o r {y = leafPrintOf y n o} (k .0) (λ i d. take-agree (leafPrintOf x n o .answer .count) (leafPrintOf x n o .out) (leafPrintOf y n o .out) i (k .1 i d)) (leaf-lent o o refl x n) (leaf-lent o r e y n)
+      both-through (Agree (LeafOwn x n)) o r {y = leafPrintOf y n o} (k .0)
+      (λ i d. take-agree (leafPrintOf x n o .answer .count) (leafPrintOf x n o .out) (leafPrintOf y n o .out) i (k .1 i d)) (leaf-lent o o refl x n)
+      (leaf-lent o r e y n)
 
   pub print-sheet-alike : (o r : List ℕ) → length o ≡ length r → BothPrint (Agree (SheetOwn x)) o r (sheetOf x o) (sheetOf y r)
   print-sheet-alike o r e =
       let k = one-sheet o in
-      both-through (Agree (SheetOwn x)) o r {y = sheetOf y o} (k .0) (λ i d. take-agree (sheetOf x o .answer .count) (sheetOf x o .out) (sheetOf y o .out) i (k .1 i d)) (sheet-lent o o refl x) (sheet-lent o r e y)
+      both-through (Agree (SheetOwn x)) o r {y = sheetOf y o} (k .0)
+      (λ i d. take-agree (sheetOf x o .answer .count) (sheetOf x o .out) (sheetOf y o .out) i (k .1 i d)) (sheet-lent o o refl x) (sheet-lent o r e y)
 
 -- ---- the program
 
@@ -220,7 +231,8 @@ module _ {i j : List ℕ} (b : AlikeInputs i j) where
       go (pairs.both-given s t u h) d = ended-agree s t u h (refusedText 6) k d
 
   -- the buffers of `answer`, by its contract: n and m answered, u and v held before, x and y after
-  pub program-lent : (n m : ℕ) (u v x y : List ℕ) → take n x ≡ programOf i → take m y ≡ programOf j → n ≤ length x → m ≤ length y → drop n x ≡ drop n u → drop m y ≡ drop m v
+  pub program-lent : (n m : ℕ) (u v x y : List ℕ) → take n x ≡ programOf i → take m y ≡ programOf j → n ≤ length x → m ≤ length y → drop n x ≡ drop n u
+      → drop m y ≡ drop m v
       → (n ≡ m) × Lent (Agree (SheetOwn (programInput i))) n u v x y
   program-lent n m u v x y e d h k f g =
       let l : length (programOf i) ≡ n = ap length (sym e) ∙ length-take-le n x h in

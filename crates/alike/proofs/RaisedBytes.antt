@@ -1,5 +1,6 @@
--- A tree with the texts of some Cells masked, blanked or left as they are: all three are made byte by byte from one tree, in which those texts' bytes are raised by 256.
--- So where the first has the mask on a sheet the second has a dot, and elsewhere the first and the third agree. Assumes nothing.
+-- A tree with the texts of some Cells masked, blanked or left as they are: all three are made byte by byte from one tree, in which those texts' bytes are
+-- raised by 256.
+-- So where the first has the mask on a sheet the second has a dot, and elsewhere the first and the third agree.
 use mathlib.Core.Path.{_≡_, refl, sym, ap, ap₂, _∙_}
 use Prim.Native.Nat.{ℕ, suc, _+_, _-_, _≤_, _<_}
 use native.Mathlib.Omega.{arith}
@@ -82,7 +83,8 @@ lowered b = under-raised lower b ∙ go (eqb b 10) refl
 allowed : (b : ℕ) → isTextByte b ≡ true → (b < 256) × (b ≡ 1 → ⊥)
 allowed b h = go (eqb b 10) refl (ltb b 32) refl (ltb 126 b) refl h
   where
-    go : (c : Bool) → eqb b 10 ≡ c → (d : Bool) → ltb b 32 ≡ d → (e : Bool) → ltb 126 b ≡ e → pick c true (pick d false (pick e false true)) ≡ true → (b < 256) × (b ≡ 1 → ⊥)
+    go : (c : Bool) → eqb b 10 ≡ c → (d : Bool) → ltb b 32 ≡ d → (e : Bool) → ltb 126 b ≡ e → pick c true (pick d false (pick e false true)) ≡ true
+        → (b < 256) × (b ≡ 1 → ⊥)
     go true k d l e m q = let z = eqb-true b 10 k in (omega arith, λ y. omega arith)
     go false k true l e m q = let z : _≡_ {A = ℕ} 0 1 = cc in absurd (omega arith)
     go false k false l true m q = let z : _≡_ {A = ℕ} 0 1 = cc in absurd (omega arith)
@@ -115,7 +117,8 @@ module _ (g k : ℕ → ℕ) (h : (b : ℕ) → under g (raised b) ≡ k b) wher
       tree-under (cell x) = λ n e. ap cell (text-under (some n) x e)
       tree-under (group a ts) = λ n e. ap (group a) (trees-under ts (suc n) e)
 
-      trees-under : (ts : Trees) (n : ℕ) → Texts* ts → recast* (under g) (recastAt* (λ m. changed raised (some m)) n ts) ≡ recastAt* (λ m. changed k (some m)) n ts
+      trees-under : (ts : Trees) (n : ℕ) → Texts* ts
+          → recast* (under g) (recastAt* (λ m. changed raised (some m)) n ts) ≡ recastAt* (λ m. changed k (some m)) n ts
       trees-under none = λ n e. refl
       trees-under (more t ts) = λ n e. ap₂ more (tree-under t n (e .0)) (trees-under ts (n + nodes t) (e .1))
 
@@ -168,16 +171,19 @@ Made g a c = a ≡ under g c
 
 made-frame : (g : ℕ → ℕ) (s : Settings) → Ranges s → Surround (Made g) s
 made-frame g s r = record {
-  marks = λ i. under-plain g (getD (s .marks) i 0) (small-at _ _ _ (s .marks) (r .marks) (mark-small (s .lines)) i) (no-one _ _ _ (s .marks) (r .marks) (mark-range (s .lines)) i);
+  marks = λ i. under-plain g (getD (s .marks) i 0) (small-at _ _ _ (s .marks) (r .marks) (mark-small (s .lines)) i)
+      (no-one _ _ _ (s .marks) (r .marks) (mark-range (s .lines)) i);
   fills = λ i. under-plain g (getD (s .fills) i 0) (small-at _ _ _ (s .fills) (r .fills) (omega arith) i) (no-one _ _ _ (s .fills) (r .fills) printable i);
-  edges = λ i. under-plain g (getD (s .margin .fills) i 0) (small-at _ _ _ (s .margin .fills) (r .margin-fills) (omega arith) i) (no-one _ _ _ (s .margin .fills) (r .margin-fills) printable i);
+  edges = λ i. under-plain g (getD (s .margin .fills) i 0) (small-at _ _ _ (s .margin .fills) (r .margin-fills) (omega arith) i)
+      (no-one _ _ _ (s .margin .fills) (r .margin-fills) printable i);
   space = under-plain g 32 (omega arith) (λ z. omega arith);
   feed = under-plain g 10 (omega arith) (λ z. omega arith);
 }
 
 -- F: the sheet, or the block of one leaf
 module _ (s : Settings) (r : Ranges s) (F : Tree → List ℕ)
-    (cast : (f : ℕ → ℕ) → ((b : ℕ) → eqb (f b) 10 ≡ eqb b 10) → (R : ℕ → ℕ → Type 0) → Surround R s → ((b : ℕ) → R (f b) b) → (t : Tree) → Over R (F (recast f t)) (F t))
+    (cast : (f : ℕ → ℕ) → ((b : ℕ) → eqb (f b) 10 ≡ eqb b 10) → (R : ℕ → ℕ → Type 0) → Surround R s → ((b : ℕ) → R (f b) b) → (t : Tree)
+    → Over R (F (recast f t)) (F t))
     (some : ℕ → Bool) (t : Tree) (texts : Texts t) where
   -- the texts of those Cells raised
   z : Tree
@@ -228,4 +234,5 @@ module _ (s : Settings) (r : Ranges s) (F : Tree → List ℕ)
           let a : getD (F (maskedIn some t)) i 0 ≡ under hide c = over-at hidden i h in
           let b : getD (F (blanked some 0 t)) i 0 ≡ under dot c = over-at dotted i (omega (arith, over-length hidden, over-length dotted)) in
           b ∙ go c (ltb c 256) (eqb c 1) refl (sym a ∙ e)
-      by false k = let n : getD (F (maskedIn some t)) i 0 ≡ 0 = List·getD-eq-default (F (maskedIn some t)) 0 (ltb-false i (length (F (maskedIn some t))) k) in absurd (omega arith)
+      by false k = let n : getD (F (maskedIn some t)) i 0 ≡ 0 = List·getD-eq-default (F (maskedIn some t)) 0 (ltb-false i (length (F (maskedIn some t))) k) in
+          absurd (omega arith)

@@ -1,4 +1,4 @@
--- The readers answer equally for bytes that are alike, of a tree or of none: the same refusal, or alike plans of as many bytes and nodes. Assumes nothing.
+-- The readers answer equally for bytes that are alike, of a tree or of none: the same refusal, or alike plans of as many bytes and nodes.
 use mathlib.Core.Path.{_≡_, refl, sym, ap, ap₂, _∙_}
 use Prim.Native.Nat.{ℕ, zero, suc, _+_, _≤_}
 use native.Mathlib.Omega.{arith}
@@ -73,14 +73,16 @@ cells-same : (x y : List ℕ) (z n : ℕ) → lineLengths x ≡ lineLengths y �
 unfolding planMasked planRecast
 cells-same x y z n e k = rw k (go (isText y))
   where
-    go : (c : Bool) → SameOne z (pick c (PlanOne.one (Plan.cell x) z (n + 1)) (PlanOne.refused 3)) (pick c (PlanOne.one (Plan.cell y) z (n + 1)) (PlanOne.refused 3))
+    go : (c : Bool) → SameOne z (pick c (PlanOne.one (Plan.cell x) z (n + 1)) (PlanOne.refused 3)) (pick c (PlanOne.one (Plan.cell y) z (n + 1))
+        (PlanOne.refused 3))
     go true = both-read (Plan.cell x) (Plan.cell y) (n + 1) (ap Plan.cell (lines-alike x y e))
     go false = both-refused 3
 
 ranges-same : (r : List ℕ) (z n : ℕ) → SameOne z (rangeIn r z n) (rangeIn r z n)
 ranges-same r z n = go (isRange r)
   where
-    go : (c : Bool) → SameOne z (pick c (PlanOne.one (Plan.range (getD r 0 0) (getD r 1 0) (getD r 2 0) (getD r 3 0)) z (n + 1)) (PlanOne.refused 17)) (pick c (PlanOne.one (Plan.range (getD r 0 0) (getD r 1 0) (getD r 2 0) (getD r 3 0)) z (n + 1)) (PlanOne.refused 17))
+    go : (c : Bool) → SameOne z (pick c (PlanOne.one (Plan.range (getD r 0 0) (getD r 1 0) (getD r 2 0) (getD r 3 0)) z (n + 1)) (PlanOne.refused 17)) (pick c
+        (PlanOne.one (Plan.range (getD r 0 0) (getD r 1 0) (getD r 2 0) (getD r 3 0)) z (n + 1)) (PlanOne.refused 17))
     go true = both-read _ _ (n + 1) refl
     go false = both-refused 17
 
@@ -133,7 +135,8 @@ module _ (P : Bool) where
         or-fault (ltb long 3) 2 h₆ (or-fault (ltb tag 1) 2 h₅ (or-fault (ltb (lastTag P) tag) 2 h₄ (or-fault (ltb long (3 + len)) 2 h₃
         (or-fault (both (not (eqb len 4)) (eqb tag 4)) 2 h₂ (or-fault (ltb 16 d) 5 h₁ (or-fault (leb 512 n) 4 (Element tag len) o))))))
 
-    element-step : length r ≡ length s → SameFront s r → Opens (Element (getD s 0 0) (lengthAt s)) → SameOne z (elementIn P (suc f) d n s) (elementIn P (suc f) d n r)
+    element-step : length r ≡ length s → SameFront s r → Opens (Element (getD s 0 0) (lengthAt s))
+        → SameOne z (elementIn P (suc f) d n s) (elementIn P (suc f) d n r)
     element-step a t o =
         let b : getD r 0 0 ≡ getD s 0 0 = sym (t .tag) in
         let c : lengthAt r ≡ lengthAt s = sym (t .long) in
@@ -149,23 +152,34 @@ module _ (P : Bool) where
   -- ---- an element, by its tag
 
   module _ (f d n : ℕ) where
-    kept-opens : (tag len : ℕ) (s r : List ℕ) → take len (drop 3 r) ≡ take len (drop 3 s) → SameOne (3 + len) (opened P f d n s (Element tag len)) (opened P f d n r (Element tag len))
+    kept-opens : (tag len : ℕ) (s r : List ℕ) → take len (drop 3 r) ≡ take len (drop 3 s)
+        → SameOne (3 + len) (opened P f d n s (Element tag len)) (opened P f d n r (Element tag len))
     unfolding opened
     kept-opens tag len s r e = go (eqb tag 1) (eqb tag 4) (take len (drop 3 s)) (take len (drop 3 r)) e
       where
         go : (a b : Bool) (x y : List ℕ) → y ≡ x → SameOne (3 + len)
-            (elim a [ true ↦ cellIn x (3 + len) n | false ↦ elim b [ true ↦ rangeIn x (3 + len) n | false ↦ groupIn tag (3 + len) (sequenceIn P f (d + 1) (n + 1) x) ] ])
-            (elim a [ true ↦ cellIn y (3 + len) n | false ↦ elim b [ true ↦ rangeIn y (3 + len) n | false ↦ groupIn tag (3 + len) (sequenceIn P f (d + 1) (n + 1) y) ] ])
+            (elim a [
+              | true ↦ cellIn x
+                  (3 + len) n
+              | false ↦ elim b [ true ↦ rangeIn x (3 + len) n | false ↦ groupIn tag (3 + len) (sequenceIn P f (d + 1) (n + 1) x) ]
+            ])
+            (elim a [
+              | true ↦ cellIn y
+                  (3 + len) n
+              | false ↦ elim b [ true ↦ rangeIn y (3 + len) n | false ↦ groupIn tag (3 + len) (sequenceIn P f (d + 1) (n + 1) y) ]
+            ])
         go true b x y e = cells-same x y (3 + len) n (ap lineLengths (sym e)) (ap isText (sym e))
         go false true x y e = rw e (ranges-same x (3 + len) n)
         go false false x y e = rw e (groups-same tag (3 + len) (all-same (sequenceIn P f (d + 1) (n + 1) x)))
 
-    cell-opens : (tag len : ℕ) (s r : List ℕ) → tag ≡ 1 → lineLengths (take len (drop 3 s)) ≡ lineLengths (take len (drop 3 r)) → isText (take len (drop 3 s)) ≡ isText (take len (drop 3 r))
+    cell-opens : (tag len : ℕ) (s r : List ℕ) → tag ≡ 1 → lineLengths (take len (drop 3 s)) ≡ lineLengths (take len (drop 3 r))
+        → isText (take len (drop 3 s)) ≡ isText (take len (drop 3 r))
         → SameOne (3 + len) (opened P f d n s (Element tag len)) (opened P f d n r (Element tag len))
     unfolding opened
     cell-opens tag len s r t e k = rw t (cells-same (take len (drop 3 s)) (take len (drop 3 r)) (3 + len) n e k)
 
-    group-opens : (a : Axis) (tag len : ℕ) (s r : List ℕ) → tag ≡ tagOf a → SameAll (sequenceIn P f (d + 1) (n + 1) (take len (drop 3 s))) (sequenceIn P f (d + 1) (n + 1) (take len (drop 3 r)))
+    group-opens : (a : Axis) (tag len : ℕ) (s r : List ℕ) → tag ≡ tagOf a
+        → SameAll (sequenceIn P f (d + 1) (n + 1) (take len (drop 3 s))) (sequenceIn P f (d + 1) (n + 1) (take len (drop 3 r)))
         → SameOne (3 + len) (opened P f d n s (Element tag len)) (opened P f d n r (Element tag len))
     unfolding opened
     group-opens across tag len s r t k = rw t (groups-same 2 (3 + len) k)
@@ -180,7 +194,8 @@ module _ (P : Bool) where
       go : Met s r → SameOne (3 + lengthAt s) (opened P f d n s (Element (getD s 0 0) (lengthAt s))) (opened P f d n r (Element (getD s 0 0) (lengthAt s)))
       go (met-kept e) = kept-opens f d n (getD s 0 0) (lengthAt s) s r (sym (rw c at e))
       go (met-cell h e x) = cell-opens f d n (getD s 0 0) (lengthAt s) s r h (rw c at e) (rw c at x)
-      go (met-group b h k) = group-opens f d n b (getD s 0 0) (lengthAt s) s r h (ih (d + 1) (n + 1) (take (lengthAt s) (drop 3 s)) (take (lengthAt s) (drop 3 r)) (rw c at k))
+      go (met-group b h k) =
+          group-opens f d n b (getD s 0 0) (lengthAt s) s r h (ih (d + 1) (n + 1) (take (lengthAt s) (drop 3 s)) (take (lengthAt s) (drop 3 r)) (rw c at k))
 
   -- ---- a sequence
 
@@ -190,7 +205,8 @@ module _ (P : Bool) where
     follows (both-refused k) = both-stopped k
     follows (both-read p q m e) = mores-same p q e (rest m)
 
-  sequence-step : (f d n : ℕ) (s r : List ℕ) → Elements f → Sequences f → SameFront s r → Met s r → AlikeBytes (afterElement s) (afterElement r) → SameAll (sequenceIn P (suc f) d n s) (sequenceIn P (suc f) d n r)
+  sequence-step : (f d n : ℕ) (s r : List ℕ) → Elements f → Sequences f → SameFront s r → Met s r → AlikeBytes (afterElement s) (afterElement r)
+      → SameAll (sequenceIn P (suc f) d n s) (sequenceIn P (suc f) d n r)
   sequence-step f d n [] r ih₁ ih₂ t m k = absurd (omega (arith, t .whole))
   sequence-step f d n (b ∷ s) [] ih₁ ih₂ t m k = absurd (omega (arith, t .other-whole))
   sequence-step f d n (b ∷ s) (c ∷ r) ih₁ ih₂ t m k =
@@ -218,11 +234,13 @@ module _ (P : Bool) where
 
   -- ---- the whole
 
-  whole-step : (s r : List ℕ) (z : ℕ) → length r ≡ length s → lengthAt r ≡ lengthAt s → SameOne z (elementIn P (length s + 1) 1 0 s) (elementIn P (length s + 1) 1 0 r) → SamePlans (wholeIn P s) (wholeIn P r)
+  whole-step : (s r : List ℕ) (z : ℕ) → length r ≡ length s → lengthAt r ≡ lengthAt s
+      → SameOne z (elementIn P (length s + 1) 1 0 s) (elementIn P (length s + 1) 1 0 r) → SamePlans (wholeIn P s) (wholeIn P r)
   unfolding wholeIn
   whole-step s r z a b o = rw (a, b) (go (ltb 32768 (length s)) (eqb (3 + lengthAt s) (length s)))
     where
-      go : (c d : Bool) → SamePlans (pick c (PlanOne.refused 2) (pick d (elementIn P (length s + 1) 1 0 s) (PlanOne.refused 2))) (pick c (PlanOne.refused 2) (pick d (elementIn P (length s + 1) 1 0 r) (PlanOne.refused 2)))
+      go : (c d : Bool) → SamePlans (pick c (PlanOne.refused 2) (pick d (elementIn P (length s + 1) 1 0 s) (PlanOne.refused 2))) (pick c (PlanOne.refused 2)
+          (pick d (elementIn P (length s + 1) 1 0 r) (PlanOne.refused 2)))
       go true d = no-plans 2
       go false true = whole-same o
       go false false = no-plans 2

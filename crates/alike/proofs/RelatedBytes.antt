@@ -1,4 +1,4 @@
--- Two contents of the same shape whose bytes are related place by place. Assumes nothing.
+-- Two contents of the same shape whose bytes are related place by place.
 use mathlib.Core.Path.{_≡_, refl, ap}
 use Prim.Native.Nat.{ℕ, zero, suc, _-_, _<_}
 use native.Mathlib.Omega.{arith}
@@ -77,7 +77,8 @@ module _ {R : ℕ → ℕ → Type 0} where
   rows-replicate zero p = none
   rows-replicate (suc n) p = more p (rows-replicate n p)
 
-  pub rows-map : (g h : List ℕ → List ℕ) (k : List ℕ → List ℕ) → ((l : List ℕ) → Over R (g (k l)) (h l)) → (x : List (List ℕ)) → Rows R (map g (map k x)) (map h x)
+  pub rows-map : (g h : List ℕ → List ℕ) (k : List ℕ → List ℕ) → ((l : List ℕ) → Over R (g (k l)) (h l)) → (x : List (List ℕ))
+      → Rows R (map g (map k x)) (map h x)
   rows-map g h k e [] = none
   rows-map g h k e (l ∷ x) = more (e l) (rows-map g h k e x)
 

@@ -1,4 +1,4 @@
--- A tree whose texts are replaced byte for byte, line feeds staying line feeds: its sizes are the same. Assumes nothing.
+-- A tree whose texts are replaced byte for byte, line feeds staying line feeds: its sizes are the same.
 use mathlib.Core.Path.{_≡_, refl, ap, ap₂}
 use Prim.Native.Nat.{ℕ, suc, _+_}
 use mathlib.Core.Bool.{Bool, true, false}
@@ -90,7 +90,9 @@ module _ (f : ℕ → ℕ) (mask-keeps : (b : ℕ) → eqb (f b) 10 ≡ eqb b 10
 
       pub sizes-recast : (t : Tree) (z : Size) → sizes s (recast f t) z ≡ sizes s t z
       sizes-recast (cell t) = λ z. rw (leaf-size-recast s t)
-      sizes-recast (group a ts) = λ z. rw (empty-recast ts, naturals-recast ts, count-recast ts) (ap (λ (l : List Sizes). record { natural = natural s (group a ts); allotted = z } ∷ l) (sizes*-recast ts a z (spareOf s a ts z) (count ts) 0))
+      sizes-recast (group a ts) = λ z.
+          rw (empty-recast ts, naturals-recast ts, count-recast ts)
+          (ap (λ (l : List Sizes). record { natural = natural s (group a ts); allotted = z } ∷ l) (sizes*-recast ts a z (spareOf s a ts z) (count ts) 0))
 
       pub sizes*-recast : (ts : Trees) (a : Axis) (z : Size) (spare n i : ℕ) → sizes* s (recast* f ts) a z spare n i ≡ sizes* s ts a z spare n i
       sizes*-recast none = λ a z spare n i. refl

@@ -1,4 +1,4 @@
--- What the calls on sizes, places, folds, plans and letters make of a tree whose texts are replaced byte for byte, line feeds staying line feeds. Assumes nothing.
+-- What the calls on sizes, places, folds, plans and letters make of a tree whose texts are replaced byte for byte, line feeds staying line feeds.
 use mathlib.Core.Path.{_≡_, refl, ap, ap₂}
 use Prim.Native.Nat.{ℕ, suc, _+_}
 use mathlib.Core.Bool.{Bool}
@@ -57,7 +57,8 @@ module _ (f : ℕ → ℕ) (keep : (b : ℕ) → eqb (f b) 10 ≡ eqb b 10) wher
       locate-recast (cell x) = λ node p. refl
       locate-recast (group a ts) = λ node p. rw (empty-recast f keep ts, locate*-recast ts a (suc node) p 0)
 
-      locate*-recast : (ts : Trees) (a : Axis) (node : ℕ) (b : Anchor) (offset : ℕ) → locateIn gap sizes (recast* f ts) a node b offset ≡ locateIn gap sizes ts a node b offset
+      locate*-recast : (ts : Trees) (a : Axis) (node : ℕ) (b : Anchor) (offset : ℕ)
+          → locateIn gap sizes (recast* f ts) a node b offset ≡ locateIn gap sizes ts a node b offset
       locate*-recast none = λ a node b offset. refl
       locate*-recast (more t ts) = λ a node b offset. rw (empty-recast f keep ts, nodes-recast f keep t, locate-recast t, locate*-recast ts)
 

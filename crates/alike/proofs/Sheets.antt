@@ -1,4 +1,4 @@
--- The sheets and the blocks of alike trees: equal places, and bytes that agree outside the texts' own. Assumes nothing.
+-- The sheets and the blocks of alike trees: equal places, and bytes that agree outside the texts' own.
 use mathlib.Core.Path.{_≡_, sym, _∙_}
 use Prim.Native.Nat.{ℕ, _<_}
 use native.Mathlib.Omega.{arith}
@@ -37,7 +37,8 @@ module _ (f : ℕ → ℕ) (keep : (b : ℕ) → eqb (f b) 10 ≡ eqb b 10) (R :
   at-margin w k =
       let e = s .margin in
       rows-each (between e) at-between
-      (rows-append (rows-replicate (e .top) (over-replicate w (getD (e .fills) 2 0) (p .edges 2))) (rows-append k (rows-replicate (e .bottom) (over-replicate w (getD (e .fills) 3 0) (p .edges 3)))))
+      (rows-append (rows-replicate (e .top) (over-replicate w (getD (e .fills) 2 0) (p .edges 2)))
+      (rows-append k (rows-replicate (e .bottom) (over-replicate w (getD (e .fills) 3 0) (p .edges 3)))))
 
   inside-recast : (t : Tree) → insideW s (recast f t) ≡ insideW s t
   unfolding insideW
@@ -54,7 +55,8 @@ module _ (f : ℕ → ℕ) (keep : (b : ℕ) → eqb (f b) 10 ≡ eqb b 10) (R :
   found-recast n [] = none
   found-recast n (l ∷ ls) = go (eqb (l .at .node) n) (leafNumbered n (map (placed f) ls)) (leafNumbered n ls) (found-recast n ls)
     where
-      go : (c : Bool) (x y : Option Placed) → Over R (foundBytes s x) (foundBytes s y) → Over R (foundBytes s (pick c (some (placed f l)) x)) (foundBytes s (pick c (some l) y))
+      go : (c : Bool) (x y : Option Placed) → Over R (foundBytes s x) (foundBytes s y)
+          → Over R (foundBytes s (pick c (some (placed f l)) x)) (foundBytes s (pick c (some l) y))
       go true x y e = over-feeds (p .feed) (block-recast f keep R s p own (leafOf l))
       go false x y e = e
 
@@ -119,5 +121,6 @@ module _ (s : Settings) where
     pub leaf-lengths : (n : ℕ) → length (leafBytes s t n) ≡ length (leafBytes s u n)
     leaf-lengths n = sym (over-length (masked-leaf n t)) ∙ over-length (other {f = λ (v : Tree). leafBytes s v n} (masked-leaf n))
 
-    pub leaves-agree : (n i : ℕ) → i < length (leafBytes s t n) → (getD (leafBytes s (masked t) n) i 0 ≡ 1 → ⊥) → getD (leafBytes s t n) i 0 ≡ getD (leafBytes s u n) i 0
+    pub leaves-agree : (n i : ℕ) → i < length (leafBytes s t n) → (getD (leafBytes s (masked t) n) i 0 ≡ 1 → ⊥)
+        → getD (leafBytes s t n) i 0 ≡ getD (leafBytes s u n) i 0
     leaves-agree n = unders-agree (masked-leaf n t) (other {f = λ (v : Tree). leafBytes s v n} (masked-leaf n))

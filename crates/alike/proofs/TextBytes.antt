@@ -1,4 +1,4 @@
--- What is printed where the layout puts a text (`TextPlace`, `SheetPlace`) is that byte of the text. Assumes nothing.
+-- What is printed where the layout puts a text (`TextPlace`, `SheetPlace`) is that byte of the text.
 use mathlib.Core.Path.{_≡_, refl, sym, ap, _∙_}
 use Prim.Native.Nat.{ℕ, zero, suc, _+_, _-_, _≤_, _<_}
 use native.Mathlib.Omega.{arith}
@@ -55,15 +55,18 @@ module _ (s : Settings) (l : Leaf) (fits : Fits (leafSize s (l .text)) (l .size)
   unfolding textLine
   text-at x k c h e =
       let i = indent s inner (textWidth t) x in
-      behind (replicate (s .left) (getD (s .fills) 0 0)) (replicate i 32) _ 0 k (length-replicate (s .left) _) (length-replicate i 32) (omega arith) ∙ List·getD-append x _ 0 k h
+      behind (replicate (s .left) (getD (s .fills) 0 0)) (replicate i 32) _ 0 k (length-replicate (s .left) _) (length-replicate i 32) (omega arith)
+      ∙ List·getD-append x _ 0 k h
 
-  body-at : (r i c : ℕ) → r < length (lines t) → i ≡ slackBefore (s .vertical) slack + s .top + r → byteAt (body s t z) i c ≡ getD (textLine s inner (textWidth t) (getD (lines t) r [])) c 0
+  body-at : (r i c : ℕ) → r < length (lines t) → i ≡ slackBefore (s .vertical) slack + s .top + r
+      → byteAt (body s t z) i c ≡ getD (textLine s inner (textWidth t) (getD (lines t) r [])) c 0
   unfolding body byteAt
   body-at r i c h e =
       let ls = map (textLine s inner (textWidth t)) (lines t) in
       let long : r < length ls = rw (length-map (lines t) (textLine s inner (textWidth t))) h in
       ap (λ (x : List ℕ). getD x c 0)
-      (behind (replicate (slackBefore (s .vertical) slack) (replicate (z .width) 32)) (replicate (s .top) (replicate (z .width) (getD (s .fills) 2 0))) _ [] r (length-replicate (slackBefore (s .vertical) slack) _) (length-replicate (s .top) _) (omega arith)
+      (behind (replicate (slackBefore (s .vertical) slack) (replicate (z .width) 32)) (replicate (s .top) (replicate (z .width) (getD (s .fills) 2 0))) _ [] r
+      (length-replicate (slackBefore (s .vertical) slack) _) (length-replicate (s .top) _) (omega arith)
       ∙ List·getD-append ls _ [] r long
       ∙ line-at (textLine s inner (textWidth t)) (lines t) r h)
 
@@ -75,7 +78,8 @@ module _ (s : Settings) (l : Leaf) (fits : Fits (leafSize s (l .text)) (l .size)
   unfolding block byteAt
   block-at i c p =
       let e : sep s + i ≡ length (replicate (sep s) (topLine s l)) + i = ap (λ n. n + i) (sym (length-replicate (sep s) (topLine s l))) in
-      rw e (ap (λ (x : List ℕ). getD x c 0) (getD-append-add (replicate (sep s) (topLine s l)) _ i [] ∙ List·getD-append (middle s l) _ [] i (omega (arith, middle-dims s l fits .lines))))
+      rw e (ap (λ (x : List ℕ). getD x c 0)
+      (getD-append-add (replicate (sep s) (topLine s l)) _ i [] ∙ List·getD-append (middle s l) _ [] i (omega (arith, middle-dims s l fits .lines))))
 
   -- the place is within the body
   module _ {i j : ℕ} (p : TextPlace s t z i j) where
@@ -122,4 +126,5 @@ module _ (s : Settings) (t : Tree) {i : ℕ} (p : SheetPlace s t i) where
       let d = block-dims s (leafOf x) fits in
       let h : p .line < heightAt s (x .at) = below-block s (leafOf x) fits (p .text) in
       let w : p .column < widthAt s (x .at) = beside-block s (leafOf x) fits (p .text) in
-      rw (p .place) (sheet-is-blocks s t (a .index) x (a .stands) (p .line) (p .column) h w ∙ feeds-at (block s (leafOf x)) d (p .line) (p .column) h w ∙ block-text s (leafOf x) fits (p .text))
+      rw (p .place) (sheet-is-blocks s t (a .index) x (a .stands) (p .line) (p .column) h w ∙ feeds-at (block s (leafOf x)) d (p .line) (p .column) h w
+      ∙ block-text s (leafOf x) fits (p .text))

@@ -1,4 +1,4 @@
--- The blocks of a leaf with its text's bytes replaced in two ways differ just at the bytes of the text (`TextPlace`). Assumes nothing.
+-- The blocks of a leaf with its text's bytes replaced in two ways differ just at the bytes of the text (`TextPlace`).
 use mathlib.Core.Path.{_≡_, refl, sym, ap, _∙_}
 use mathlib.Core.Logic.{_≢_}
 use Prim.Native.Nat.{ℕ, zero, suc, _+_, _-_, _<_}
@@ -50,7 +50,8 @@ module _ (s : Settings) (f g : ℕ → ℕ) (two : (b : ℕ) → b ≢ 10 → f 
 
   line-is : (h : ℕ → ℕ) (l : List ℕ) → textLine s inner widest (map h l) ≡ ahead l ++ (map h l ++ after l)
   unfolding textLine indent
-  line-is h l = rw (length-map l h) (sym (append-assoc (replicate (s .left) (getD (s .fills) 0 0)) (replicate (indent s inner widest l) 32) (map h l ++ after l)))
+  line-is h l = rw (length-map l h) (sym
+      (append-assoc (replicate (s .left) (getD (s .fills) 0 0)) (replicate (indent s inner widest l) 32) (map h l ++ after l)))
 
   ahead-length : (l : List ℕ) → length (ahead l) ≡ s .left + indent s inner widest l
   ahead-length l = simp (length-append, length-replicate)
@@ -60,7 +61,8 @@ module _ (s : Settings) (f g : ℕ → ℕ) (two : (b : ℕ) → b ≢ 10 → f 
 
   line-found : (l : List ℕ) (j : ℕ) → (getD (textLine s inner widest (map f l)) j 0 ≡ getD (textLine s inner widest (map g l)) j 0 → ⊥) → InLine l j
   line-found l j n =
-      let p = part-found (ahead l) (map f l) (map g l) (after l) (same-length l) j (λ e. n (ap (λ x. getD x j 0) (line-is f l) ∙ e ∙ sym (ap (λ x. getD x j 0) (line-is g l)))) in
+      let p = part-found (ahead l) (map f l) (map g l) (after l) (same-length l) j
+      (λ e. n (ap (λ x. getD x j 0) (line-is f l) ∙ e ∙ sym (ap (λ x. getD x j 0) (line-is g l)))) in
       record { byte = p .at; within = omega (arith, p .within, length-map l f); is = omega (arith, p .is, ahead-length l) }
 
   line-shown : {l : List ℕ} → Free l → (j : ℕ) → InLine l j → getD (textLine s inner widest (map f l)) j 0 ≡ getD (textLine s inner widest (map g l)) j 0 → ⊥
@@ -70,7 +72,8 @@ module _ (s : Settings) (f g : ℕ → ℕ) (two : (b : ℕ) → b ≢ 10 → f 
         at = p .byte;
         is = omega (arith, p .is, ahead-length l);
         within = omega (arith, p .within, length-map l f);
-        differ = λ d. two (getD l (p .byte) 0) (free-at k (p .byte) (p .within)) (sym (map-at f l (p .byte) (p .within)) ∙ d ∙ map-at g l (p .byte) (p .within));
+        differ = λ d. two (getD l (p .byte) 0) (free-at k (p .byte) (p .within)) (sym (map-at f l (p .byte) (p .within)) ∙ d
+            ∙ map-at g l (p .byte) (p .within));
       })
       (sym (ap (λ x. getD x j 0) (line-is f l)) ∙ e ∙ ap (λ x. getD x j 0) (line-is g l))
 
@@ -97,7 +100,8 @@ module _ (s : Settings) (f g : ℕ → ℕ) (two : (b : ℕ) → b ≢ 10 → f 
 
 -- ---- the block
 
-module _ (s : Settings) (f g : ℕ → ℕ) (keep : (b : ℕ) → eqb (f b) 10 ≡ eqb b 10) (keep′ : (b : ℕ) → eqb (g b) 10 ≡ eqb b 10) (two : (b : ℕ) → b ≢ 10 → f b ≢ g b) (l : Leaf)
+module _ (s : Settings) (f g : ℕ → ℕ) (keep : (b : ℕ) → eqb (f b) 10 ≡ eqb b 10) (keep′ : (b : ℕ) → eqb (g b) 10 ≡ eqb b 10)
+    (two : (b : ℕ) → b ≢ 10 → f b ≢ g b) (l : Leaf)
     (fits : Fits (leafSize s (l .text)) (l .size)) where
   abbrev t : List ℕ
   t = l .text
@@ -119,7 +123,8 @@ module _ (s : Settings) (f g : ℕ → ℕ) (keep : (b : ℕ) → eqb (f b) 10 �
   text h = map (textLine s inner (textWidth t)) (map (map h) (lines t))
 
   module _ (h : ℕ → ℕ) (k : (b : ℕ) → eqb (h b) 10 ≡ eqb b 10) where
-    body-is : body s (map h t) z ≡ replicate (slackBefore (s .vertical) slack) (replicate (z .width) 32) ++ (replicate (s .top) (replicate (z .width) (getD (s .fills) 2 0)) ++ (text h ++ under))
+    body-is : body s (map h t) z ≡ replicate (slackBefore (s .vertical) slack) (replicate (z .width) 32)
+        ++ (replicate (s .top) (replicate (z .width) (getD (s .fills) 2 0)) ++ (text h ++ under))
     unfolding body
     body-is = rw (height-recast h k t, width-recast h k t, lines-recast h k t)
 
@@ -127,7 +132,8 @@ module _ (s : Settings) (f g : ℕ → ℕ) (keep : (b : ℕ) → eqb (f b) 10 �
     unfolding leafSize
     text-lines =
         let w = fits .wide in
-        let d : Dims (text h) (textHeight t) (s .left + inner + s .right) = rw (height-recast h k t, width-recast h k t, lines-recast h k t) at (text-dims s (map h t) inner (rw (width-recast h k t) (omega arith))) in
+        let d : Dims (text h) (textHeight t) (s .left + inner + s .right) =
+        rw (height-recast h k t, width-recast h k t, lines-recast h k t) at (text-dims s (map h t) inner (rw (width-recast h k t) (omega arith))) in
         dims-move d refl (omega arith)
 
     body-lines : Dims (body s (map h t) z) (z .height) (z .width)
@@ -140,31 +146,43 @@ module _ (s : Settings) (f g : ℕ → ℕ) (keep : (b : ℕ) → eqb (f b) 10 �
   body-apart =
       rw (body-is f keep, body-is g keep′)
       (apart-move
-      (apart-through (apart-under (replicate (slackBefore (s .vertical) slack) (replicate (z .width) 32)) {k = slackBefore (s .vertical) slack} _ _ (length-replicate _ _))
-      (apart-through (apart-under (replicate (s .top) (replicate (z .width) (getD (s .fills) 2 0))) {k = s .top} _ _ (length-replicate _ _)) (apart-over under (text-lines f keep) (text-lines g keep′))))
+      (apart-through (apart-under (replicate (slackBefore (s .vertical) slack) (replicate (z .width) 32)) {k = slackBefore (s .vertical) slack} _ _
+      (length-replicate _ _))
+      (apart-through (apart-under (replicate (s .top) (replicate (z .width) (getD (s .fills) 2 0))) {k = s .top} _ _ (length-replicate _ _))
+      (apart-over under (text-lines f keep) (text-lines g keep′))))
       (omega arith) (omega arith))
 
   middle-apart : Apart (middle s (withText (map f) l)) (middle s (withText (map g) l)) 0 (sep s) (body s (map f t) z) (body s (map g t) z)
   unfolding middle
   middle-apart =
       let r = edges-dims (z .height) (sep s) (l .flags .«last_col») (mark s 3) in
-      apart-move (apart-through (apart-right (left-dims (sep s) _ _ _ (z .height)) (dims-paired (body-lines f keep) r) (dims-paired (body-lines g keep′) r)) (apart-left (body-lines f keep) (body-lines g keep′) r)) (omega arith) (omega arith)
+      apart-move (apart-through (apart-right (left-dims (sep s) _ _ _ (z .height)) (dims-paired (body-lines f keep) r) (dims-paired (body-lines g keep′) r))
+      (apart-left (body-lines f keep) (body-lines g keep′) r)) (omega arith) (omega arith)
 
   block-apart : Apart (block s (withText (map f) l)) (block s (withText (map g) l)) (sep s) 0 (middle s (withText (map f) l)) (middle s (withText (map g) l))
   unfolding block topLine bottomLine
   block-apart =
       apart-move
-      (apart-through (apart-under (replicate (sep s) (topLine s l)) _ _ (length-replicate (sep s) (topLine s l))) (apart-over (replicate (pick (l .flags .«last_row») (sep s) 0) (bottomLine s l)) (middle-lines f keep) (middle-lines g keep′)))
+      (apart-through (apart-under (replicate (sep s) (topLine s l)) _ _ (length-replicate (sep s) (topLine s l)))
+      (apart-over (replicate (pick (l .flags .«last_row») (sep s) 0) (bottomLine s l)) (middle-lines f keep) (middle-lines g keep′)))
       (omega arith) (omega arith)
 
-  text-apart : Apart (block s (withText (map f) l)) (block s (withText (map g) l)) (sep s + (slackBefore (s .vertical) slack + s .top)) (sep s) (text f) (text g)
+  text-apart : Apart (block s (withText (map f) l)) (block s (withText (map g) l)) (sep s + (slackBefore (s .vertical) slack + s .top)) (sep s) (text f)
+      (text g)
   text-apart = apart-move (apart-through block-apart (apart-through middle-apart body-apart)) (omega arith) (omega arith)
 
   pub text-found : (i j : ℕ) → Differ (block s (withText (map f) l)) (block s (withText (map g) l)) i j → TextPlace s t z i j
   text-found i j n =
       let p = text-apart .found i j n in
       let q = lines-found s f g two inner (textWidth t) (lines t) (p .line) (p .column) (p .differ) in
-      record { row = p .line; byte = q .line .byte; row-in = q .row-in; byte-in = q .line .within; line-is = omega (arith, p .line-is); column-is = omega (arith, p .column-is, q .line .is) }
+      record {
+        row = p .line;
+        byte = q .line .byte;
+        row-in = q .row-in;
+        byte-in = q .line .within;
+        line-is = omega (arith, p .line-is);
+        column-is = omega (arith, p .column-is, q .line .is);
+      }
 
   pub text-shown : (i j : ℕ) → TextPlace s t z i j → Differ (block s (withText (map f) l)) (block s (withText (map g) l)) i j
   text-shown i j p =
@@ -174,5 +192,6 @@ module _ (s : Settings) (f g : ℕ → ℕ) (keep : (b : ℕ) → eqb (f b) 10 �
         column = c;
         line-is = omega (arith, p .line-is);
         column-is = p .column-is;
-        differ = lines-shown s f g two inner (textWidth t) (no-feed-lines t) (p .row) c (record { row-in = p .row-in; line = record { byte = p .byte; within = p .byte-in; is = refl } });
+        differ = lines-shown s f g two inner (textWidth t) (no-feed-lines t) (p .row) c
+            (record { row-in = p .row-in; line = record { byte = p .byte; within = p .byte-in; is = refl } });
       })

@@ -1,4 +1,4 @@
--- Typed lists of alike trees: `read_typed` answers equally and writes bytes that are alike; the program's outputs agree outside the texts' own bytes. Assumes nothing.
+-- Typed lists of alike trees: `read_typed` answers equally and writes bytes that are alike; the program's outputs agree outside the texts' own bytes.
 use mathlib.Core.Path.{_≡_, refl, sym, ap, _∙_}
 use Prim.Native.Nat.{ℕ, _≤_}
 use native.Mathlib.Omega.{arith}
@@ -52,10 +52,12 @@ module _ (p : List ℕ) (t : Tree) (z n : ℕ) (e : readTree p ≡ ReadOne.one t
       record { is = k .is; ends = k .ends; texts = k .texts }
 
 -- two accepted trees that are alike, as they are typed
-pub read-typed-alike : (p q : List ℕ) (t u : Tree) (z n y m : ℕ) → readTree p ≡ ReadOne.one t z n → readTree q ≡ ReadOne.one u y m → Alike t u → (o r : List ℕ) → length o ≡ length r
+pub read-typed-alike : (p q : List ℕ) (t u : Tree) (z n y m : ℕ) → readTree p ≡ ReadOne.one t z n → readTree q ≡ ReadOne.one u y m → Alike t u → (o r : List ℕ)
+    → length o ≡ length r
     → BothType AlikeBytes o r (typedOf (typeOf t) o) (typedOf (typeOf u) r)
 read-typed-alike p q t u z n y m e d h o r l =
-    let b : AlikeBytes (bytesOf t) (bytesOf u) = trees-alike (record { tree = t; other = u; first = bytes-whole p t z n e; second = bytes-whole q u y m d; alike = h }) in
+    let b : AlikeBytes (bytesOf t) (bytesOf u) =
+    trees-alike (record { tree = t; other = u; first = bytes-whole p t z n e; second = bytes-whole q u y m d; alike = h }) in
     let k : length (bytesOf u) ≡ length (bytesOf t) = sym (length-alike b) in
     rw (type-is p t z n e o, type-is q u y m d r, l, k)
     (both-pick AlikeBytes o r (ltb (length r) (length (bytesOf t))) (record { answer = refl; lent = lent-none AlikeBytes o r (pairs.same []) })

@@ -1,4 +1,4 @@
--- The walk over a tree whose texts are replaced byte for byte: the same places, sizes, flags and split lists. Assumes nothing.
+-- The walk over a tree whose texts are replaced byte for byte: the same places, sizes, flags and split lists.
 use mathlib.Core.Path.{_≡_, refl, sym, ap₂, _∙_}
 use Prim.Native.Nat.{ℕ, suc, _+_}
 use mathlib.Core.Bool.{Bool, true, false}
@@ -29,7 +29,12 @@ pub record Cast (f : ℕ → ℕ) (R : ℕ → ℕ → Type 0) (w v : Walked) : 
 module _ (f : ℕ → ℕ) (mask-keeps : (b : ℕ) → eqb (f b) 10 ≡ eqb b 10) (R : ℕ → ℕ → Type 0) (s : Settings) (p : Surround R s) (own : (b : ℕ) → R (f b) b) where
   leaf-cast : (t : List ℕ) (c : Context) → Cast f R (leafWalked s (map f t) c) (leafWalked s t c)
   unfolding leafWalked
-  leaf-cast t c = record { leaves = refl; content = block-recast f mask-keeps R s p own (leafOf (record { text = t; at = c })); horizontal = refl; vertical = refl }
+  leaf-cast t c = record {
+    leaves = refl;
+    content = block-recast f mask-keeps R s p own (leafOf (record { text = t; at = c }));
+    horizontal = refl;
+    vertical = refl;
+  }
 
   join-cast : (a : Axis) (w v r q : Walked) → Cast f R w v → Cast f R r q → Cast f R (joinWalked a w r) (joinWalked a v q)
   unfolding joinWalked lay
@@ -59,7 +64,10 @@ module _ (f : ℕ → ℕ) (mask-keeps : (b : ℕ) → eqb (f b) 10 ≡ eqb b 10
   -- a child, and the children after it with the list that it hands on
   step-cast : (a : Axis) (w v : Walked) (r q : List ℕ → Walked) → Cast f R w v → ((x : List ℕ) → Cast f R (r x) (q x))
       → Cast f R (joinWalked a w (r (besideList a (w .horizontal) (w .vertical)))) (joinWalked a v (q (besideList a (v .horizontal) (v .vertical))))
-  step-cast a w v r q k m = rw (beside-cast a w v k) (join-cast a w v (r (besideList a (v .horizontal) (v .vertical))) (q (besideList a (v .horizontal) (v .vertical))) k (m (besideList a (v .horizontal) (v .vertical))))
+  step-cast a w v r q k m =
+      rw (beside-cast a w v k)
+      (join-cast a w v (r (besideList a (v .horizontal) (v .vertical))) (q (besideList a (v .horizontal) (v .vertical))) k
+      (m (besideList a (v .horizontal) (v .vertical))))
 
   picked-cast : (b : Bool) (w v r q : Walked) → Cast f R w v → Cast f R r q → Cast f R (pick b w r) (pick b v q)
   picked-cast true w v r q k m = k
@@ -72,7 +80,9 @@ module _ (f : ℕ → ℕ) (mask-keeps : (b : ℕ) → eqb (f b) 10 ≡ eqb b 10
     walk-cast (cell t) = λ c. leaf-cast t c
     walk-cast (group a ts) = λ c.
         rw (empty-recast f mask-keeps ts, spare-recast f mask-keeps s a ts (c .size), count-recast f mask-keeps ts)
-        (picked-cast (empty? ts) _ _ _ _ (leaf-cast [] c) (children-cast ts a c (spareOf s a ts (c .size)) (count ts) 0 false (suc (c .node)) 0 (alongList a (c .horizontal) (c .vertical)) (besideList a (c .horizontal) (c .vertical))))
+        (picked-cast (empty? ts) _ _ _ _ (leaf-cast [] c)
+        (children-cast ts a c (spareOf s a ts (c .size)) (count ts) 0 false (suc (c .node)) 0 (alongList a (c .horizontal) (c .vertical))
+        (besideList a (c .horizontal) (c .vertical))))
 
     pub children-cast : (ts : Trees) (a : Axis) (c : Context) (spare n i : ℕ) (old : Bool) (node offset : ℕ) (cut handed : List ℕ)
         → Cast f R (children s (recast* f ts) a c spare n i old node offset cut handed) (children s ts a c spare n i old node offset cut handed)

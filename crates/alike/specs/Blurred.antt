@@ -20,7 +20,8 @@ whole? s = leb (3 + lengthAt s) (length s)
 abbrev pub group? : ℕ → Bool
 group? tag = pick (eqb tag 2) true (eqb tag 3)
 
--- element by element up to a container's end: a Cell's text covered, line feeds staying; a Row's or a Column's contents likewise; all other bytes as they are. By fuel, of
+-- element by element up to a container's end: a Cell's text covered, line feeds staying; a Row's or a Column's contents likewise; all other bytes as they are.
+-- By fuel, of
 -- which the bytes' length is enough
 unfoldable pub blurred : ℕ → List ℕ → List ℕ
 blurred zero s = s

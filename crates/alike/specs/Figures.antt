@@ -47,23 +47,32 @@ pub marksOwn : List ℕ
 marksOwn = 16 ∷ 0 ∷ 28 ∷ 45 ∷ 95 ∷ 40 ∷ 41 ∷ 104 ∷ 118 ∷ 49 ∷ 50 ∷ 51 ∷ 52 ∷ 53 ∷ 54 ∷ 55 ∷ 56 ∷ 57 ∷ 1 ∷ 1 ∷ 0 ∷ 0 ∷ 32 ∷ 32 ∷ 32 ∷ 32 ∷ 0 ∷ 0 ∷ 0 ∷ 2 ∷ 2 ∷ []
 
 pub bareRight : List ℕ
-bareRight = 16 ∷ 0 ∷ 28 ∷ 0 ∷ 0 ∷ 0 ∷ 0 ∷ 0 ∷ 0 ∷ 0 ∷ 0 ∷ 0 ∷ 0 ∷ 0 ∷ 0 ∷ 0 ∷ 0 ∷ 0 ∷ 1 ∷ 1 ∷ 0 ∷ 0 ∷ 32 ∷ 32 ∷ 32 ∷ 32 ∷ 2 ∷ 0 ∷ 1 ∷ 2 ∷ 2 ∷ 17 ∷ 0 ∷ 8 ∷ 1 ∷ 1 ∷ 0 ∷ 0 ∷ 108 ∷ 114 ∷ 116 ∷ 98 ∷ []
+bareRight = 16 ∷ 0 ∷ 28 ∷ 0 ∷ 0 ∷ 0 ∷ 0 ∷ 0 ∷ 0 ∷ 0 ∷ 0 ∷ 0 ∷ 0 ∷ 0 ∷ 0 ∷ 0 ∷ 0 ∷ 0 ∷ 1 ∷ 1 ∷ 0 ∷ 0 ∷ 32 ∷ 32 ∷ 32 ∷ 32 ∷ 2 ∷ 0 ∷ 1 ∷ 2 ∷ 2 ∷ 17 ∷ 0 ∷ 8 ∷ 1 ∷ 1
+    ∷ 0 ∷ 0 ∷ 108 ∷ 114 ∷ 116 ∷ 98 ∷ []
 
 pub centred : List ℕ
-centred = 16 ∷ 0 ∷ 28 ∷ 45 ∷ 95 ∷ 40 ∷ 41 ∷ 104 ∷ 118 ∷ 49 ∷ 50 ∷ 51 ∷ 52 ∷ 53 ∷ 54 ∷ 55 ∷ 56 ∷ 57 ∷ 2 ∷ 1 ∷ 1 ∷ 0 ∷ 108 ∷ 114 ∷ 116 ∷ 98 ∷ 1 ∷ 0 ∷ 0 ∷ 2 ∷ 2 ∷ []
+centred = 16 ∷ 0 ∷ 28 ∷ 45 ∷ 95 ∷ 40 ∷ 41 ∷ 104 ∷ 118 ∷ 49 ∷ 50 ∷ 51 ∷ 52 ∷ 53 ∷ 54 ∷ 55 ∷ 56 ∷ 57 ∷ 2 ∷ 1 ∷ 1 ∷ 0 ∷ 108 ∷ 114 ∷ 116 ∷ 98 ∷ 1 ∷ 0 ∷ 0 ∷ 2 ∷ 2
+    ∷ []
 
 pub ownFigures : List Bool
 unfolding ownFigure linePlaces marksOwn bareRight centred
 ownFigures =
     -- Column[`Q1: Vy?`, Row[`54 kt`, `6 s`]] and its question paper
-    ownFigure marksOwn (3 ∷ 0 ∷ 27 ∷ 1 ∷ 0 ∷ 7 ∷ 81 ∷ 49 ∷ 58 ∷ 32 ∷ 86 ∷ 121 ∷ 63 ∷ 2 ∷ 0 ∷ 14 ∷ 1 ∷ 0 ∷ 5 ∷ 53 ∷ 52 ∷ 32 ∷ 107 ∷ 116 ∷ 1 ∷ 0 ∷ 3 ∷ 54 ∷ 32 ∷ 115 ∷ []) (linePlaces 15 1 2 7 ++ (linePlaces 15 3 2 5 ++ linePlaces 15 3 10 3))
-    ∷ ownFigure marksOwn (3 ∷ 0 ∷ 27 ∷ 1 ∷ 0 ∷ 7 ∷ 81 ∷ 49 ∷ 58 ∷ 32 ∷ 86 ∷ 121 ∷ 63 ∷ 2 ∷ 0 ∷ 14 ∷ 1 ∷ 0 ∷ 5 ∷ 46 ∷ 46 ∷ 46 ∷ 46 ∷ 46 ∷ 1 ∷ 0 ∷ 3 ∷ 46 ∷ 46 ∷ 46 ∷ []) (linePlaces 15 1 2 7 ++ (linePlaces 15 3 2 5 ++ linePlaces 15 3 10 3))
+    ownFigure marksOwn (3 ∷ 0 ∷ 27 ∷ 1 ∷ 0 ∷ 7 ∷ 81 ∷ 49 ∷ 58 ∷ 32 ∷ 86 ∷ 121 ∷ 63 ∷ 2 ∷ 0 ∷ 14 ∷ 1 ∷ 0 ∷ 5 ∷ 53 ∷ 52 ∷ 32 ∷ 107 ∷ 116 ∷ 1 ∷ 0 ∷ 3 ∷ 54 ∷ 32
+    ∷ 115 ∷ []) (linePlaces 15 1 2 7 ++ (linePlaces 15 3 2 5 ++ linePlaces 15 3 10 3))
+    ∷ ownFigure marksOwn
+    (3 ∷ 0 ∷ 27 ∷ 1 ∷ 0 ∷ 7 ∷ 81 ∷ 49 ∷ 58 ∷ 32 ∷ 86 ∷ 121 ∷ 63 ∷ 2 ∷ 0 ∷ 14 ∷ 1 ∷ 0 ∷ 5 ∷ 46 ∷ 46 ∷ 46 ∷ 46 ∷ 46 ∷ 1 ∷ 0 ∷ 3 ∷ 46 ∷ 46 ∷ 46 ∷ [])
+    (linePlaces 15 1 2 7 ++ (linePlaces 15 3 2 5 ++ linePlaces 15 3 10 3))
     -- Row[`a` over `bcd`, `e`]
-    ∷ ownFigure bareRight (2 ∷ 0 ∷ 12 ∷ 1 ∷ 0 ∷ 5 ∷ 97 ∷ 10 ∷ 98 ∷ 99 ∷ 100 ∷ 1 ∷ 0 ∷ 1 ∷ 101 ∷ []) (linePlaces 10 0 4 1 ++ (linePlaces 10 0 7 1 ++ linePlaces 10 1 2 3))
-    ∷ ownFigure bareRight (2 ∷ 0 ∷ 12 ∷ 1 ∷ 0 ∷ 5 ∷ 46 ∷ 10 ∷ 46 ∷ 46 ∷ 46 ∷ 1 ∷ 0 ∷ 1 ∷ 46 ∷ []) (linePlaces 10 0 4 1 ++ (linePlaces 10 0 7 1 ++ linePlaces 10 1 2 3))
+    ∷ ownFigure bareRight (2 ∷ 0 ∷ 12 ∷ 1 ∷ 0 ∷ 5 ∷ 97 ∷ 10 ∷ 98 ∷ 99 ∷ 100 ∷ 1 ∷ 0 ∷ 1 ∷ 101 ∷ [])
+    (linePlaces 10 0 4 1 ++ (linePlaces 10 0 7 1 ++ linePlaces 10 1 2 3))
+    ∷ ownFigure bareRight (2 ∷ 0 ∷ 12 ∷ 1 ∷ 0 ∷ 5 ∷ 46 ∷ 10 ∷ 46 ∷ 46 ∷ 46 ∷ 1 ∷ 0 ∷ 1 ∷ 46 ∷ [])
+    (linePlaces 10 0 4 1 ++ (linePlaces 10 0 7 1 ++ linePlaces 10 1 2 3))
     -- Column[`ab cd` over nothing over `xy`, `answer: 17`]
-    ∷ ownFigure centred (3 ∷ 0 ∷ 25 ∷ 1 ∷ 0 ∷ 9 ∷ 97 ∷ 98 ∷ 32 ∷ 99 ∷ 100 ∷ 10 ∷ 10 ∷ 120 ∷ 121 ∷ 1 ∷ 0 ∷ 10 ∷ 97 ∷ 110 ∷ 115 ∷ 119 ∷ 101 ∷ 114 ∷ 58 ∷ 32 ∷ 49 ∷ 55 ∷ []) (linePlaces 15 2 5 5 ++ (linePlaces 15 4 5 2 ++ linePlaces 15 7 3 10))
-    ∷ ownFigure centred (3 ∷ 0 ∷ 25 ∷ 1 ∷ 0 ∷ 9 ∷ 46 ∷ 46 ∷ 46 ∷ 46 ∷ 46 ∷ 10 ∷ 10 ∷ 46 ∷ 46 ∷ 1 ∷ 0 ∷ 10 ∷ 97 ∷ 110 ∷ 115 ∷ 119 ∷ 101 ∷ 114 ∷ 58 ∷ 32 ∷ 46 ∷ 46 ∷ []) (linePlaces 15 2 5 5 ++ (linePlaces 15 4 5 2 ++ linePlaces 15 7 3 10))
+    ∷ ownFigure centred (3 ∷ 0 ∷ 25 ∷ 1 ∷ 0 ∷ 9 ∷ 97 ∷ 98 ∷ 32 ∷ 99 ∷ 100 ∷ 10 ∷ 10 ∷ 120 ∷ 121 ∷ 1 ∷ 0 ∷ 10 ∷ 97 ∷ 110 ∷ 115 ∷ 119 ∷ 101 ∷ 114 ∷ 58 ∷ 32 ∷ 49
+    ∷ 55 ∷ []) (linePlaces 15 2 5 5 ++ (linePlaces 15 4 5 2 ++ linePlaces 15 7 3 10))
+    ∷ ownFigure centred (3 ∷ 0 ∷ 25 ∷ 1 ∷ 0 ∷ 9 ∷ 46 ∷ 46 ∷ 46 ∷ 46 ∷ 46 ∷ 10 ∷ 10 ∷ 46 ∷ 46 ∷ 1 ∷ 0 ∷ 10 ∷ 97 ∷ 110 ∷ 115 ∷ 119 ∷ 101 ∷ 114 ∷ 58 ∷ 32 ∷ 46 ∷ 46
+    ∷ []) (linePlaces 15 2 5 5 ++ (linePlaces 15 4 5 2 ++ linePlaces 15 7 3 10))
     ∷ []
 
 pub own-figures-hold : allTrue ownFigures ≡ true
@@ -110,6 +119,7 @@ pub half-pair : blurred 9 (3 ∷ 0 ∷ 6 ∷ 1 ∷ 0 ∷ 1 ∷ 97 ∷ 1 ∷ 0 �
 unfolding blurred covered
 half-pair = refl
 
-pub plan-pair : blurred 9 (2 ∷ 0 ∷ 11 ∷ 1 ∷ 0 ∷ 1 ∷ 97 ∷ 4 ∷ 0 ∷ 4 ∷ 1 ∷ 2 ∷ 1 ∷ 1 ∷ []) ≡ blurred 9 (2 ∷ 0 ∷ 11 ∷ 1 ∷ 0 ∷ 1 ∷ 46 ∷ 4 ∷ 0 ∷ 4 ∷ 1 ∷ 2 ∷ 1 ∷ 1 ∷ [])
+pub plan-pair : blurred 9 (2 ∷ 0 ∷ 11 ∷ 1 ∷ 0 ∷ 1 ∷ 97 ∷ 4 ∷ 0 ∷ 4 ∷ 1 ∷ 2 ∷ 1 ∷ 1 ∷ []) ≡ blurred 9 (2 ∷ 0 ∷ 11 ∷ 1 ∷ 0 ∷ 1 ∷ 46 ∷ 4 ∷ 0 ∷ 4 ∷ 1 ∷ 2 ∷ 1 ∷ 1
+    ∷ [])
 unfolding blurred covered
 plan-pair = refl

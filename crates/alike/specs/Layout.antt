@@ -1,4 +1,5 @@
--- Where the texts' own bytes stand (document 02, 14), told by the layout: the margin, the leaf's start, its marks, padding and indents (documents 01, "Block and sheet", and 02, 1).
+-- Where the texts' own bytes stand (document 02, 14), told by the layout: the margin, the leaf's start, its marks, padding and indents (documents 01, "Block
+-- and sheet", and 02, 1).
 use mathlib.Core.Path.{_≡_}
 use Prim.Native.Nat.{ℕ, _+_, _-_, _*_, _<_}
 use mathlib.Core.Bool.{false}

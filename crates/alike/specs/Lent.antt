@@ -28,7 +28,8 @@ pub record Lent {A : Type 0} (Same : List A → List A → Type 0) (n : ℕ) (o 
   pub other-rest : drop n y ≡ drop n r
 
 -- equal answers, and as many entries written as they count; a refusal counts none
-pub record BothAnswer {A B R : Type 0} (answerIn : B → R) (outIn : B → List A) (count : R → ℕ) (Same : List A → List A → Type 0) (o r : List A) (x y : B) : Type 0 where
+pub record BothAnswer {A B R : Type 0} (answerIn : B → R) (outIn : B → List A) (count : R → ℕ) (Same : List A → List A → Type 0) (o r : List A) (x y : B) :
+    Type 0 where
   pub answer : answerIn x ≡ answerIn y
   pub lent : Lent Same (count (answerIn x)) o r (outIn x) (outIn y)
 

@@ -1,4 +1,5 @@
--- The texts' own bytes in what is printed (document 02, 14). Read as: the bytes of the lines themselves, where they stand. They are the places where the sheet, or the
+-- The texts' own bytes in what is printed (document 02, 14). Read as: the bytes of the lines themselves, where they stand. They are the places where the sheet,
+-- or the
 -- block, of the masked tree has the mask.
 use mathlib.Core.Path.{_≡_}
 use Prim.Native.Nat.{ℕ, suc, _+_}

@@ -32,8 +32,10 @@ pub record SameFront (s r : List ℕ) : Type 0 where
   pub whole : 3 + lengthAt s ≤ length s
   pub other-whole : 3 + lengthAt r ≤ length r
 
--- Two byte strings "that differ only inside Cells' texts, each text having in both the same number of lines, line for line of the same length": whole elements, one
--- after the other, that do, and then the same bytes, whatever they are. No tree need be there: a reader may turn both away, anywhere. Of two texts that differ both
+-- Two byte strings "that differ only inside Cells' texts, each text having in both the same number of lines, line for line of the same length": whole elements,
+-- one
+-- after the other, that do, and then the same bytes, whatever they are. No tree need be there: a reader may turn both away, anywhere. Of two texts that differ
+-- both
 -- hold a forbidden byte, or neither.
 pub data AlikeBytes : List ℕ → List ℕ → Type 0 where
   same : (s : List ℕ) → AlikeBytes s s
@@ -41,7 +43,8 @@ pub data AlikeBytes : List ℕ → List ℕ → Type 0 where
   kept : {s r : List ℕ} → SameFront s r → contents s ≡ contents r → AlikeBytes (afterElement s) (afterElement r) → AlikeBytes s r
   cell : {s r : List ℕ} → SameFront s r → getD s 0 0 ≡ 1 → lineLengths (contents s) ≡ lineLengths (contents r) → isText (contents s) ≡ isText (contents r)
       → AlikeBytes (afterElement s) (afterElement r) → AlikeBytes s r
-  group : {s r : List ℕ} (a : Axis) → SameFront s r → getD s 0 0 ≡ tagOf a → AlikeBytes (contents s) (contents r) → AlikeBytes (afterElement s) (afterElement r) → AlikeBytes s r
+  group : {s r : List ℕ} (a : Axis) → SameFront s r → getD s 0 0 ≡ tagOf a → AlikeBytes (contents s) (contents r) → AlikeBytes (afterElement s) (afterElement r)
+      → AlikeBytes s r
 
 -- ---- the bytes of two trees: they are alike as bytes (`trees-alike`)
 

@@ -22,17 +22,21 @@ use Rattle.alike.specs.Own.{SheetOwn, LeafOwn}
 use Rattle.alike.specs.Pairs.{AlikeBytes, AlikeStores, SameStoreAnswer}
 use Rattle.alike.specs.Lent.{Agree, BothCollect, BothPrint, BothFind, BothFold, BothNearest, BothBlank}
 
--- "Under equal settings, buffer lengths and whatever else is handed in, they must get equal refusals from every call ..; equal sizes, flags, split lists and places; and
+-- "Under equal settings, buffer lengths and whatever else is handed in, they must get equal refusals from every call ..; equal sizes, flags, split lists and
+-- places; and
 -- sheets that agree at every byte outside the texts' own bytes."
 pub record OneLayout (p q : List ℕ) : Type 0 where
   pub read-tree : treeAnswer (readTree p) ≡ treeAnswer (readTree q)
-  pub collect-sizes : (settings : List ℕ) (o r : List SizeRecord) → length o ≡ length r → BothCollect o r (collectOf (inputOf settings p) o) (collectOf (inputOf settings q) r)
+  pub collect-sizes : (settings : List ℕ) (o r : List SizeRecord) → length o ≡ length r
+      → BothCollect o r (collectOf (inputOf settings p) o) (collectOf (inputOf settings q) r)
   pub leaf-record : (settings : List ℕ) (node : ℕ) → leafRecordOf (inputOf settings p) node ≡ leafRecordOf (inputOf settings q) node
   pub print-leaf : (settings : List ℕ) (node : ℕ) (o r : List ℕ) → length o ≡ length r
       → BothPrint (Agree (LeafOwn (inputOf settings p) node)) o r (leafPrintOf (inputOf settings p) node o) (leafPrintOf (inputOf settings q) node r)
-  pub print-sheet : (settings o r : List ℕ) → length o ≡ length r → BothPrint (Agree (SheetOwn (inputOf settings p))) o r (sheetOf (inputOf settings p) o) (sheetOf (inputOf settings q) r)
+  pub print-sheet : (settings o r : List ℕ) → length o ≡ length r
+      → BothPrint (Agree (SheetOwn (inputOf settings p))) o r (sheetOf (inputOf settings p) o) (sheetOf (inputOf settings q) r)
   pub leaf-at : (settings : List ℕ) (line column : ℕ) → leafPlaceOf (inputOf settings p) line column ≡ leafPlaceOf (inputOf settings q) line column
-  pub find-places : (settings places o r : List ℕ) → length o ≡ length r → BothFind o r (findsOf (inputOf settings p) places o) (findsOf (inputOf settings q) places r)
+  pub find-places : (settings places o r : List ℕ) → length o ≡ length r
+      → BothFind o r (findsOf (inputOf settings p) places o) (findsOf (inputOf settings q) places r)
   pub fold-list : (settings : List ℕ) (width budget : ℕ) (o r : List ℕ) → length o ≡ length r
       → BothFold o r (foldOf (inputOf settings p) width budget o) (foldOf (inputOf settings q) width budget r)
   pub plan-sheet : (settings : List ℕ) → plannedOf (planInput settings p) ≡ plannedOf (planInput settings q)

@@ -1,4 +1,4 @@
--- The blanked tree: within the limits as the tree is, alike, and equal outside the texts that are blanked. Assumes nothing.
+-- The blanked tree: within the limits as the tree is, alike, and equal outside the texts that are blanked.
 use mathlib.Core.Path.{_≡_, refl, sym, ap, ap₂, _∙_}
 use Prim.Native.Nat.{ℕ, zero, suc, _+_, _/_, _%_, max}
 use native.Mathlib.Omega.{arith}
@@ -48,7 +48,8 @@ unfolding isText
 shown-text d [] h = refl
 shown-text d (b ∷ x) h = more-text (isTextByte b) refl h (shown-text d x)
   where
-    more-text : (c : Bool) → isTextByte b ≡ c → pick c (isText x) false ≡ true → (isText x ≡ true → isText (map (shownByte d) x) ≡ true) → pick (isTextByte (shownByte d b)) (isText (map (shownByte d) x)) false ≡ true
+    more-text : (c : Bool) → isTextByte b ≡ c → pick c (isText x) false ≡ true → (isText x ≡ true → isText (map (shownByte d) x) ≡ true)
+        → pick (isTextByte (shownByte d b)) (isText (map (shownByte d) x)) false ≡ true
     more-text true e h k = rw (shown-byte-text d b e) (k h)
     more-text false e h k = let z : _≡_ {A = ℕ} 0 1 = cc in absurd (omega arith)
 

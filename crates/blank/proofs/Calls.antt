@@ -1,4 +1,4 @@
--- `paper-read`, `paper-made`: what the call's answer 0 says. Assumes nothing.
+-- `paper-read`, `paper-made`: what the call's answer 0 says.
 use mathlib.Core.Path.{_≡_, refl, sym, ap, ap₂, subst, _∙_}
 use Prim.Native.Nat.{ℕ, suc, _<_}
 use native.Mathlib.Omega.{arith}
@@ -24,19 +24,22 @@ use Rattle.blank.proofs.Exact.{tree-exact}
 use Rattle.blank.proofs.BlankedTree.{blanked-nodes, blanked-depth, blanked-texts, blanked-alike, blanked-outside}
 
 -- a number that is no Cell's is 9, an output that is too short 8
-zero-is : (c d : Bool) (o : List ℕ) (x : Blanks) → pick c (pick d (noBlank 8 o) x) (noBlank 9 o) .answer .number ≡ 0 → pick c (pick d (noBlank 8 o) x) (noBlank 9 o) ≡ x
+zero-is : (c d : Bool) (o : List ℕ) (x : Blanks) → pick c (pick d (noBlank 8 o) x) (noBlank 9 o) .answer .number ≡ 0
+    → pick c (pick d (noBlank 8 o) x) (noBlank 9 o) ≡ x
 zero-is true true o x h = absurd (omega arith)
 zero-is true false o x h = refl
 zero-is false d o x h = absurd (omega arith)
 
 -- the blanked tree's bytes are read as the blanked tree, with as many bytes and nodes
-pub blanked-reads : (f : ℕ → Bool) (tree : List ℕ) (t : Tree) (z n : ℕ) → readTree tree ≡ ReadOne.one t z n → readTree (bytesOf (blanked f 0 t)) ≡ ReadOne.one (blanked f 0 t) z n
+pub blanked-reads : (f : ℕ → Bool) (tree : List ℕ) (t : Tree) (z n : ℕ) → readTree tree ≡ ReadOne.one t z n
+    → readTree (bytesOf (blanked f 0 t)) ≡ ReadOne.one (blanked f 0 t) z n
 blanked-reads f tree t z n r =
     let g = tree-sound tree t z n r in
     let sz : length (bytesOf (blanked f 0 t)) ≡ z = blanked-length f t tree (g .is) (g .ends) ∙ sym (g .size-is) in
     let sn : nodes (blanked f 0 t) ≡ n = blanked-nodes f t 0 ∙ sym (g .count-is) in
     rw (← sz, ← sn)
-    (tree-bytes (blanked f 0 t) (omega (arith, g .short, g .size-is)) (omega (arith, g .few, blanked-nodes f t 0)) (omega (arith, g .shallow, blanked-depth f t 0)) (blanked-texts f t 0 (g .texts)))
+    (tree-bytes (blanked f 0 t) (omega (arith, g .short, g .size-is)) (omega (arith, g .few, blanked-nodes f t 0))
+    (omega (arith, g .shallow, blanked-depth f t 0)) (blanked-texts f t 0 (g .texts)))
 
 -- what was written, and what it is read as
 module _ (tree ns o : List ℕ) (t : Tree) (z n : ℕ) (r : readTree tree ≡ ReadOne.one t z n) (h : blankOf tree ns o .answer .number ≡ 0) where
@@ -50,7 +53,8 @@ module _ (tree ns o : List ℕ) (t : Tree) (z n : ℕ) (r : readTree tree ≡ Re
   unfolding blankOf
   written-is =
       let q : blankIn (ReadOne.one t z n) ns o .answer .number ≡ 0 = rw r at h in
-      ap (λ (x : ReadOne). blankWritten (blankIn x ns o)) r ∙ ap blankWritten (zero-is (allCells (cellFlags t) ns) (ltb (length o) (length s)) o _ q) ∙ take-append-seam s (drop (length s) o)
+      ap (λ (x : ReadOne). blankWritten (blankIn x ns o)) r ∙ ap blankWritten (zero-is (allCells (cellFlags t) ns) (ltb (length o) (length s)) o _ q)
+      ∙ take-append-seam s (drop (length s) o)
 
   read-as : PaperRead tree ns (blankOf tree ns o)
   read-as =
@@ -72,7 +76,8 @@ module _ (tree ns o : List ℕ) (t : Tree) (z n : ℕ) (r : readTree tree ≡ Re
       let g = tree-sound tree t z n r in
       record {
         read = read-as;
-        outside = λ i e. ap (λ (y : List ℕ). getD y i 0) written-is ∙ blanked-outside f t i e ∙ sym (ap (λ (y : List ℕ). getD y i 0) (tree-exact t tree b (g .is) (g .ends)));
+        outside = λ i e. ap (λ (y : List ℕ). getD y i 0) written-is ∙ blanked-outside f t i e
+            ∙ sym (ap (λ (y : List ℕ). getD y i 0) (tree-exact t tree b (g .is) (g .ends)));
       }
 
 -- a tree that is refused is refused here too
@@ -98,7 +103,8 @@ each-byte [] h = tt
 each-byte (b ∷ s) h = (omega (arith, h 0), each-byte s (λ i. h (suc i)))
 
 -- what `blank_texts` ensures, from its answer and its output
-pub all-told : (tree ns o : List ℕ) (r : Blanked) (out : List ℕ) → ((i : ℕ) → Fits w8 (getD tree i 0)) → r ≡ blankOf tree ns o .answer → out ≡ blankOf tree ns o .out
+pub all-told : (tree ns o : List ℕ) (r : Blanked) (out : List ℕ) → ((i : ℕ) → Fits w8 (getD tree i 0)) → r ≡ blankOf tree ns o .answer
+    → out ≡ blankOf tree ns o .out
     → (r ≡ blankOf tree ns o .answer) × ((out ≡ blankOf tree ns o .out) × (r .number ≡ 0 → PaperOf tree ns (record { answer = r; out = out })))
 all-told tree ns o r out h e d = (
   e,
@@ -106,7 +112,8 @@ all-told tree ns o r out h e d = (
     d,
     λ z.
         let k : blankOf tree ns o .answer .number ≡ 0 = sym (ap (λ (x : Blanked). x .number) e) ∙ z in
-        let b : _≡_ {A = Blanks} (blankOf tree ns o) (record { answer = r; out = out }) = sym (ap₂ (λ (x : Blanked) (y : List ℕ). record { answer = x; out = y }) e d) in
+        let b : _≡_ {A = Blanks} (blankOf tree ns o) (record { answer = r; out = out }) =
+        sym (ap₂ (λ (x : Blanked) (y : List ℕ). record { answer = x; out = y }) e d) in
         subst (λ (x : Blanks). PaperOf tree ns x) b (paper-made tree ns o (each-byte tree h) k),
   ),
 )

@@ -1,4 +1,4 @@
--- One pass over the elements of an accepted tree: where it stands, and what find_cells and put_elements have yet to store. Assumes nothing.
+-- One pass over the elements of an accepted tree: where it stands, and what find_cells and put_elements have yet to store.
 use mathlib.Core.Path.{_≡_, refl, sym, ap, _∙_}
 use Prim.Native.Nat.{ℕ, suc, _+_, _-_, _≤_, _<_, _/_, _%_}
 use native.Mathlib.Omega.{arith}
@@ -112,7 +112,8 @@ module _ (s : List ℕ) (q : ReadElements s) where
       pub find-in : (3 + textAt (part s at) ≤ length (part s at)) × (at + (3 + textAt (part s at)) ≤ length s) × (node < 512)
       find-in = let l = turn s at _ at-found k h in element-in at node (l .tree) (l .trees) (l .holds .sweep) (part s at) (part-to-end s at)
 
-      pub find-more : (v m : ℕ) → v ≡ pick (eqb (getD (part s at) 0 0) 1) 1 0 → m ≡ textAt (part s at) → Some (Finding (set cells node v) (at + 3 + m) (node + 1))
+      pub find-more : (v m : ℕ) → v ≡ pick (eqb (getD (part s at) 0 0) 1) 1 0 → m ≡ textAt (part s at)
+          → Some (Finding (set cells node v) (at + 3 + m) (node + 1))
       find-more = let l = turn s at _ at-found k h in find-next cells at node (l .tree) (l .trees) (l .holds) (part s at) (part-to-end s at)
 
     pub find-ends : length s ≤ at → cells ≡ padded (cellFlags (q .tree))
@@ -136,12 +137,14 @@ module _ (s : List ℕ) (q : ReadElements s) where
       text = map (shownByte (isDotted ds node)) (take (textAt p) (drop 3 p))
 
       text-length : length text ≡ textAt p
-      text-length = length-map (take (textAt p) (drop 3 p)) (shownByte (isDotted ds node)) ∙ length-take-le (textAt p) (drop 3 p) (rw length-drop (omega (arith, element-in at node t ts (k .sweep) p pe .0)))
+      text-length = length-map (take (textAt p) (drop 3 p)) (shownByte (isDotted ds node))
+          ∙ length-take-le (textAt p) (drop 3 p) (rw length-drop (omega (arith, element-in at node t ts (k .sweep) p pe .0)))
 
       abbrev behind : List ℕ
       behind = bytesOf* (blanked* (isDotted ds) (suc node) (joined (insideTree t) ts))
 
-      put-next : (n m : ℕ) (o₁ o₂ : List ℕ) → n ≡ lengthAt p → n < 65536 → m ≡ textAt p → o₁ ≡ set (set (set o at (getD p 0 0)) (at + 1) (n / 256 % 256)) (at + 2) (n % 256)
+      put-next : (n m : ℕ) (o₁ o₂ : List ℕ) → n ≡ lengthAt p → n < 65536 → m ≡ textAt p
+          → o₁ ≡ set (set (set o at (getD p 0 0)) (at + 1) (n / 256 % 256)) (at + 2) (n % 256)
           → o₂ ≡ sets o₁ (at + 3) (map (shownByte (isDotted ds node)) (take (3 + m - 3) (drop 3 p))) → Some (PuttingBytes o₂ (at + 3 + m) (node + 1))
       put-next n m o₁ o₂ ne small me e₁ e₂ =
           let g : n % 256 ≡ lengthAt p % 256 = ap (λ (x : ℕ). x % 256) ne in
@@ -158,7 +161,9 @@ module _ (s : List ℕ) (q : ReadElements s) where
             rest = joined (insideTree t) ts;
             holds = record {
               sweep = rw i (sweep-on at node t ts (k .sweep) p pe);
-              stored = rw (add-one node, i, j, w) (sym (sets-append text behind f (suc (suc (suc at)))) ∙ sym (ap (sets o at) (after-bytes t ts p (here at node t ts (k .sweep) p pe) (isDotted ds) node)) ∙ k .stored);
+              stored = rw (add-one node, i, j, w)
+                  (sym (sets-append text behind f (suc (suc (suc at))))
+                  ∙ sym (ap (sets o at) (after-bytes t ts p (here at node t ts (k .sweep) p pe) (isDotted ds) node)) ∙ k .stored);
             };
           }
 
@@ -174,8 +179,10 @@ module _ (s : List ℕ) (q : ReadElements s) where
         pub put-in : (3 + textAt (part s at) ≤ length (part s at)) × (at + (3 + textAt (part s at)) ≤ length s) × (node < 512)
         put-in = let l = turn s at _ at-put k h in element-in at node (l .tree) (l .trees) (l .holds .sweep) (part s at) (part-to-end s at)
 
-        pub put-more : (n m : ℕ) (o₁ o₂ : List ℕ) → n ≡ lengthAt (part s at) → n < 65536 → m ≡ textAt (part s at) → o₁ ≡ set (set (set o at (getD (part s at) 0 0)) (at + 1) (n / 256 % 256)) (at + 2) (n % 256)
-            → o₂ ≡ sets o₁ (at + 3) (map (shownByte (isDotted ds node)) (take (3 + m - 3) (drop 3 (part s at)))) → Some (PuttingBytes o₂ (at + 3 + m) (node + 1))
+        pub put-more : (n m : ℕ) (o₁ o₂ : List ℕ) → n ≡ lengthAt (part s at) → n < 65536 → m ≡ textAt (part s at)
+            → o₁ ≡ set (set (set o at (getD (part s at) 0 0)) (at + 1) (n / 256 % 256)) (at + 2) (n % 256)
+            → o₂ ≡ sets o₁ (at + 3) (map (shownByte (isDotted ds node)) (take (3 + m - 3) (drop 3 (part s at))))
+            → Some (PuttingBytes o₂ (at + 3 + m) (node + 1))
         put-more = let l = turn s at _ at-put k h in put-next o at node (l .tree) (l .trees) (l .holds) (part s at) (part-to-end s at)
 
       pub put-ends : length s ≤ at → o ≡ sets o₀ 0 (bytesOf (blanked (isDotted ds) 0 (q .tree)))

@@ -1,4 +1,4 @@
--- Accepted bytes are the bytes of their tree, where each is below 256. Assumes nothing.
+-- Accepted bytes are the bytes of their tree, where each is below 256.
 use mathlib.Core.Path.{_≡_, sym, ap, ap₂, _∙_}
 use Prim.Native.Nat.{ℕ, zero, suc, _+_, _*_, _≤_, _<_, _/_, _%_}
 use native.Mathlib.Omega.{arith}
@@ -40,7 +40,8 @@ front-split (a ∷ b ∷ c ∷ s) n h = take-add 3 n (a ∷ b ∷ c ∷ s)
 two-bytes : (a b n : ℕ) → b < 256 → n ≡ 256 * a + b → (a ≡ n / 256) × (b ≡ n % 256)
 two-bytes a b n h e = (omega arith, omega arith)
 
-element-is : (s : List ℕ) (tag : ℕ) (inside : List ℕ) → Bytes s → 3 + lengthAt s ≤ length s → getD s 0 0 ≡ tag → contents s ≡ inside → take (3 + lengthAt s) s ≡ element tag inside
+element-is : (s : List ℕ) (tag : ℕ) (inside : List ℕ) → Bytes s → 3 + lengthAt s ≤ length s → getD s 0 0 ≡ tag → contents s ≡ inside
+    → take (3 + lengthAt s) s ≡ element tag inside
 element-is s tag inside k h e f =
     let n : length inside ≡ lengthAt s = sym (ap length f) ∙ contents-length s h in
     let w = two-bytes (getD s 1 0) (getD s 2 0) (length inside) (byte-at s 2 k) n in
@@ -51,7 +52,8 @@ mutual
 
   is-exact : (t : Tree) (s : List ℕ) → Bytes s → Encodes t s → take (3 + lengthAt s) s ≡ bytesOf t
   is-exact (cell x) = λ s b k. element-is s 1 x b (k .0) (k .1) (k .2)
-  is-exact (group a ts) = λ s b k. element-is s (tagOf a) (bytesOf* ts) b (k .0) (k .1) (are-exact ts (contents s) (bytes-take (lengthAt s) (drop 3 s) (bytes-drop 3 s b)) (k .2))
+  is-exact (group a ts) = λ s b k.
+      element-is s (tagOf a) (bytesOf* ts) b (k .0) (k .1) (are-exact ts (contents s) (bytes-take (lengthAt s) (drop 3 s) (bytes-drop 3 s b)) (k .2))
 
   are-exact : (ts : Trees) (s : List ℕ) → Bytes s → EncodesAll ts s → s ≡ bytesOf* ts
   are-exact none = λ s b k. sym (take-all 0 s (omega arith))

@@ -1,4 +1,4 @@
--- The elements of a tree in node order: what follows a front is the trees inside it and those after it. Assumes nothing.
+-- The elements of a tree in node order: what follows a front is the trees inside it and those after it.
 use mathlib.Core.Path.{_≡_, refl, sym, ap, subst, _∙_}
 use Prim.Native.Nat.{ℕ, suc, _+_, _≤_, _/_, _%_}
 use native.Mathlib.Omega.{arith}
@@ -38,12 +38,14 @@ unfolding joined cellFlags
 joined-flags none us = refl
 joined-flags (more t ts) us = rw (joined-flags ts us) (sym (append-assoc (cellFlags t) (cellFlags* ts) (cellFlags* us)))
 
-joined-bytes : (dots : ℕ → Bool) (ts us : Trees) (n : ℕ) → bytesOf* (blanked* dots n (joined ts us)) ≡ bytesOf* (blanked* dots n ts) ++ bytesOf* (blanked* dots (n + nodes* ts) us)
+joined-bytes : (dots : ℕ → Bool) (ts us : Trees) (n : ℕ)
+    → bytesOf* (blanked* dots n (joined ts us)) ≡ bytesOf* (blanked* dots n ts) ++ bytesOf* (blanked* dots (n + nodes* ts) us)
 unfolding joined blanked bytesOf nodes
 joined-bytes dots none us n = ap (λ (k : ℕ). bytesOf* (blanked* dots k us)) (omega arith)
 joined-bytes dots (more t ts) us n =
     let e : n + nodes t + nodes* ts ≡ n + (nodes t + nodes* ts) = omega arith in
-    rw (joined-bytes dots ts us (n + nodes t), e) (sym (append-assoc (bytesOf (blanked dots n t)) (bytesOf* (blanked* dots (n + nodes t) ts)) (bytesOf* (blanked* dots (n + (nodes t + nodes* ts)) us))))
+    rw (joined-bytes dots ts us (n + nodes t), e)
+    (sym (append-assoc (bytesOf (blanked dots n t)) (bytesOf* (blanked* dots (n + nodes t) ts)) (bytesOf* (blanked* dots (n + (nodes t + nodes* ts)) us))))
 
 -- ---- their bytes
 
@@ -57,8 +59,18 @@ contents-longer s r h =
 
 is-longer : (t : Tree) (s r : List ℕ) → Encodes t s → Encodes t (s ++ r)
 unfolding Encodes
-is-longer (cell x) s r k = (rw (length-longer s r (omega (arith, k .0)), length-append s r) (omega (arith, k .0)), List·getD-append s r 0 0 (omega (arith, k .0)) ∙ k .1, contents-longer s r (k .0) ∙ k .2)
-is-longer (group a ts) s r k = (rw (length-longer s r (omega (arith, k .0)), length-append s r) (omega (arith, k .0)), List·getD-append s r 0 0 (omega (arith, k .0)) ∙ k .1, rw (contents-longer s r (k .0)) (k .2))
+is-longer (cell x) s r k = (
+  rw (length-longer s r (omega (arith, k .0)), length-append s r) (omega (arith, k .0)),
+  List·getD-append s r 0 0 (omega (arith, k .0))
+      ∙ k .1,
+  contents-longer s r (k .0) ∙ k .2,
+)
+is-longer (group a ts) s r k = (
+  rw (length-longer s r (omega (arith, k .0)), length-append s r) (omega (arith, k .0)),
+  List·getD-append s r 0 0 (omega (arith, k .0))
+      ∙ k .1,
+  rw (contents-longer s r (k .0)) (k .2),
+)
 
 no-bytes : (s r : List ℕ) → length s ≡ 0 → s ++ r ≡ r
 no-bytes [] r h = refl
@@ -68,8 +80,10 @@ are-joined : (ts us : Trees) (s r : List ℕ) → EncodesAll ts s → EncodesAll
 unfolding joined Encodes
 are-joined none us s r k l = rw (no-bytes s r k) l
 are-joined (more t ts) us s r k l =
-    let w = is-whole t s (k .0) in
-    (is-longer t s r (k .0), rw (length-longer s r (omega (arith, w)), drop-append-le (3 + lengthAt s) s r w) (are-joined ts us (drop (3 + lengthAt s) s) r (k .1) l))
+    let w = is-whole t s (k .0) in (
+      is-longer t s r (k .0),
+      rw (length-longer s r (omega (arith, w)), drop-append-le (3 + lengthAt s) s r w) (are-joined ts us (drop (3 + lengthAt s) s) r (k .1) l),
+    )
 
 -- ---- one element
 
@@ -97,7 +111,8 @@ module _ (t : Tree) (ts : Trees) (s : List ℕ) (k : EncodesAll (more t ts) s) w
       go (group a us) k =
           let e : drop (3 + lengthAt s) s ≡ drop (lengthAt s) (drop 3 s) = sym (drop-drop (lengthAt s) 3 s) in
           rw (ne-eqb (getD s 0 0) 1 (λ z. omega (arith, k .0 .1, tag-low a)))
-          (subst (λ (r : List ℕ). EncodesAll (joined us ts) r) (take-append-drop (lengthAt s) (drop 3 s)) (are-joined us ts (contents s) (drop (lengthAt s) (drop 3 s)) (k .0 .2) (rw (← e) (k .1))))
+          (subst (λ (r : List ℕ). EncodesAll (joined us ts) r) (take-append-drop (lengthAt s) (drop 3 s))
+          (are-joined us ts (contents s) (drop (lengthAt s) (drop 3 s)) (k .0 .2) (rw (← e) (k .1))))
 
   pub after-nodes : nodes* (more t ts) ≡ suc (nodes* nextTrees)
   unfolding nodes insideTree joined
@@ -117,17 +132,21 @@ module _ (t : Tree) (ts : Trees) (s : List ℕ) (k : EncodesAll (more t ts) s) w
 
   -- its front, its text with dots where they are due, and the elements after it
   pub after-bytes : (dots : ℕ → Bool) (n : ℕ)
-      → bytesOf* (blanked* dots n (more t ts)) ≡ getD s 0 0 ∷ (lengthAt s / 256) ∷ (lengthAt s % 256) ∷ (map (shownByte (dots n)) (take (textAt s) (drop 3 s)) ++ bytesOf* (blanked* dots (suc n) nextTrees))
+      → bytesOf* (blanked* dots n (more t ts)) ≡ getD s 0 0 ∷ (lengthAt s / 256) ∷ (lengthAt s % 256)
+      ∷ (map (shownByte (dots n)) (take (textAt s) (drop 3 s)) ++ bytesOf* (blanked* dots (suc n) nextTrees))
   unfolding Encodes bytesOf blanked insideTree joined nodes
   after-bytes dots n = go t k
     where
       go : (t : Tree) → EncodesAll (more t ts) s
-          → bytesOf* (blanked* dots n (more t ts)) ≡ getD s 0 0 ∷ (lengthAt s / 256) ∷ (lengthAt s % 256) ∷ (map (shownByte (dots n)) (take (textAt s) (drop 3 s)) ++ bytesOf* (blanked* dots (suc n) (joined (insideTree t) ts)))
+          → bytesOf* (blanked* dots n (more t ts)) ≡ getD s 0 0 ∷ (lengthAt s / 256) ∷ (lengthAt s % 256)
+          ∷ (map (shownByte (dots n)) (take (textAt s) (drop 3 s)) ++ bytesOf* (blanked* dots (suc n) (joined (insideTree t) ts)))
       go (cell x) k =
-          let e : length (map (shownByte (dots n)) x) ≡ lengthAt s = length-map x (shownByte (dots n)) ∙ sym (ap length (k .0 .2)) ∙ contents-length s (k .0 .0) in
+          let e : length (map (shownByte (dots n)) x) ≡ lengthAt s = length-map x (shownByte (dots n)) ∙ sym (ap length (k .0 .2))
+          ∙ contents-length s (k .0 .0) in
           let j : n + 1 ≡ suc n = omega arith in
           rw (eq-eqb (getD s 0 0) 1 (k .0 .1), k .0 .1, k .0 .2, e, j)
       go (group a us) k =
-          let e : length (bytesOf* (blanked* dots (suc n) us)) ≡ lengthAt s = bytes*-length (blanked* dots (suc n) us) ∙ blanked*-bytes-in dots us (suc n) ∙ sym (are-bytes-in us (contents s) (k .0 .2)) ∙ contents-length s (k .0 .0) in
+          let e : length (bytesOf* (blanked* dots (suc n) us)) ≡ lengthAt s = bytes*-length (blanked* dots (suc n) us) ∙ blanked*-bytes-in dots us (suc n)
+          ∙ sym (are-bytes-in us (contents s) (k .0 .2)) ∙ contents-length s (k .0 .0) in
           let j : n + suc (nodes* us) ≡ suc n + nodes* us = omega arith in
           rw (ne-eqb (getD s 0 0) 1 (λ z. omega (arith, k .0 .1, tag-low a)), k .0 .1, e, j, joined-bytes dots us ts (suc n))

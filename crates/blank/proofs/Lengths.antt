@@ -1,4 +1,4 @@
--- How many bytes a tree has: its shape and the lengths of its texts say. Assumes nothing.
+-- How many bytes a tree has: its shape and the lengths of its texts say.
 use mathlib.Core.Path.{_≡_, refl, sym, ap, ap₂, _∙_}
 use Prim.Native.Nat.{ℕ, suc, _+_}
 use native.Mathlib.Omega.{arith}
@@ -30,7 +30,8 @@ mutual
 
   pub are-bytes-in : (ts : Trees) (s : List ℕ) → EncodesAll ts s → length s ≡ bytesIn* ts
   are-bytes-in none = λ s k. k
-  are-bytes-in (more t ts) = λ s k. omega (arith, is-bytes-in t s (k .0), is-whole t s (k .0), are-bytes-in ts (drop (3 + lengthAt s) s) (k .1), length-drop (3 + lengthAt s) s)
+  are-bytes-in (more t ts) = λ s k.
+      omega (arith, is-bytes-in t s (k .0), is-whole t s (k .0), are-bytes-in ts (drop (3 + lengthAt s) s) (k .1), length-drop (3 + lengthAt s) s)
 
 mutual
   unfolding bytesIn bytesOf

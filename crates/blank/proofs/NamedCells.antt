@@ -1,4 +1,4 @@
--- The Cells that are named: what name_cells has seen of the numbers. Assumes nothing.
+-- The Cells that are named: what name_cells has seen of the numbers.
 use mathlib.Core.Path.{_≡_, refl, sym, _∙_}
 use Prim.Native.Nat.{ℕ, suc, _+_, _≤_, _<_}
 use native.Mathlib.Omega.{arith}

@@ -1,4 +1,4 @@
--- The bytes of a text as they are shown: what show_byte answers, and the bytes that put_text has yet to write. Assumes nothing.
+-- The bytes of a text as they are shown: what show_byte answers, and the bytes that put_text has yet to write.
 use mathlib.Core.Path.{_≡_, refl, sym, ap, _∙_}
 use Prim.Native.Nat.{ℕ, suc, _+_, _≤_, _<_}
 use native.Mathlib.Omega.{arith}

@@ -70,7 +70,8 @@ noBlank k o = record { answer = record { number = k; count = 0 }; out = o }
 
 -- 8 where the output is shorter than the tree; its bytes past the tree stay
 abbrev pub blankTo : List ℕ → List ℕ → Blanks
-blankTo bytes o = pick (ltb (length o) (length bytes)) (noBlank 8 o) (record { answer = record { number = 0; count = length bytes }; out = bytes ++ drop (length bytes) o })
+blankTo bytes o = pick (ltb (length o) (length bytes)) (noBlank 8 o) (record
+    { answer = record { number = 0; count = length bytes }; out = bytes ++ drop (length bytes) o })
 
 -- 9 where a number names no Cell
 abbrev pub blankIn : ReadOne → List ℕ → List ℕ → Blanks

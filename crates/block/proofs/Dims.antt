@@ -1,4 +1,4 @@
--- The dimensions of a leaf's body and block. Assumes nothing.
+-- The dimensions of a leaf's body and block.
 use mathlib.Core.Path.{_≡_, refl, ap}
 use Prim.Native.Nat.{ℕ, zero, suc, _-_, _≤_, _<_}
 use native.Mathlib.Omega.{arith}
@@ -41,10 +41,6 @@ unfolding ruled
 length-ruled ns b c i zero = refl
 length-ruled ns b c i (suc n) = ap suc (length-ruled ns b c (suc i) n)
 
-length-edge : (n : ℕ) (b : Bool) (m : ℕ) → length (edge n b m) ≡ pick b n 0
-unfolding edge
-length-edge n b m = length-replicate (pick b n 0) m
-
 column-dims : (n : ℕ) (l : List ℕ) → Dims (column n l) (length l) n
 unfolding column
 column-dims n [] = record { lines = refl; columns = tt }
@@ -64,7 +60,8 @@ pub middle-dims : (s : Settings) (l : Leaf) → Fits (leafSize s (l .text)) (l .
 unfolding middle blockWidth
 middle-dims s l fits =
     dims-move
-    (dims-paired (left-dims (sep s) _ _ _ (l .size .height)) (dims-paired (body-dims s (l .text) (l .size) fits) (edges-dims (l .size .height) (sep s) (l .flags .«last_col») (mark s 3))))
+    (dims-paired (left-dims (sep s) _ _ _ (l .size .height))
+    (dims-paired (body-dims s (l .text) (l .size) fits) (edges-dims (l .size .height) (sep s) (l .flags .«last_col») (mark s 3))))
     refl (omega arith)
 
 top-length : (s : Settings) (l : Leaf) → length (topLine s l) ≡ blockWidth s (l .size) (l .flags)
@@ -75,8 +72,10 @@ bottom-length : (s : Settings) (l : Leaf) → length (bottomLine s l) ≡ blockW
 unfolding bottomLine blockWidth
 bottom-length s l = simp (length-append, length-replicate) (omega arith)
 
--- 01's "a leaf's block has 1 + allotted height lines, one more under last_row, of 1 + allotted width columns, one more under last_col", with the separator width for the 1 and the one more
-pub block-dims : (s : Settings) (l : Leaf) → Fits (leafSize s (l .text)) (l .size) → Dims (block s l) (blockHeight s (l .size) (l .flags)) (blockWidth s (l .size) (l .flags))
+-- 01's "a leaf's block has 1 + allotted height lines, one more under last_row, of 1 + allotted width columns, one more under last_col", with the separator
+-- width for the 1 and the one more
+pub block-dims : (s : Settings) (l : Leaf) → Fits (leafSize s (l .text)) (l .size)
+    → Dims (block s l) (blockHeight s (l .size) (l .flags)) (blockWidth s (l .size) (l .flags))
 unfolding block blockHeight
 block-dims s l fits =
     dims-move

@@ -1,4 +1,4 @@
--- No line of a block holds a 0A, so that the lines joined by 0A are parted into the same lines again. Assumes nothing.
+-- No line of a block holds a 0A, so that the lines joined by 0A are parted into the same lines again.
 use mathlib.Core.Path.{_≡_, refl, ap, _∙_}
 use mathlib.Core.Logic.{_≢_}
 use Prim.Native.Nat.{ℕ, zero, suc, _-_}
@@ -132,14 +132,17 @@ module _ (s : Settings) (p : NoFeedMarks s) where
       let slack = z .height - s .top - s .bottom - textHeight t in
       no-feed-append (no-feed-replicate (slackBefore (s .vertical) slack) (free-spaces w))
       (no-feed-append (no-feed-replicate (s .top) (free-replicate w (p .fills 2)))
-      (no-feed-append (no-feed-map (textLine s (w - s .left - s .right) (textWidth t)) (free-text-line (w - s .left - s .right) (textWidth t)) (no-feed-lines t))
-      (no-feed-append (no-feed-replicate (s .bottom) (free-replicate w (p .fills 3))) (no-feed-replicate (slack - slackBefore (s .vertical) slack) (free-spaces w)))))
+      (no-feed-append (no-feed-map (textLine s (w - s .left - s .right) (textWidth t)) (free-text-line (w - s .left - s .right) (textWidth t))
+      (no-feed-lines t))
+      (no-feed-append (no-feed-replicate (s .bottom) (free-replicate w (p .fills 3)))
+      (no-feed-replicate (slack - slackBefore (s .vertical) slack) (free-spaces w)))))
 
   free-top : (l : Leaf) → Free (topLine s l)
   unfolding topLine
   free-top l =
       free-append (free-replicate (sep s) (free-top-left (l .flags)))
-      (free-append (free-ruled (named (l .size .width) (l .horizontal)) 0 (l .size .width) (free-mark 11) (free-mark 0)) (free-edge (sep s) (l .flags .«last_col») (free-top-right (l .flags))))
+      (free-append (free-ruled (named (l .size .width) (l .horizontal)) 0 (l .size .width) (free-mark 11) (free-mark 0))
+      (free-edge (sep s) (l .flags .«last_col») (free-top-right (l .flags))))
 
   no-feed-middle : (l : Leaf) → NoFeed (middle s l)
   unfolding middle
@@ -151,11 +154,13 @@ module _ (s : Settings) (p : NoFeedMarks s) where
   free-bottom : (l : Leaf) → Free (bottomLine s l)
   unfolding bottomLine
   free-bottom l =
-      free-append (free-replicate (sep s) (free-bottom-left (l .flags))) (free-append (free-replicate (l .size .width) (free-mark 1)) (free-edge (sep s) (l .flags .«last_col») (free-mark 10)))
+      free-append (free-replicate (sep s) (free-bottom-left (l .flags)))
+      (free-append (free-replicate (l .size .width) (free-mark 1)) (free-edge (sep s) (l .flags .«last_col») (free-mark 10)))
 
   pub block-no-feed : (l : Leaf) → NoFeed (block s l)
   unfolding block
-  block-no-feed l = no-feed-append (no-feed-replicate (sep s) (free-top l)) (no-feed-append (no-feed-middle l) (no-feed-replicate (pick (l .flags .«last_row») (sep s) 0) (free-bottom l)))
+  block-no-feed l = no-feed-append (no-feed-replicate (sep s) (free-top l)) (no-feed-append (no-feed-middle l)
+      (no-feed-replicate (pick (l .flags .«last_row») (sep s) 0) (free-bottom l)))
 
 -- ---- parted at each 0A
 

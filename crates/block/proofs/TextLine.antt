@@ -1,4 +1,4 @@
--- A text line between its marks: its indent and its length. Assumes nothing.
+-- A text line between its marks: its indent and its length.
 use mathlib.Core.Path.{_≡_, _∙_}
 use Prim.Native.Nat.{ℕ, _+_, _-_, _≤_, max}
 use native.Mathlib.Nat.{le-refl}
@@ -44,8 +44,11 @@ module _ (s : Settings) (inner widest : ℕ) (l : List ℕ) (h : length l ≤ wi
 longest : (ls : List (List ℕ)) → Every (λ l. length l ≤ greatest (map length ls)) ls
 unfolding greatest
 longest [] = tt
-longest (l ∷ ls) =
-    (omega arith, every-map (λ m. length m ≤ greatest (map length ls)) (λ m. length m ≤ max (length l) (greatest (map length ls))) (λ m h. omega arith) ls (longest ls))
+longest (l ∷ ls) = (
+  omega arith,
+  every-map (λ m. length m ≤ greatest (map length ls)) (λ m. length m
+      ≤ max (length l) (greatest (map length ls))) (λ m h. omega arith) ls (longest ls),
+)
 
 pub lines-width : (t : List ℕ) → Every (λ l. length l ≤ textWidth t) (lines t)
 unfolding textWidth lineLengths

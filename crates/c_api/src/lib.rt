@@ -107,7 +107,8 @@ pub extern "C" fn leg_leaf_record(settings: &[u8], tree: &[u8], node: usize, out
 
 #[no_mangle]
 pub extern "C" fn leg_print_leaf(settings: &[u8], tree: &[u8], node: usize, out: &mut [u8]) -> u64
-    ensures { λ r. ⌜ r ≡ packed (leafPrintOf (inputOf (now (settings .entry)) (now (tree .entry))) node (now (out .entry)) .answer .number) (leafPrintOf (inputOf (now (settings .entry)) (now (tree .entry))) node (now (out .entry)) .answer .count) ⌝ }
+    ensures { λ r. ⌜ r ≡ packed (leafPrintOf (inputOf (now (settings .entry)) (now (tree .entry))) node (now (out .entry)) .answer .number) (leafPrintOf
+        (inputOf (now (settings .entry)) (now (tree .entry))) node (now (out .entry)) .answer .count) ⌝ }
     ensures shown { λ _. ⌜ now (out .exit) ≡ leafPrintOf (inputOf (now (settings .entry)) (now (tree .entry))) node (now (out .entry)) .out ⌝ }
 {
     let w = leaf::print_leaf(settings, tree, node, out);
@@ -116,7 +117,8 @@ pub extern "C" fn leg_print_leaf(settings: &[u8], tree: &[u8], node: usize, out:
 
 #[no_mangle]
 pub extern "C" fn leg_print_sheet(settings: &[u8], tree: &[u8], out: &mut [u8]) -> u64
-    ensures { λ r. ⌜ r ≡ packed (sheetOf (inputOf (now (settings .entry)) (now (tree .entry))) (now (out .entry)) .answer .number) (sheetOf (inputOf (now (settings .entry)) (now (tree .entry))) (now (out .entry)) .answer .count) ⌝ }
+    ensures { λ r. ⌜ r ≡ packed (sheetOf (inputOf (now (settings .entry)) (now (tree .entry))) (now (out .entry)) .answer .number) (sheetOf
+        (inputOf (now (settings .entry)) (now (tree .entry))) (now (out .entry)) .answer .count) ⌝ }
     ensures shown { λ _. ⌜ now (out .exit) ≡ sheetOf (inputOf (now (settings .entry)) (now (tree .entry))) (now (out .entry)) .out ⌝ }
 {
     let w = sheet::print_sheet(settings, tree, out);
@@ -132,7 +134,8 @@ pub extern "C" fn leg_place(
     out: &mut [u16],
 ) -> u64
     ensures { λ r. ⌜ r ≡ placeGiven (leafPlaceOf (inputOf (now (settings .entry)) (now (tree .entry))) line column) (now (out .entry)) .word ⌝ }
-    ensures shown { λ _. ⌜ now (out .exit) ≡ placeGiven (leafPlaceOf (inputOf (now (settings .entry)) (now (tree .entry))) line column) (now (out .entry)) .out ⌝ }
+    ensures shown { λ _.
+        ⌜ now (out .exit) ≡ placeGiven (leafPlaceOf (inputOf (now (settings .entry)) (now (tree .entry))) line column) (now (out .entry)) .out ⌝ }
 {
     let p = places::leaf_at(settings, tree, line, column);
     if p.number != 0 {
@@ -153,9 +156,13 @@ pub extern "C" fn leg_places(
     answers: &mut [u64],
     read: &mut u64,
 ) -> u64
-    ensures { λ r. ⌜ r ≡ packed (findsOf (inputOf (now (settings .entry)) (now (tree .entry))) (now (places .entry)) (now (answers .entry)) .answer .number) (findsOf (inputOf (now (settings .entry)) (now (tree .entry))) (now (places .entry)) (now (answers .entry)) .answer .count) ⌝ }
-    ensures listed { λ _. ⌜ now (answers .exit) ≡ findsOf (inputOf (now (settings .entry)) (now (tree .entry))) (now (places .entry)) (now (answers .entry)) .list ⌝ }
-    ensures told { λ _. ⌜ now (read .exit) ≡ readAfter (findsOf (inputOf (now (settings .entry)) (now (tree .entry))) (now (places .entry)) (now (answers .entry)) .answer) (now (read .entry)) ⌝ }
+    ensures { λ r. ⌜ r ≡ packed (findsOf (inputOf (now (settings .entry)) (now (tree .entry))) (now (places .entry))
+        (now (answers .entry)) .answer .number) (findsOf (inputOf (now (settings .entry)) (now (tree .entry))) (now (places .entry))
+        (now (answers .entry)) .answer .count) ⌝ }
+    ensures listed { λ _.
+        ⌜ now (answers .exit) ≡ findsOf (inputOf (now (settings .entry)) (now (tree .entry))) (now (places .entry)) (now (answers .entry)) .list ⌝ }
+    ensures told { λ _. ⌜ now (read .exit)
+        ≡ readAfter (findsOf (inputOf (now (settings .entry)) (now (tree .entry))) (now (places .entry)) (now (answers .entry)) .answer) (now (read .entry)) ⌝ }
 {
     let r = places::find_places(settings, tree, places, answers);
     if r.number != 0 {
@@ -174,9 +181,11 @@ pub extern "C" fn leg_fold(
     columns: &mut [u16],
     found: &mut [u64; 3],
 ) -> u64
-    ensures { λ r. ⌜ r ≡ packed (foldOf (inputOf (now (settings .entry)) (now (tree .entry))) width budget (now (columns .entry)) .answer .number) (foldOf (inputOf (now (settings .entry)) (now (tree .entry))) width budget (now (columns .entry)) .answer .columns) ⌝ }
+    ensures { λ r. ⌜ r ≡ packed (foldOf (inputOf (now (settings .entry)) (now (tree .entry))) width budget (now (columns .entry)) .answer .number) (foldOf
+        (inputOf (now (settings .entry)) (now (tree .entry))) width budget (now (columns .entry)) .answer .columns) ⌝ }
     ensures listed { λ _. ⌜ now (columns .exit) ≡ foldOf (inputOf (now (settings .entry)) (now (tree .entry))) width budget (now (columns .entry)) .list ⌝ }
-    ensures told { λ _. ⌜ now (found .exit) ≡ foundAfter (foldOf (inputOf (now (settings .entry)) (now (tree .entry))) width budget (now (columns .entry)) .answer) (now (found .entry)) ⌝ }
+    ensures told { λ _. ⌜ now (found .exit)
+        ≡ foundAfter (foldOf (inputOf (now (settings .entry)) (now (tree .entry))) width budget (now (columns .entry)) .answer) (now (found .entry)) ⌝ }
 {
     let r = fold::fold_list(settings, tree, width, budget, columns);
     if r.number != 0 {
@@ -206,9 +215,13 @@ pub extern "C" fn leg_widen(
     nodes: &mut [u16],
     letters: &mut [u32],
 ) -> u64
-    ensures { λ r. ⌜ r ≡ packed (nearestOf (inputOf (now (settings .entry)) (now (tree .entry))) (now (nodes .entry)) (now (letters .entry)) .answer .number) (nearestOf (inputOf (now (settings .entry)) (now (tree .entry))) (now (nodes .entry)) (now (letters .entry)) .answer .count) ⌝ }
-    ensures nodes { λ _. ⌜ now (nodes .exit) ≡ nearestOf (inputOf (now (settings .entry)) (now (tree .entry))) (now (nodes .entry)) (now (letters .entry)) .nodes ⌝ }
-    ensures letters { λ _. ⌜ now (letters .exit) ≡ nearestOf (inputOf (now (settings .entry)) (now (tree .entry))) (now (nodes .entry)) (now (letters .entry)) .letters ⌝ }
+    ensures { λ r. ⌜ r ≡ packed (nearestOf (inputOf (now (settings .entry)) (now (tree .entry))) (now (nodes .entry))
+        (now (letters .entry)) .answer .number) (nearestOf (inputOf (now (settings .entry)) (now (tree .entry))) (now (nodes .entry))
+        (now (letters .entry)) .answer .count) ⌝ }
+    ensures nodes { λ _.
+        ⌜ now (nodes .exit) ≡ nearestOf (inputOf (now (settings .entry)) (now (tree .entry))) (now (nodes .entry)) (now (letters .entry)) .nodes ⌝ }
+    ensures letters { λ _.
+        ⌜ now (letters .exit) ≡ nearestOf (inputOf (now (settings .entry)) (now (tree .entry))) (now (nodes .entry)) (now (letters .entry)) .letters ⌝ }
 {
     let r = widen::nearest_cells(settings, tree, nodes, letters);
     pack(r.number, r.count)

@@ -6,7 +6,8 @@ ghost use Rattle.blank.specs.Blank.{blankOf};
 
 #[no_mangle]
 pub extern "C" fn leg_blank(tree: &[u8], nodes: &[u16], out: &mut [u8]) -> u64
-    ensures { λ r. ⌜ r ≡ packed (blankOf (now (tree .entry)) (now (nodes .entry)) (now (out .entry)) .answer .number) (blankOf (now (tree .entry)) (now (nodes .entry)) (now (out .entry)) .answer .count) ⌝ }
+    ensures { λ r. ⌜ r ≡ packed (blankOf (now (tree .entry)) (now (nodes .entry)) (now (out .entry)) .answer .number) (blankOf (now (tree .entry))
+        (now (nodes .entry)) (now (out .entry)) .answer .count) ⌝ }
     ensures written { λ _. ⌜ now (out .exit) ≡ blankOf (now (tree .entry)) (now (nodes .entry)) (now (out .entry)) .out ⌝ }
 {
     let r = blank::blank_texts(tree, nodes, out);

@@ -22,7 +22,8 @@ pub extern "C" fn leg_forget_draft(store: &mut [u8], name: u8) -> u64
 
 #[no_mangle]
 pub extern "C" fn leg_return_draft(store: &[u8], name: u8, out: &mut [u8]) -> u64
-    ensures { λ r. ⌜ r ≡ packed (returnOf (now (store .entry)) name (now (out .entry)) .answer .number) (returnOf (now (store .entry)) name (now (out .entry)) .answer .count) ⌝ }
+    ensures { λ r. ⌜ r ≡ packed (returnOf (now (store .entry)) name (now (out .entry)) .answer .number) (returnOf (now (store .entry)) name
+        (now (out .entry)) .answer .count) ⌝ }
     ensures copied { λ _. ⌜ now (out .exit) ≡ returnOf (now (store .entry)) name (now (out .entry)) .out ⌝ }
 {
     let r = drafts::return_draft(store, name, out);

@@ -1,4 +1,4 @@
--- Split lists in arrays of 512 have at most 512 entries. Assumes nothing.
+-- Split lists in arrays of 512 have at most 512 entries.
 use mathlib.Core.Path.{_≡_, sym, ap, _∙_}
 use mathlib.Core.Bool.{Bool, true, false}
 use Prim.Native.Nat.{ℕ, _≤_}
@@ -35,8 +35,16 @@ pair-few n l e x f h = rw (e, ← ap (λ (y : SplitList). y .count) f) (list-few
 cut-case : (b : Bool) (x : Cut) (k : CutParts) → k ≡ pick b (cutAnswered x) refusedCut → length (k .taken .pieces) ≡ 512 → length (k .left .pieces) ≡ 512
     → (k .pair .taken ≤ 512) × (k .taken .count ≤ 512) × (k .left .count ≤ 512)
 unfolding pairOf
-cut-case true x k e h g = (pair-few _ (x .taken) (ap (λ (y : CutParts). y .pair .taken) e) _ (ap (λ (y : CutParts). y .taken) e) h, list-few _ (x .taken) (ap (λ (y : CutParts). y .taken) e) h, list-few _ (x .left) (ap (λ (y : CutParts). y .left) e) g)
-cut-case false x k e h g = (pair-few _ [] (ap (λ (y : CutParts). y .pair .taken) e) _ (ap (λ (y : CutParts). y .taken) e) h, list-few _ [] (ap (λ (y : CutParts). y .taken) e) h, list-few _ [] (ap (λ (y : CutParts). y .left) e) g)
+cut-case true x k e h g = (
+  pair-few _ (x .taken) (ap (λ (y : CutParts). y .pair .taken) e) _ (ap (λ (y : CutParts). y .taken) e) h,
+  list-few _ (x .taken) (ap (λ (y : CutParts). y .taken) e) h,
+  list-few _ (x .left) (ap (λ (y : CutParts). y .left) e) g,
+)
+cut-case false x k e h g = (
+  pair-few _ [] (ap (λ (y : CutParts). y .pair .taken) e) _ (ap (λ (y : CutParts). y .taken) e) h,
+  list-few _ [] (ap (λ (y : CutParts). y .taken) e) h,
+  list-few _ [] (ap (λ (y : CutParts). y .left) e) g,
+)
 
 pub cut-few : (list : SplitList) (w : ℕ) (k : CutParts) → k ≡ cutOf list w → length (k .taken .pieces) ≡ 512 → length (k .left .pieces) ≡ 512
     → (k .pair .taken ≤ 512) × (k .taken .count ≤ 512) × (k .left .count ≤ 512)
@@ -45,24 +53,41 @@ cut-few list w k e h g = cut-case (leb (list .count) 512) (shortSplits3 (listOf 
 
 abbrev keptBy : Bool → Cut → SplitList → InPlaceCut
 keptBy b x list = record {
-  answer = record { number = pick b (cutAnswered x) refusedCut .number; split = pick b (cutAnswered x) refusedCut .split; pair = pick b (cutAnswered x) refusedCut .pair; taken = pick b (cutAnswered x) refusedCut .taken };
+  answer = record {
+    number = pick b (cutAnswered x) refusedCut .number;
+    split = pick b (cutAnswered x) refusedCut .split;
+    pair = pick b (cutAnswered x) refusedCut .pair;
+    taken = pick b (cutAnswered x) refusedCut .taken;
+  };
   list = pick b (pick b (cutAnswered x) refusedCut .left) list;
 }
 
-kept-case : (b : Bool) (x : Cut) (list : SplitList) (k : InPlaceCut) → k ≡ keptBy b x list → list .count ≤ 512 → length (k .answer .taken .pieces) ≡ 512 → length (k .list .pieces) ≡ 512
+kept-case : (b : Bool) (x : Cut) (list : SplitList) (k : InPlaceCut) → k ≡ keptBy b x list → list .count ≤ 512 → length (k .answer .taken .pieces) ≡ 512
+    → length (k .list .pieces) ≡ 512
     → (k .answer .pair .taken ≤ 512) × (k .list .count ≤ 512) × (k .answer .taken .count ≤ 512)
 unfolding pairOf
-kept-case true x list k e few h g = (pair-few _ (x .taken) (ap (λ (y : InPlaceCut). y .answer .pair .taken) e) _ (ap (λ (y : InPlaceCut). y .answer .taken) e) h, list-few _ (x .left) (ap (λ (y : InPlaceCut). y .list) e) g, list-few _ (x .taken) (ap (λ (y : InPlaceCut). y .answer .taken) e) h)
-kept-case false x list k e few h g = (pair-few _ [] (ap (λ (y : InPlaceCut). y .answer .pair .taken) e) _ (ap (λ (y : InPlaceCut). y .answer .taken) e) h, rw (ap (λ (y : InPlaceCut). y .list) e) few, list-few _ [] (ap (λ (y : InPlaceCut). y .answer .taken) e) h)
+kept-case true x list k e few h g = (
+  pair-few _ (x .taken) (ap (λ (y : InPlaceCut). y .answer .pair .taken) e) _ (ap (λ (y : InPlaceCut). y .answer .taken) e) h,
+  list-few _ (x .left) (ap (λ (y : InPlaceCut). y .list) e) g,
+  list-few _ (x .taken) (ap (λ (y : InPlaceCut). y .answer .taken) e) h,
+)
+kept-case false x list k e few h g = (
+  pair-few _ [] (ap (λ (y : InPlaceCut). y .answer .pair .taken) e) _ (ap (λ (y : InPlaceCut). y .answer .taken) e) h,
+  rw (ap (λ (y : InPlaceCut). y .list) e) few,
+  list-few _ [] (ap (λ (y : InPlaceCut). y .answer .taken) e) h,
+)
 
-pub kept-few : (list : SplitList) (w : ℕ) (k : InPlaceCut) → k ≡ inPlaceCut list w → list .count ≤ 512 → length (k .answer .taken .pieces) ≡ 512 → length (k .list .pieces) ≡ 512
+pub kept-few : (list : SplitList) (w : ℕ) (k : InPlaceCut) → k ≡ inPlaceCut list w → list .count ≤ 512 → length (k .answer .taken .pieces) ≡ 512
+    → length (k .list .pieces) ≡ 512
     → (k .answer .pair .taken ≤ 512) × (k .list .count ≤ 512) × (k .answer .taken .count ≤ 512)
 unfolding inPlaceCut cutOf
 kept-few list w k e few h g = kept-case (leb (list .count) 512) (shortSplits3 (listOf list) w) list k e few h g
 
-short-case : (b : Bool) (x : Short) (k : ShortParts) → k ≡ pick b (answeredShort x) refusedShort → length (k .positions .entries) ≡ 512 → length (k .left .pieces) ≡ 512
+short-case : (b : Bool) (x : Short) (k : ShortParts) → k ≡ pick b (answeredShort x) refusedShort → length (k .positions .entries) ≡ 512
+    → length (k .left .pieces) ≡ 512
     → (k .positions .count ≤ 512) × (k .left .count ≤ 512)
-short-case true x k e h g = (position-few _ (x .positions) (ap (λ (y : ShortParts). y .positions) e) h, list-few _ (x .left) (ap (λ (y : ShortParts). y .left) e) g)
+short-case true x k e h g =
+    (position-few _ (x .positions) (ap (λ (y : ShortParts). y .positions) e) h, list-few _ (x .left) (ap (λ (y : ShortParts). y .left) e) g)
 short-case false x k e h g = (position-few _ [] (ap (λ (y : ShortParts). y .positions) e) h, list-few _ [] (ap (λ (y : ShortParts). y .left) e) g)
 
 pub short-few : (list : SplitList) (w : ℕ) (k : ShortParts) → k ≡ shortOf list w → length (k .positions .entries) ≡ 512 → length (k .left .pieces) ≡ 512

@@ -1,4 +1,4 @@
--- Five numbers a node, from the list of sizes and that of the counts. Assumes nothing.
+-- Five numbers a node, from the list of sizes and that of the counts.
 use mathlib.Core.Path.{_≡_, refl, ap, _∙_}
 use Prim.Native.Nat.{ℕ, suc, _+_, _-_, _*_, _≤_, _<_}
 use native.Mathlib.Omega.{arith}
@@ -23,7 +23,8 @@ use Rattle.c_encoding.specs.Contracts.{fives}
 -- the five of node e, of those from e on
 pub five-step : (n e : ℕ) (out l m : List ℕ) → e < n
     → sets out (5 * e) (fives (n - e) (drop (4 * e) l) (drop e m))
-    ≡ sets (sets out (5 * e) (getD l (4 * e) 0 ∷ getD l (4 * e + 1) 0 ∷ getD l (4 * e + 2) 0 ∷ getD l (4 * e + 3) 0 ∷ getD m e 0 ∷ [])) (5 * (e + 1)) (fives (n - (e + 1)) (drop (4 * (e + 1)) l) (drop (e + 1) m))
+    ≡ sets (sets out (5 * e) (getD l (4 * e) 0 ∷ getD l (4 * e + 1) 0 ∷ getD l (4 * e + 2) 0 ∷ getD l (4 * e + 3) 0 ∷ getD m e 0 ∷ [])) (5 * (e + 1))
+    (fives (n - (e + 1)) (drop (4 * (e + 1)) l) (drop (e + 1) m))
 unfolding fives
 five-step n e out l m h =
     let u : n - e ≡ suc (n - (e + 1)) = omega arith in
@@ -31,7 +32,20 @@ five-step n e out l m h =
     let w : 4 * (e + 1) ≡ 4 * e + 4 = omega arith in
     let x : 4 * e + 0 ≡ 4 * e = omega arith in
     let y : e + 0 ≡ e = omega arith in
-    rw (u, v, w, getD-drop (4 * e) l 0 0, getD-drop (4 * e) l 1 0, getD-drop (4 * e) l 2 0, getD-drop (4 * e) l 3 0, getD-drop e m 0 0, drop-drop 4 (4 * e) l, drop-drop 1 e m, x, y)
+    rw (
+      u,
+      v,
+      w,
+      getD-drop (4 * e) l 0 0,
+      getD-drop (4 * e) l 1 0,
+      getD-drop (4 * e) l 2 0,
+      getD-drop (4 * e) l 3 0,
+      getD-drop e m 0 0,
+      drop-drop 4 (4 * e) l,
+      drop-drop 1 e m,
+      x,
+      y,
+    )
 
 fives-none : (n : ℕ) (l m : List ℕ) → n ≡ 0 → fives n l m ≡ []
 unfolding fives
@@ -42,7 +56,8 @@ five-done n e out l m h = let u : n - e ≡ 0 = omega arith in rw (fives-none (n
 
 -- ---- they are those of the records
 
-fives-records : (zs : List Sizes) (bs l m : List ℕ) → length zs ≡ length bs → fives (length zs) (flat zs ++ l) (bs ++ m) ≡ sizeNumbers (zipped sizeRecordOf zs bs)
+fives-records : (zs : List Sizes) (bs l m : List ℕ) → length zs ≡ length bs
+    → fives (length zs) (flat zs ++ l) (bs ++ m) ≡ sizeNumbers (zipped sizeRecordOf zs bs)
 unfolding fives flat sizeNumbers zipped
 fives-records [] bs l m e = refl
 fives-records (z ∷ zs) [] l m e = absurd (omega arith)

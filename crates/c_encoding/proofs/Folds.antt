@@ -1,4 +1,4 @@
--- What the C function that folds writes, beside the definition's. Assumes nothing.
+-- What the C function that folds writes, beside the definition's.
 use mathlib.Core.Path.{_≡_, refl}
 use Prim.Native.Nat.{ℕ}
 use native.Mathlib.Omega.{arith}

@@ -1,4 +1,4 @@
--- The sizes that were measured and the counts, as five numbers a node. Assumes nothing.
+-- The sizes that were measured and the counts, as five numbers a node.
 use mathlib.Core.Path.{_≡_, refl, ap, _∙_}
 use Prim.Native.Nat.{ℕ, _*_, _≤_, _<_}
 use native.Mathlib.Omega.{arith}
@@ -22,7 +22,8 @@ use Rattle.c_encoding.specs.Contracts.{fives}
 use Rattle.c_encoding.proofs.WrittenNumbers.{Same, same-refusal, same-written, offered-short, offered-long}
 use Rattle.c_encoding.proofs.Fives.{list-numbers, list-length}
 
-module _ (s : Settings) (t : Tree) (n : ℕ) (b old l : List ℕ) (ne : n ≡ nodes t) (f : b ≡ padded (belows t)) (e : l ≡ sets old 0 (flat (treeSizes s t))) (h : 4 * nodes t ≤ length old) where
+module _ (s : Settings) (t : Tree) (n : ℕ) (b old l : List ℕ) (ne : n ≡ nodes t) (f : b ≡ padded (belows t)) (e : l ≡ sets old 0 (flat (treeSizes s t)))
+    (h : 4 * nodes t ≤ length old) where
   many : length (fives n l b) ≡ 5 * n
   many = rw (ne, f) (list-length s t old l e h)
 
@@ -50,10 +51,13 @@ module _ (bs ts o : List ℕ) (m : Measured) (old l : List ℕ) (e : m ≡ measu
     long = many (m .settings) (known .tree) (m .count) b old l (known .count) counts (known .list) (omega (arith, known .few))
 
     given-is : sizesGiven (inputOf bs ts) o ≡ offered (m .count) (fives (m .count) l b) o
-    given-is = ap (λ (i : Input). sizesGiven i o) (known .input) ∙ offers (m .settings) (known .tree) (m .count) b old l (known .count) counts (known .list) (omega (arith, known .few)) o
+    given-is = ap (λ (i : Input). sizesGiven i o) (known .input)
+        ∙ offers (m .settings) (known .tree) (m .count) b old l (known .count) counts (known .list) (omega (arith, known .few)) o
 
-    pub sizes-written : (word : ℕ) (p : List ℕ) → 5 * m .count ≤ length o → word ≡ packed 0 (m .count) → p ≡ sets o 0 (fives (m .count) l b) → Same word p (sizesGiven (inputOf bs ts) o)
-    sizes-written word p k w x = same-written (m .count) (fives (m .count) l b) o p (given-is ∙ offered-long _ _ o (omega (arith, long))) (omega (arith, long)) w x
+    pub sizes-written : (word : ℕ) (p : List ℕ) → 5 * m .count ≤ length o → word ≡ packed 0 (m .count) → p ≡ sets o 0 (fives (m .count) l b)
+        → Same word p (sizesGiven (inputOf bs ts) o)
+    sizes-written word p k w x =
+        same-written (m .count) (fives (m .count) l b) o p (given-is ∙ offered-long _ _ o (omega (arith, long))) (omega (arith, long)) w x
 
   pub sizes-short : (m .number ≡ 0) → length old ≡ 2048 → (word : ℕ) → length o < 5 * m .count → word ≡ packed 8 0 → Same word o (sizesGiven (inputOf bs ts) o)
   sizes-short h size word k w = same-refusal 8 (given-is h size _ refl ∙ offered-short _ _ o (omega (arith, long h size _ refl))) w

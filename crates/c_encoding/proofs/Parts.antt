@@ -1,4 +1,4 @@
--- The number lent to the share, after the call. Assumes nothing.
+-- The number lent to the share, after the call.
 use mathlib.Core.Path.{_≡_, refl, sym, ap, _∙_}
 use mathlib.Core.Bool.{Bool, true, false}
 use Prim.Native.Nat.{ℕ}
@@ -11,11 +11,13 @@ use Rattle.sizes.specs.Sharing.{shareOf}
 use Rattle.sizes.specs.declared.sharing.Shared.{Shared}
 use Rattle.c_encoding.specs.Words.{packed, partAfter}
 
-stays : (b : Bool) (x old : ℕ) (r : Shared) → r ≡ pick b (record { number = 0; part = x }) (record { number = 11; part = 0 }) → (r .number ≡ 0 → ⊥) → old ≡ pick b x old
+stays : (b : Bool) (x old : ℕ) (r : Shared) → r ≡ pick b (record { number = 0; part = x }) (record { number = 11; part = 0 }) → (r .number ≡ 0 → ⊥)
+    → old ≡ pick b x old
 stays true x old r e h = absurd (h (ap (λ (y : Shared). y .number) e))
 stays false x old r e h = refl
 
-comes : (b : Bool) (x old : ℕ) (r : Shared) → r ≡ pick b (record { number = 0; part = x }) (record { number = 11; part = 0 }) → r .number ≡ 0 → r .part ≡ pick b x old
+comes : (b : Bool) (x old : ℕ) (r : Shared) → r ≡ pick b (record { number = 0; part = x }) (record { number = 11; part = 0 }) → r .number ≡ 0
+    → r .part ≡ pick b x old
 comes true x old r e h = ap (λ (y : Shared). y .part) e
 comes false x old r e h = let z : _≡_ {A = ℕ} 11 0 = sym (ap (λ (y : Shared). y .number) e) ∙ h in absurd (omega arith)
 

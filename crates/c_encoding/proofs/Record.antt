@@ -1,4 +1,4 @@
--- A leaf's record as 1039 numbers. Assumes nothing.
+-- A leaf's record as 1039 numbers.
 use mathlib.Core.Path.{_≡_, refl, sym, ap, _∙_}
 use mathlib.Core.Bool.{Bool, true, false}
 use mathlib.Core.Option.{Option, some, none}
@@ -35,7 +35,8 @@ use Rattle.c_encoding.proofs.Copies.{stored-on}
 use Rattle.c_encoding.proofs.WrittenNumbers.{Same, same-refusal, same-written, offered-short, offered-long}
 use Rattle.c_encoding.proofs.Counts.{list-few}
 
-pub record-stored : (r : LeafRecord) (o : List ℕ) {f o₁ o₂ o₃ : List ℕ} → f ≡ frontNumbers (r .node) (r .size) (r .flags) (r .pair) → o₁ ≡ sets o 0 f → o₂ ≡ sets o₁ 13 (listNumbers (r .horizontal))
+pub record-stored : (r : LeafRecord) (o : List ℕ) {f o₁ o₂ o₃ : List ℕ} → f ≡ frontNumbers (r .node) (r .size) (r .flags) (r .pair) → o₁ ≡ sets o 0 f
+    → o₂ ≡ sets o₁ 13 (listNumbers (r .horizontal))
     → length (r .horizontal .pieces) ≡ 512 → o₃ ≡ sets o₂ 526 (listNumbers (r .vertical)) → o₃ ≡ sets o 0 (recordNumbers r)
 record-stored r o {f} {o₁} ef e g long h =
     let x = stored-on (listNumbers (r .horizontal)) (listNumbers (r .vertical)) o₁ 13 g (omega arith) h in
@@ -74,8 +75,15 @@ module _ (r : LeafRecord) (z : r .number ≡ 0) (h : length (r .horizontal .piec
         horizontal = across;
         vertical = down;
         pair =
-            omega
-            (arith, y .3, across, down, ap (λ (y : LeafRecord). y .pair .taken) e, ap (λ (y : LeafRecord). y .horizontal .count) e, ap (λ (y : LeafRecord). y .vertical .count) e);
+            omega (
+              arith,
+              y .3,
+              across,
+              down,
+              ap (λ (y : LeafRecord). y .pair .taken) e,
+              ap (λ (y : LeafRecord). y .horizontal .count) e,
+              ap (λ (y : LeafRecord). y .vertical .count) e,
+            );
       }
 
   picked-plain : (b : Bool) (x : Option Placed) → ((l : Placed) → x ≡ some l → SmallLeaf l) → r ≡ pick b (noLeafRecord 6) (recordFound x) → SmallRecord r
@@ -86,7 +94,8 @@ module _ (r : LeafRecord) (z : r .number ≡ 0) (h : length (r .horizontal .piec
   unfolding leafRecordOf
   plain-case bs ts n (Input.refused k) ie e = refused-record k (input-refusal bs ts k ie .0) e
   plain-case bs ts n (Input.given s t) ie e =
-      picked-plain (tooLarge s t) (leafNumbered n (leaves s t)) (λ l x. numbered-every SmallLeaf n l (leaves s t) (leaves-small ts s t (takes bs ts s t ie)) x) e
+      picked-plain (tooLarge s t) (leafNumbered n (leaves s t))
+      (λ l x. numbered-every SmallLeaf n l (leaves s t) (leaves-small ts s t (takes bs ts s t ie)) x) e
 
   pub record-plain : (bs ts : List ℕ) (n : ℕ) → r ≡ leafRecordOf (inputOf bs ts) n → SmallRecord r
   record-plain bs ts n e = plain-case bs ts n (inputOf bs ts) refl e

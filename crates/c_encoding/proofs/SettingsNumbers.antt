@@ -1,4 +1,4 @@
--- The settings that were read as 28 numbers, and their margin as 8. Assumes nothing.
+-- The settings that were read as 28 numbers, and their margin as 8.
 use mathlib.Core.Path.{_≡_, refl, sym, ap, _∙_}
 use Prim.Native.Nat.{ℕ, _+_, _≤_, _<_}
 use native.Mathlib.Omega.{arith}
@@ -17,7 +17,8 @@ use Rattle.c_encoding.proofs.WrittenNumbers.{Same, same-refusal, same-w
 use Rattle.c_encoding.proofs.Copies.{stored-on}
 
 -- the marks, the padding, the fills and the choices, stored one after the other
-pub settings-stored : (s : Settings) (o : List ℕ) {p k o₁ o₂ o₃ o₄ : List ℕ} → Ranges s → o₁ ≡ sets o 0 (s .marks) → p ≡ s .left ∷ s .right ∷ s .top ∷ s .bottom ∷ [] → o₂ ≡ sets o₁ 15 p
+pub settings-stored : (s : Settings) (o : List ℕ) {p k o₁ o₂ o₃ o₄ : List ℕ} → Ranges s → o₁ ≡ sets o 0 (s .marks)
+    → p ≡ s .left ∷ s .right ∷ s .top ∷ s .bottom ∷ [] → o₂ ≡ sets o₁ 15 p
     → o₃ ≡ sets o₂ 19 (s .fills) → k ≡ choiceNumbers s → o₄ ≡ sets o₃ 23 k → o₄ ≡ sets o 0 (settingsNumbers s)
 settings-stored s o {p} {k} {o₁} {o₂} {o₃} {o₄} r e₁ ep e₂ e₃ ek e₄ =
     let four : 15 + length p ≡ 19 = rw ep in
@@ -30,7 +31,8 @@ pub settings-many : (s : Settings) → Ranges s → length (settingsNumbers s) �
 settings-many s r = rw (length-append (s .marks), length-append (s .fills), r .marks .many, r .fills .many)
 
 -- the margin's sizes and fills
-pub margin-stored : (s : Settings) (o : List ℕ) {o₁ o₂ : List ℕ} → o₁ ≡ sets o 0 (s .margin .left ∷ s .margin .right ∷ s .margin .top ∷ s .margin .bottom ∷ []) → o₂ ≡ sets o₁ 4 (s .margin .fills)
+pub margin-stored : (s : Settings) (o : List ℕ) {o₁ o₂ : List ℕ} → o₁ ≡ sets o 0 (s .margin .left ∷ s .margin .right ∷ s .margin .top ∷ s .margin .bottom ∷ [])
+    → o₂ ≡ sets o₁ 4 (s .margin .fills)
     → o₂ ≡ sets o 0 (marginNumbers s)
 margin-stored s o e₁ e₂ = stored-on (s .margin .left ∷ s .margin .right ∷ s .margin .top ∷ s .margin .bottom ∷ []) (s .margin .fills) o 0 e₁ refl e₂
 
@@ -67,5 +69,6 @@ module _ (count : ℕ) (numbers : Settings → List ℕ) (many : (s : Settings) 
       pub read-short : (word : ℕ) → length o < count → word ≡ packed 8 0 → Same word o (readGiven count numbers (readSettings bs) o)
       read-short word k w = same-refusal 8 (offers ∙ offered-short count _ o (omega (arith, so-many))) w
 
-      pub read-written : (word : ℕ) (p : List ℕ) → count ≤ length o → word ≡ packed 0 count → p ≡ sets o 0 (numbers (r .settings)) → Same word p (readGiven count numbers (readSettings bs) o)
+      pub read-written : (word : ℕ) (p : List ℕ) → count ≤ length o → word ≡ packed 0 count → p ≡ sets o 0 (numbers (r .settings))
+          → Same word p (readGiven count numbers (readSettings bs) o)
       read-written word p k w x = same-written count _ o p (offers ∙ offered-long count _ o (omega (arith, so-many))) (omega (arith, so-many)) w x

@@ -1,4 +1,4 @@
--- What the C functions on split lists answer and write, beside the definitions'. Assumes nothing.
+-- What the C functions on split lists answer and write, beside the definitions'.
 use mathlib.Core.Path.{_≡_, refl, sym, _∙_}
 use mathlib.Core.Bool.{Bool, true, false}
 use Prim.Native.Nat.{ℕ, _+_, _≤_, min}
@@ -25,15 +25,18 @@ use Rattle.c_encoding.proofs.WrittenNumbers.{Same, same-written}
 
 -- ---- what is stored one after the other
 
-pub cut-stored : (k : CutParts) (o : List ℕ) {b : ℕ} {o₁ o₂ o₃ : List ℕ} → b ≡ bit (k .split) → o₁ ≡ sets o 0 (b ∷ k .pair .taken ∷ k .pair .rest ∷ []) → o₂ ≡ sets o₁ 3 (listNumbers (k .taken)) → length (k .taken .pieces) ≡ 512
+pub cut-stored : (k : CutParts) (o : List ℕ) {b : ℕ} {o₁ o₂ o₃ : List ℕ} → b ≡ bit (k .split) → o₁ ≡ sets o 0 (b ∷ k .pair .taken ∷ k .pair .rest ∷ [])
+    → o₂ ≡ sets o₁ 3 (listNumbers (k .taken)) → length (k .taken .pieces) ≡ 512
     → o₃ ≡ sets o₂ 516 (listNumbers (k .left)) → o₃ ≡ sets o 0 (cutNumbers k)
 cut-stored k o {b} {o₁} eb e f long g =
     let x = stored-on (listNumbers (k .taken)) (listNumbers (k .left)) o₁ 3 f (omega arith) g in
     rw eb at (stored-on (b ∷ k .pair .taken ∷ k .pair .rest ∷ []) (listNumbers (k .taken) ++ listNumbers (k .left)) o 0 e refl x)
 
-pub kept-stored : (k : InPlaceCut) (o : List ℕ) {b : ℕ} {o₁ o₂ : List ℕ} → b ≡ bit (k .answer .split) → o₁ ≡ sets o 0 (b ∷ k .answer .pair .taken ∷ k .answer .pair .rest ∷ k .list .count ∷ []) → o₂ ≡ sets o₁ 4 (listNumbers (k .answer .taken))
+pub kept-stored : (k : InPlaceCut) (o : List ℕ) {b : ℕ} {o₁ o₂ : List ℕ} → b ≡ bit (k .answer .split)
+    → o₁ ≡ sets o 0 (b ∷ k .answer .pair .taken ∷ k .answer .pair .rest ∷ k .list .count ∷ []) → o₂ ≡ sets o₁ 4 (listNumbers (k .answer .taken))
     → o₂ ≡ sets o 0 (keptNumbers k)
-kept-stored k o {b} eb e f = rw eb at (stored-on (b ∷ k .answer .pair .taken ∷ k .answer .pair .rest ∷ k .list .count ∷ []) (listNumbers (k .answer .taken)) o 0 e refl f)
+kept-stored k o {b} eb e f =
+    rw eb at (stored-on (b ∷ k .answer .pair .taken ∷ k .answer .pair .rest ∷ k .list .count ∷ []) (listNumbers (k .answer .taken)) o 0 e refl f)
 
 -- ---- the list left in the place of the lent one
 
@@ -92,7 +95,8 @@ pub two-refusal : (k : ℕ) {word : ℕ} {a b : List ℕ} {g : GivesTwo} → g �
 unfolding refusalTwo
 two-refusal k e w = rw e (w, (refl, refl))
 
-two-written : (count : ℕ) (l m o p a b : List ℕ) {word : ℕ} {g : GivesTwo} → g ≡ writtenTwo count l m o p → word ≡ packed 0 count → a ≡ overwritten l o → b ≡ overwritten m p → SameTwo word a b g
+two-written : (count : ℕ) (l m o p a b : List ℕ) {word : ℕ} {g : GivesTwo} → g ≡ writtenTwo count l m o p → word ≡ packed 0 count → a ≡ overwritten l o
+    → b ≡ overwritten m p → SameTwo word a b g
 unfolding writtenTwo
 two-written count l m o p a b e w x y = rw e (w, (x, y))
 
@@ -130,4 +134,5 @@ module _ (s : List ℕ) (n w : ℕ) (o p : List ℕ) (r : ℕ) (er : r ≡ refus
         → a ≡ sets o 0 (positionNumbers (k .positions)) → b ≡ sets p 0 (listNumbers (k .left)) → SameTwo word a b (splitsGiven s n w o p)
     splits-written word a b l t x y v =
         let h = not-refused (length s) n (min (length o) (length p)) 513 er z .fits in
-        two-written 513 (positionNumbers (k .positions)) (listNumbers (k .left)) o p a b splits-is x (y ∙ sets-front (positionNumbers (k .positions)) o (omega arith)) (v ∙ sets-front (listNumbers (k .left)) p (omega arith))
+        two-written 513 (positionNumbers (k .positions)) (listNumbers (k .left)) o p a b splits-is x
+        (y ∙ sets-front (positionNumbers (k .positions)) o (omega arith)) (v ∙ sets-front (listNumbers (k .left)) p (omega arith))

@@ -1,4 +1,4 @@
--- What the header takes out of a typed list's word is the answer's number, count, line and column. Assumes nothing.
+-- What the header takes out of a typed list's word is the answer's number, count, line and column.
 use mathlib.Core.Path.{_≡_, refl}
 use Prim.Native.Nat.{ℕ, _+_, _*_, _≤_, _<_, _/_, _%_}
 use native.Mathlib.Omega.{arith}
@@ -36,7 +36,8 @@ module _ (l k c : ℕ) (hl : l < 16777216) (hk : k < 256) (hc : c < 4294967296) 
 
 -- ---- the two kinds of answers
 
-tells-refusal : (k l c : ℕ) → 0 < k → k < 256 → l < 16777216 → c < 4294967296 → WordTells (typedWord (record { number = k; count = 0; line = l; column = c })) (record { number = k; count = 0; line = l; column = c })
+tells-refusal : (k l c : ℕ) → 0 < k → k < 256 → l < 16777216 → c < 4294967296 → WordTells (typedWord (record { number = k; count = 0; line = l; column = c }))
+    (record { number = k; count = 0; line = l; column = c })
 tells-refusal k l c some hk hl hc =
     let w : ℕ = l % 16777216 * 1099511627776 + packed k c in
     let large = le-ltb w 4294967296 (omega arith) in
@@ -47,7 +48,8 @@ tells-refusal k l c some hk hl hc =
       column-is = rw large (lower l k c hl hk hc w refl);
     })
 
-tells-count : (n : ℕ) → n < 4294967296 → WordTells (typedWord (record { number = 0; count = n; line = 0; column = 0 })) (record { number = 0; count = n; line = 0; column = 0 })
+tells-count : (n : ℕ) → n < 4294967296 → WordTells (typedWord (record { number = 0; count = n; line = 0; column = 0 }))
+    (record { number = 0; count = n; line = 0; column = 0 })
 tells-count n h =
     let w : ℕ = 0 % 16777216 * 1099511627776 + packed 0 n in
     let small = lt-ltb w 4294967296 (omega arith) in
@@ -67,7 +69,8 @@ pub typed-word : (t o : List ℕ) → WordTells (typedWord (typedOf t o .answer)
 typed-word t o =
     typed-cases t o Told
     (λ h. tells-refusal 30 0 0 (omega arith) (omega arith) (omega arith) (omega arith))
-    (λ k l c e h. let f = fault-at t k l c e in tells-refusal k l c (omega (arith, f .number-low)) (omega (arith, f .number-high)) (omega (arith, h .0)) (omega (arith, h .1)))
+    (λ k l c e h. let f = fault-at t k l c e in
+    tells-refusal k l c (omega (arith, f .number-low)) (omega (arith, f .number-high)) (omega (arith, h .0)) (omega (arith, h .1)))
     (λ h. tells-refusal 8 0 0 (omega arith) (omega arith) (omega arith) (omega arith))
     (λ ns e h. tells-count (length (bytesOf (rootOf ns))) (omega (arith, tree-sound (bytesOf (rootOf ns)) (rootOf ns) _ _ (typed-meant t ns e .read) .short)))
     (fault-small t o)

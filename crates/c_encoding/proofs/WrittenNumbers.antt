@@ -1,4 +1,4 @@
--- What a C function answers and writes, beside the definition's. Assumes nothing.
+-- What a C function answers and writes, beside the definition's.
 use Rattle.common.proofs.Stores.{sets-front}
 use mathlib.Core.Path.{_≡_, refl, _∙_}
 use Prim.Native.Nat.{ℕ, _≤_, _<_}
@@ -17,7 +17,8 @@ pub same-refusal : (k : ℕ) {word : ℕ} {o : List ℕ} {g : Gives} → g ≡ r
 unfolding refusal
 same-refusal k e w = rw e (w, refl)
 
-pub same-written : (count : ℕ) (l o p : List ℕ) {word : ℕ} {g : Gives} → g ≡ written count l o → length l ≤ length o → word ≡ packed 0 count → p ≡ sets o 0 l → Same word p g
+pub same-written : (count : ℕ) (l o p : List ℕ) {word : ℕ} {g : Gives} → g ≡ written count l o → length l ≤ length o → word ≡ packed 0 count → p ≡ sets o 0 l
+    → Same word p g
 unfolding written
 same-written count l o p e h w k = rw e (w, k ∙ sets-front l o h)
 

@@ -14,7 +14,8 @@ use Rattle.c_encoding.specs.Numbers.{Gives, refusal, written, overwritte
 
 -- ---- what all three refuse
 
--- the number of a cut of the first n of `held` lent numbers, which writes `needed` numbers to a list of `room`, in the order of document 01's table: 8 where n is over `held` or the list too short, then 10 where n is over 512, else 0
+-- the number of a cut of the first n of `held` lent numbers, which writes `needed` numbers to a list of `room`, in the order of document 01's table: 8 where n
+-- is over `held` or the list too short, then 10 where n is over 512, else 0
 unfoldable pub refusedBy : ℕ → ℕ → ℕ → ℕ → ℕ
 refusedBy held n room needed = pick (ltb held n) 8 (pick (ltb room needed) 8 (pick (ltb 512 n) 10 0))
 

@@ -1,6 +1,7 @@
 // Cases written by hand: the lines of the files in data/, which `args` names, against documents 01 and 02.
 //   reader      good and damaged settings and trees at every boundary
-//   leaf        records and blocks, leaf by leaf: by hand but for their pairs, which are the oracle's (`oracle leaves`), and for the trees under '# pairs', where the pairs
+// leaf records and blocks, leaf by leaf: by hand but for their pairs, which are the oracle's (`oracle leaves`), and for the trees under '# pairs', where the
+// pairs
 //               are document 02's readings' and the rest is the oracle's
 //   sheet       whole sheets, limits and refusals of the sheet printer
 //   paper       question papers and keys, printed (document 02, 14)

@@ -18,7 +18,8 @@ use Rattle.collector.specs.Records.{Outcome}
 abbrev pub pastNode : List ℕ → ℕ → ℕ
 pastNode bs n = n + 1 + getD bs n 0
 
--- node n's next sibling, where m is its parent: that sum "exactly where this is no more than its parent's number plus its parent's count; elsewhere .. it has none"
+-- node n's next sibling, where m is its parent: that sum "exactly where this is no more than its parent's number plus its parent's count; elsewhere .. it has
+-- none"
 abbrev pub siblingOf : List ℕ → ℕ → ℕ → Option ℕ
 siblingOf bs m n = pick (leb (pastNode bs n) (m + getD bs m 0)) (some (pastNode bs n)) Option.none
 

@@ -4,8 +4,8 @@ use Prim.Native.Nat.{ℕ, suc, _+_, _<_, _≤_, zero, _-_, _/_}
 use native.Mathlib.Omega.{arith}
 use native.Mathlib.Nat.{add-zero, add-suc, sub-zero, le-refl}
 use mathlib.Core.List.{List, [], _∷_, _++_}
-use lib.ListN.{length, set, drop, getD, take, replicate, length-set, length-take, length-drop}
-use lib.Seq.{sets, set-comm, sets-eq, set-set, getD-set-same, getD-set-other, drop-cons, drop-drop, take-add, take-all, length-take-le}
+use lib.ListN.{length, set, drop, getD, take, replicate, length-take, length-drop}
+use lib.Seq.{sets, set-comm, sets-eq, set-set, drop-cons, drop-drop, take-add, take-all, length-take-le}
 use native.Mathlib.Numerals.{add-one}
 
 -- a place before the others may be stored to last
@@ -33,13 +33,24 @@ sets-sets (a ∷ us) vs l i j h = rw (set-sets vs l i j a (omega arith)) (sets-s
 pub sets-over : (m l o : List ℕ) (at : ℕ) → length m ≤ length l → sets (sets o at m) at l ≡ sets o at l
 sets-over [] l o at h = refl
 sets-over (b ∷ m) [] o at h = absurd (omega arith)
-sets-over (b ∷ m) (a ∷ l) o at h = rw (set-sets m (set o at b) at (suc at) a (omega arith), set-set o at b a) (sets-over m l (set o at a) (suc at) (omega arith))
+sets-over (b ∷ m) (a ∷ l) o at h =
+    rw (set-sets m (set o at b) at (suc at) a (omega arith), set-set o at b a) (sets-over m l (set o at a) (suc at) (omega arith))
 
 -- stores over some of others
 pub sets-within : (x m l y o : List ℕ) (at p : ℕ) → length m ≡ length l → p ≡ at + length x → sets (sets o at (x ++ (m ++ y))) p l ≡ sets o at (x ++ (l ++ y))
 sets-within x m l y o at p h e =
-    rw (sets-append x (m ++ y) o at, sets-append x (l ++ y) o at, e, sets-append m y (sets o at x) (at + length x), sets-append l y (sets o at x) (at + length x), h)
-    (rw (sets-sets l y (sets (sets o at x) (at + length x) m) (at + length x) (at + length x + length l) (le-refl _), sets-over m l (sets o at x) (at + length x) (omega arith)))
+    rw (
+      sets-append x (m ++ y) o at,
+      sets-append x (l ++ y) o at,
+      e,
+      sets-append m y (sets o at x) (at + length x),
+      sets-append l y (sets o at x) (at + length x),
+      h,
+    )
+    (rw (
+      sets-sets l y (sets (sets o at x) (at + length x) m) (at + length x) (at + length x + length l) (le-refl _),
+      sets-over m l (sets o at x) (at + length x) (omega arith),
+    ))
 
 -- the first k, and then those from place j on, are all
 sets-overlap : (j k : ℕ) (l o : List ℕ) (at : ℕ) → j ≤ k → sets (sets o at (take k l)) (at + j) (drop j l) ≡ sets o at l
@@ -63,7 +74,8 @@ drop-same zero n b = rw sub-zero
 drop-same (suc k) zero b = let e : 0 - suc k ≡ 0 = omega arith in rw e
 drop-same (suc k) (suc n) b = let e : suc n - suc k ≡ n - k = omega arith in rw e (drop-same k n b)
 
-pub two-same : (k n b : ℕ) (o : List ℕ) (at : ℕ) → k ≤ n → n ≤ k + k → sets (sets o at (replicate k b)) (at + (n - k)) (replicate k b) ≡ sets o at (replicate n b)
+pub two-same : (k n b : ℕ) (o : List ℕ) (at : ℕ) → k ≤ n → n ≤ k + k
+    → sets (sets o at (replicate k b)) (at + (n - k)) (replicate k b) ≡ sets o at (replicate n b)
 two-same k n b o at h i =
     let e : n - (n - k) ≡ k = omega arith in
     rw (take-same k n b h, drop-same (n - k) n b, e) at (sets-overlap (n - k) k (replicate n b) o at (omega arith))
@@ -98,7 +110,8 @@ on : (s : List ℕ) (at k : ℕ) → at + k < length s → drop (at + k) s ≡ g
 on s at k h = rw (add-suc at k) (drop-cons s (at + k) 0 h)
 
 pub four-stores : (s o : List ℕ) (at from : ℕ) → from + 4 ≤ length s
-    → set (set (set (set o at (getD s from 0)) (at + 1) (getD s (from + 1) 0)) (at + 2) (getD s (from + 2) 0)) (at + 3) (getD s (from + 3) 0) ≡ sets o at (take 4 (drop from s))
+    → set (set (set (set o at (getD s from 0)) (at + 1) (getD s (from + 1) 0)) (at + 2) (getD s (from + 2) 0)) (at + 3) (getD s (from + 3) 0)
+    ≡ sets o at (take 4 (drop from s))
 four-stores s o at from h =
     let e₀ : drop from s ≡ getD s from 0 ∷ drop (from + 1) s = rw (add-one from) (drop-cons s from 0 (omega arith)) in
     let e₁ : at + 1 ≡ suc at = omega arith in
@@ -113,20 +126,3 @@ eight-stores s o at from h =
     rw (t, sets-append (take 4 (drop from s)) (take 4 (drop (from + 4) s)) o at, length-take-le 4 (drop from s) (rw length-drop (omega arith)))
 
 -- ---- what each place holds
-
-pub getD-before : (l o : List ℕ) (at p : ℕ) → p < at → getD (sets o at l) p 0 ≡ getD o p 0
-getD-before [] o at p h = refl
-getD-before (b ∷ l) o at p h = getD-before l (set o at b) (suc at) p (omega arith) ∙ getD-set-other o at p b 0 (λ e. omega arith)
-
-pub getD-after : (l o : List ℕ) (at p : ℕ) → at + length l ≤ p → getD (sets o at l) p 0 ≡ getD o p 0
-getD-after [] o at p h = refl
-getD-after (b ∷ l) o at p h = getD-after l (set o at b) (suc at) p (omega arith) ∙ getD-set-other o at p b 0 (λ e. omega arith)
-
-pub getD-in : (l o : List ℕ) (at j : ℕ) → at + length l ≤ length o → j < length l → getD (sets o at l) (at + j) 0 ≡ getD l j 0
-getD-in [] o at j h k = absurd (omega arith)
-getD-in (b ∷ l) o at zero h k =
-    let e : at + 0 ≡ at = omega arith in
-    rw e (getD-before l (set o at b) (suc at) at (omega arith) ∙ getD-set-same o at b 0 (omega arith))
-getD-in (b ∷ l) o at (suc j) h k =
-    let e : at + suc j ≡ suc at + j = omega arith in
-    rw e (getD-in l (set o at b) (suc at) j (rw length-set (omega arith)) (omega arith))

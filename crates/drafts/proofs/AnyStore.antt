@@ -1,4 +1,4 @@
--- What holds of every store of the form, also one that a caller hands in. Assumes nothing.
+-- What holds of every store of the form, also one that a caller hands in.
 use mathlib.Core.Path.{_≡_, refl, ap, _∙_}
 use Prim.Native.Nat.{ℕ, _+_, _-_, _≤_}
 use native.Mathlib.Omega.{arith}
@@ -49,13 +49,15 @@ module _ (o : List ℕ) (fs : List (List ℕ)) (e : fieldsOf o ≡ some fs) wher
   unfolding returnOf
   others-stay k name c d out =
       let f = call-next (length o) k name o (draftOf (tagFor k) fs) (start k name) c in
-      rw (e, state-reads (f .state), name) (ap (λ (m : Option (List ℕ)). returnFound m out) (f .holds ∙ other-noted k (answerTo o c .number) c (draftOf (tagFor k) fs) d))
+      rw (e, state-reads (f .state), name)
+      (ap (λ (m : Option (List ℕ)). returnFound m out) (f .holds ∙ other-noted k (answerTo o c .number) c (draftOf (tagFor k) fs) d))
 
   abbrev Gives : StoreAnswer → List (List ℕ) → Type 0
   Gives r gs = r .number ≡ 0 → fieldsOf (r .store) ≡ some gs
 
   -- "Saving drops an older draft of that name and puts the new one last"
-  pub save-last : (n : ℕ) (tree : List ℕ) → saveOf o n tree .number ≡ 0 → fieldsOf (saveOf o n tree .store) ≡ some (withoutTag (tagFor n) fs ++ (element (tagFor n) tree ∷ []))
+  pub save-last : (n : ℕ) (tree : List ℕ) → saveOf o n tree .number ≡ 0
+      → fieldsOf (saveOf o n tree .store) ≡ some (withoutTag (tagFor n) fs ++ (element (tagFor n) tree ∷ []))
   unfolding saveOf
   save-last n tree = rw e (named (isName n) refl)
     where
@@ -68,7 +70,9 @@ module _ (o : List ℕ) (fs : List (List ℕ)) (e : fieldsOf o ≡ some fs) wher
       room false p q h =
           let g = withoutTag (tagFor n) fs in
           let f = element (tagFor n) tree in
-          read-store (length o) gs (fields-last g f (fields-without (tagFor n) fs (form .good)) (element-field (tagFor n) tree (name-tag n p)) (without-gone (tagFor n) fs (form .good)))
+          read-store (length o) gs
+          (fields-last g f (fields-without (tagFor n) fs (form .good)) (element-field (tagFor n) tree (name-tag n p))
+          (without-gone (tagFor n) fs (form .good)))
           (omega (arith, joined-last g f, ltb-false (length o) (length (fieldBytes g) + (3 + length tree)) q))
 
       read : (y : ReadOne) → readTree tree ≡ y → isName n ≡ true → Gives (saveTree o fs (tagFor n) tree y) gs
@@ -84,8 +88,10 @@ module _ (o : List ℕ) (fs : List (List ℕ)) (e : fieldsOf o ≡ some fs) wher
   unfolding forgetOf
   forget-closes n = rw e (named (isName n) (hasTag (tagFor n) fs))
     where
-      named : (c d : Bool) → Gives (pick c (pick d (record { number = 0; store = storeOf (length o) (withoutTag (tagFor n) fs) }) (record { number = 19; store = o })) (record { number = 19; store = o })) (withoutTag (tagFor n) fs)
-      named true true h = read-store (length o) (withoutTag (tagFor n) fs) (fields-without (tagFor n) fs (form .good)) (omega (arith, without-shorter (tagFor n) fs, within))
+      named : (c d : Bool) → Gives (pick c (pick d (record { number = 0; store = storeOf (length o) (withoutTag (tagFor n) fs) })
+          (record { number = 19; store = o })) (record { number = 19; store = o })) (withoutTag (tagFor n) fs)
+      named true true h = read-store (length o) (withoutTag (tagFor n) fs) (fields-without (tagFor n) fs (form .good)) (omega
+          (arith, without-shorter (tagFor n) fs, within))
       named true false h = absurd (omega arith)
       named false d h = absurd (omega arith)
 
@@ -95,6 +101,7 @@ module _ (o : List ℕ) (fs : List (List ℕ)) (e : fieldsOf o ≡ some fs) wher
   series-form cs = of-form (series (length o) 65 is-name cs o (draftOf (tagFor 65) fs) (start 65 is-name) .state)
 
   -- a return gives the tree of the last accepted save under the name, not since forgotten, or what the store held under it at first
-  pub series-gives : (cs : List DraftCall) (k : ℕ) → isName k ≡ true → (out : List ℕ) → returnOf (storeAfter o cs) k out ≡ returnFound (lastSaved k o cs (draftOf (tagFor k) fs)) out
+  pub series-gives : (cs : List DraftCall) (k : ℕ) → isName k ≡ true → (out : List ℕ)
+      → returnOf (storeAfter o cs) k out ≡ returnFound (lastSaved k o cs (draftOf (tagFor k) fs)) out
   unfolding returnOf
   series-gives cs k name out = let f = series (length o) k name cs o (draftOf (tagFor k) fs) (start k name) in rw (state-reads (f .state), name, f .holds)

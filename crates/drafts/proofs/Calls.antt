@@ -1,4 +1,4 @@
--- What holds of every store, of the form or not. Assumes nothing.
+-- What holds of every store, of the form or not.
 use mathlib.Core.Path.{_≡_, refl}
 use Prim.Native.Nat.{ℕ, _+_}
 use native.Mathlib.Omega.{arith}
@@ -32,7 +32,8 @@ save-keeps o n tree = go (fieldsOf o)
   where
     read : (fs : List (List ℕ)) (y : ReadOne) → Keeps o (saveTree o fs (tagFor n) tree y)
     read fs (ReadOne.refused k) = keeps-refused o k
-    read fs (ReadOne.one t z w) = keeps-pick o (ltb (length o) (length (fieldBytes (withoutTag (tagFor n) fs)) + (3 + length tree))) _ _ (keeps-refused o 20) (keeps-saved o _)
+    read fs (ReadOne.one t z w) =
+        keeps-pick o (ltb (length o) (length (fieldBytes (withoutTag (tagFor n) fs)) + (3 + length tree))) _ _ (keeps-refused o 20) (keeps-saved o _)
 
     go : (x : Option (List (List ℕ))) → Keeps o (saveIn o x n tree)
     go none = keeps-refused o 18
@@ -61,7 +62,8 @@ out-pick out true a b p q = p
 out-pick out false a b p q = q
 
 -- nor one of the buffer
-pub return-keeps : (o : List ℕ) (n : ℕ) (out : List ℕ) → (returnOf o n out .answer .number ≡ 0 → ⊥) → returnOf o n out ≡ noReturn (returnOf o n out .answer .number) out
+pub return-keeps : (o : List ℕ) (n : ℕ) (out : List ℕ) → (returnOf o n out .answer .number ≡ 0 → ⊥)
+    → returnOf o n out ≡ noReturn (returnOf o n out .answer .number) out
 unfolding returnOf
 return-keeps o n out = go (fieldsOf o)
   where
@@ -82,7 +84,8 @@ saved-read o n tree h = tree-read tree (go (fieldsOf o) h)
     read fs (ReadOne.refused k) h = h
     read fs (ReadOne.one t z w) h = refl
 
-    named : (fs : List (List ℕ)) (c : Bool) → pick c (saveTree o fs (tagFor n) tree (readTree tree)) (record { number = 19; store = o }) .number ≡ 0 → treeAnswer (readTree tree) .number ≡ 0
+    named : (fs : List (List ℕ)) (c : Bool) → pick c (saveTree o fs (tagFor n) tree (readTree tree)) (record { number = 19; store = o }) .number ≡ 0
+        → treeAnswer (readTree tree) .number ≡ 0
     named fs true h = read fs (readTree tree) h
     named fs false h = absurd (omega arith)
 

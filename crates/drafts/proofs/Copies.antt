@@ -1,4 +1,4 @@
--- Bytes copied over others, one after the other. Assumes nothing.
+-- Bytes copied over others, one after the other.
 use mathlib.Core.Path.{_≡_, refl, sym, ap, ap₂, _∙_}
 use Prim.Native.Nat.{ℕ, suc, _+_, _-_, _/_, _%_, _≤_, _<_}
 use native.Mathlib.Omega.{arith}
@@ -35,7 +35,8 @@ module _ (d : List ℕ) (at : ℕ) (src s : List ℕ) (j : ℕ) (k : Copied d at
 
   -- a byte that is yet to be copied over is as it was
   pub copied-after : (n : ℕ) → getD s (at + j + n) 0 ≡ getD d (at + j + n) 0
-  copied-after n = sym (getD-drop (at + j) s n 0) ∙ ap (λ (x : List ℕ). getD (drop (at + j) x) n 0) (k .is) ∙ ap (λ (x : List ℕ). getD x n 0) (drop-paste d at src j (omega (arith, k .within)) (k .few)) ∙ getD-drop (at + j) d n 0
+  copied-after n = sym (getD-drop (at + j) s n 0) ∙ ap (λ (x : List ℕ). getD (drop (at + j) x) n 0) (k .is)
+      ∙ ap (λ (x : List ℕ). getD x n 0) (drop-paste d at src j (omega (arith, k .within)) (k .few)) ∙ getD-drop (at + j) d n 0
 
 -- ---- down over a gap
 
@@ -43,14 +44,16 @@ module _ (d : List ℕ) (at size : ℕ) (h : at + size ≤ length d) where
   pub down-none : Copied d at (drop (at + size) d) d 0
   down-none = copied-none d at (drop (at + size) d) (omega (arith, length-drop (at + size) d))
 
-  pub down-more : (s : List ℕ) (j : ℕ) → Copied d at (drop (at + size) d) s j → j < length s - (at + size) → Copied d at (drop (at + size) d) (set s (at + j) (getD s (at + size + j) 0)) (j + 1)
+  pub down-more : (s : List ℕ) (j : ℕ) → Copied d at (drop (at + size) d) s j → j < length s - (at + size)
+      → Copied d at (drop (at + size) d) (set s (at + j) (getD s (at + size + j) 0)) (j + 1)
   down-more s j k l =
       let n = copied-length d at (drop (at + size) d) s j k in
       let e : at + size + j ≡ at + j + size = omega arith in
       copied-more d at (drop (at + size) d) s j k (omega (arith, length-drop (at + size) d)) (getD s (at + size + j) 0)
       (rw e (copied-after d at (drop (at + size) d) s j k size) ∙ ap (λ (i : ℕ). getD d i 0) (sym e) ∙ sym (getD-drop (at + size) d j 0))
 
-  pub down-all : (s : List ℕ) (j : ℕ) → Copied d at (drop (at + size) d) s j → length s - (at + size) ≤ j → s ≡ paste d at (drop (at + size) d) (length d - (at + size))
+  pub down-all : (s : List ℕ) (j : ℕ) → Copied d at (drop (at + size) d) s j → length s - (at + size) ≤ j
+      → s ≡ paste d at (drop (at + size) d) (length d - (at + size))
   down-all s j k l =
       let n = copied-length d at (drop (at + size) d) s j k in
       rw (length-drop (at + size) d) at (copied-all d at (drop (at + size) d) s j k (omega (arith, length-drop (at + size) d)))
@@ -84,7 +87,8 @@ module _ (d : List ℕ) (at : ℕ) (h : at ≤ length d) where
 pub gap-closed : (d : List ℕ) (at size : ℕ) (s e : List ℕ) → at + size ≤ length d → s ≡ paste d at (drop (at + size) d) (length d - (at + size))
     → e ≡ take (length s - size) s ++ replicate (length s - (length s - size)) 0 → e ≡ take at d ++ (drop (at + size) d ++ replicate size 0)
 gap-closed d at size s e h p q =
-    let l : length s ≡ length d = ap length p ∙ length-paste d at (drop (at + size) d) (length d - (at + size)) (omega arith) (omega (arith, length-drop (at + size) d)) in
+    let l : length s ≡ length d = ap length p
+    ∙ length-paste d at (drop (at + size) d) (length d - (at + size)) (omega arith) (omega (arith, length-drop (at + size) d)) in
     let n : length s - (length s - size) ≡ size = omega arith in
     let a : length s - size ≡ at + (length d - (at + size)) = omega arith in
     let t : take (length s - size) s ≡ take at d ++ drop (at + size) d =
@@ -99,19 +103,23 @@ nothing-out d at size h =
 
 -- a gap among the first bytes of d, with zero bytes behind them
 pub part-out : (d g : List ℕ) (at size used : ℕ) → at + size ≤ used → used ≤ length d → drop used d ≡ replicate (length d - used) 0
-    → g ≡ take at (take used d) ++ (drop (at + size) (take used d) ++ replicate size 0) → g ++ drop used d ≡ take at d ++ (drop (at + size) d ++ replicate size 0)
+    → g ≡ take at (take used d) ++ (drop (at + size) (take used d) ++ replicate size 0)
+    → g ++ drop used d ≡ take at d ++ (drop (at + size) d ++ replicate size 0)
 part-out d g at size used h k z q =
     let l : length (take used d) ≡ used = length-take-le used d k in
     let w : take used d ++ drop used d ≡ d = take-append-drop used d in
     let a : take at (take used d) ≡ take at d = take-take at used d (omega arith) in
-    let b : drop (at + size) d ≡ drop (at + size) (take used d) ++ drop used d = ap (drop (at + size)) (sym w) ∙ drop-append-le (at + size) (take used d) (drop used d) (omega arith) in
+    let b : drop (at + size) d ≡ drop (at + size) (take used d) ++ drop used d = ap (drop (at + size)) (sym w)
+    ∙ drop-append-le (at + size) (take used d) (drop used d) (omega arith) in
     let m = drop (at + size) (take used d) in
     let k = length d - used in
     let n : size + k ≡ k + size = omega arith in
-    let s : replicate {A = ℕ} size 0 ++ replicate k 0 ≡ replicate k 0 ++ replicate size 0 = replicate-append-replicate size k 0 ∙ ap (λ (i : ℕ). replicate i 0) n ∙ sym (replicate-append-replicate k size 0) in
+    let s : replicate {A = ℕ} size 0 ++ replicate k 0 ≡ replicate k 0 ++ replicate size 0 = replicate-append-replicate size k 0
+    ∙ ap (λ (i : ℕ). replicate i 0) n ∙ sym (replicate-append-replicate k size 0) in
     rw (b, q, a, z)
     (append-assoc (take at d) (m ++ replicate size 0) (replicate k 0)
-    ∙ ap (λ (l : List ℕ). take at d ++ l) (append-assoc m (replicate size 0) (replicate k 0) ∙ ap (λ (l : List ℕ). m ++ l) s ∙ sym (append-assoc m (replicate k 0) (replicate size 0))))
+    ∙ ap (λ (l : List ℕ). take at d ++ l)
+    (append-assoc m (replicate size 0) (replicate k 0) ∙ ap (λ (l : List ℕ). m ++ l) s ∙ sym (append-assoc m (replicate k 0) (replicate size 0))))
 
 -- ---- a field put over others
 
@@ -123,7 +131,8 @@ front-put d at a b c h =
     let l : length (take at d) ≡ at = length-take-le at d (omega arith) in
     let f₁ : set d at a ≡ (take at d ++ (a ∷ [])) ++ (getD d (at + 1) 0 ∷ drop (at + 2) d) = e₁ ∙ rw (e₂, append-assoc) in
     let l₁ : length (take at d ++ (a ∷ [])) ≡ at + 1 = length-append (take at d) (a ∷ []) ∙ ap (λ (n : ℕ). n + 1) l in
-    let f₂ : set (set d at a) (at + 1) b ≡ (take at d ++ (a ∷ [])) ++ (b ∷ drop (at + 2) d) = rw f₁ (set-at (take at d ++ (a ∷ [])) (getD d (at + 1) 0) (drop (at + 2) d) b (at + 1) l₁) in
+    let f₂ : set (set d at a) (at + 1) b ≡ (take at d ++ (a ∷ [])) ++ (b ∷ drop (at + 2) d) =
+    rw f₁ (set-at (take at d ++ (a ∷ [])) (getD d (at + 1) 0) (drop (at + 2) d) b (at + 1) l₁) in
     let f₃ : set (set d at a) (at + 1) b ≡ (take at d ++ (a ∷ b ∷ [])) ++ (getD d (at + 2) 0 ∷ drop (at + 3) d) = f₂ ∙ rw (e₃, append-assoc, append-assoc) in
     let l₂ : length (take at d ++ (a ∷ b ∷ [])) ≡ at + 2 = length-append (take at d) (a ∷ b ∷ []) ∙ ap (λ (n : ℕ). n + 2) l in
     rw f₃ (set-at (take at d ++ (a ∷ b ∷ [])) (getD d (at + 2) 0) (drop (at + 3) d) c (at + 2) l₂ ∙ append-assoc (take at d) (a ∷ b ∷ []) (c ∷ drop (at + 3) d))
@@ -136,7 +145,8 @@ pub field-put : (d t s e : List ℕ) (at tag : ℕ) → at + (3 + length t) ≤ 
     → e ≡ take at d ++ (element tag t ++ drop (at + (3 + length t)) d)
 field-put d t s e at tag h small p q =
     let n : length t / 256 % 256 ≡ length t / 256 = omega arith in
-    let r : s ≡ take at d ++ (tag ∷ (length t / 256) ∷ (length t % 256) ∷ drop (at + 3) d) = p ∙ front-put d at tag (length t / 256 % 256) (length t % 256) (omega arith) ∙ rw n in
+    let r : s ≡ take at d ++ (tag ∷ (length t / 256) ∷ (length t % 256) ∷ drop (at + 3) d) = p
+    ∙ front-put d at tag (length t / 256 % 256) (length t % 256) (omega arith) ∙ rw n in
     let l : length (take at d) ≡ at = length-take-le at d (omega arith) in
     let f : List ℕ = take at d ++ (tag ∷ (length t / 256) ∷ (length t % 256) ∷ []) in
     let r₂ : s ≡ f ++ drop (at + 3) d = r ∙ rw append-assoc in
@@ -144,5 +154,8 @@ field-put d t s e at tag h small p q =
     let a : take (at + 3) s ≡ f = rw r₂ (take-at f (drop (at + 3) d) (at + 3) lf) in
     let i : at + 3 + length t ≡ at + (3 + length t) = omega arith in
     let b : drop (at + 3 + length t) s ≡ drop (at + (3 + length t)) d =
-    sym (drop-drop (length t) (at + 3) s) ∙ ap (drop (length t)) (rw r₂ (drop-at f (drop (at + 3) d) (at + 3) lf)) ∙ drop-drop (length t) (at + 3) d ∙ ap (λ (k : ℕ). drop k d) i in
-    q ∙ rw (a, b, take-all (length t) t (omega arith)) (append-assoc f t (drop (at + (3 + length t)) d) ∙ append-assoc (take at d) (tag ∷ (length t / 256) ∷ (length t % 256) ∷ []) (t ++ drop (at + (3 + length t)) d))
+    sym (drop-drop (length t) (at + 3) s) ∙ ap (drop (length t)) (rw r₂ (drop-at f (drop (at + 3) d) (at + 3) lf)) ∙ drop-drop (length t) (at + 3) d
+    ∙ ap (λ (k : ℕ). drop k d) i in
+    q ∙ rw (a, b, take-all (length t) t (omega arith))
+    (append-assoc f t (drop (at + (3 + length t)) d)
+    ∙ append-assoc (take at d) (tag ∷ (length t / 256) ∷ (length t % 256) ∷ []) (t ++ drop (at + (3 + length t)) d))

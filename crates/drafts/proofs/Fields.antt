@@ -1,4 +1,4 @@
--- The fields of a packed store are read back. Assumes nothing.
+-- The fields of a packed store are read back.
 use mathlib.Core.Path.{_≡_, refl, sym, ap, ap₂, _∙_}
 use Prim.Native.Nat.{ℕ, zero, suc, _+_, _-_, _≤_, _<_}
 use native.Mathlib.Omega.{arith}
@@ -82,16 +82,19 @@ read-joined (f ∷ fs) k (suc fuel) z h =
 pub read-store : (n : ℕ) (fs : List (List ℕ)) → Fields fs → length (fieldBytes fs) ≤ n → fieldsOf (storeOf n fs) ≡ some fs
 unfolding fieldsOf storeOf
 read-store n fs k h =
-    let l : length (fieldBytes fs ++ replicate (n - length (fieldBytes fs)) 0) ≡ n = length-append (fieldBytes fs) (replicate (n - length (fieldBytes fs)) 0) ∙ ap (λ (m : ℕ). length (fieldBytes fs) + m) (length-replicate (n - length (fieldBytes fs)) 0) ∙ omega arith in
+    let l : length (fieldBytes fs ++ replicate (n - length (fieldBytes fs)) 0) ≡ n = length-append (fieldBytes fs) (replicate (n - length (fieldBytes fs)) 0)
+    ∙ ap (λ (m : ℕ). length (fieldBytes fs) + m) (length-replicate (n - length (fieldBytes fs)) 0) ∙ omega arith in
     read-joined fs k (length (fieldBytes fs ++ replicate (n - length (fieldBytes fs)) 0) + 1) (n - length (fieldBytes fs)) (omega arith)
 
 pub store-of-length : (n : ℕ) (fs : List (List ℕ)) → length (fieldBytes fs) ≤ n → length (storeOf n fs) ≡ n
 unfolding storeOf
-store-of-length n fs h = length-append (fieldBytes fs) (replicate (n - length (fieldBytes fs)) 0) ∙ ap (λ (m : ℕ). length (fieldBytes fs) + m) (length-replicate (n - length (fieldBytes fs)) 0) ∙ omega arith
+store-of-length n fs h = length-append (fieldBytes fs) (replicate (n - length (fieldBytes fs)) 0)
+    ∙ ap (λ (m : ℕ). length (fieldBytes fs) + m) (length-replicate (n - length (fieldBytes fs)) 0) ∙ omega arith
 
 -- ---- one field less, one field more
 
-has-either : (j : ℕ) (d : Bool) (f : List ℕ) (fs ws : List (List ℕ)) → hasTag j (pick d fs (f ∷ ws)) ≡ pick d (hasTag j fs) (pick (eqb (tagIn f) j) true (hasTag j ws))
+has-either : (j : ℕ) (d : Bool) (f : List ℕ) (fs ws : List (List ℕ))
+    → hasTag j (pick d fs (f ∷ ws)) ≡ pick d (hasTag j fs) (pick (eqb (tagIn f) j) true (hasTag j ws))
 unfolding hasTag
 has-either j true f fs ws = refl
 has-either j false f fs ws = refl
@@ -99,7 +102,8 @@ has-either j false f fs ws = refl
 has-without : (j k : ℕ) (fs : List (List ℕ)) → hasTag j fs ≡ false → hasTag j (withoutTag k fs) ≡ false
 unfolding hasTag withoutTag
 has-without j k [] h = refl
-has-without j k (f ∷ fs) h = has-either j (eqb (tagIn f) k) f fs (withoutTag k fs) ∙ go (eqb (tagIn f) j) (eqb (tagIn f) k) (hasTag j fs) (hasTag j (withoutTag k fs)) h (has-without j k fs)
+has-without j k (f ∷ fs) h = has-either j (eqb (tagIn f) k) f fs (withoutTag k fs)
+    ∙ go (eqb (tagIn f) j) (eqb (tagIn f) k) (hasTag j fs) (hasTag j (withoutTag k fs)) h (has-without j k fs)
   where
     go : (c d x w : Bool) → pick c true x ≡ false → (x ≡ false → w ≡ false) → pick d x (pick c true w) ≡ false
     go true d x w h e = let z : _≡_ {A = ℕ} 0 1 = cc in absurd (omega arith)
@@ -129,7 +133,8 @@ unfolding withoutTag fieldBytes
 without-shorter k [] = omega arith
 without-shorter k (f ∷ fs) = go (eqb (tagIn f) k) (without-shorter k fs)
   where
-    go : (c : Bool) → length (fieldBytes (withoutTag k fs)) ≤ length (fieldBytes fs) → length (fieldBytes (pick c fs (f ∷ withoutTag k fs))) ≤ length (f ++ fieldBytes fs)
+    go : (c : Bool) → length (fieldBytes (withoutTag k fs)) ≤ length (fieldBytes fs)
+        → length (fieldBytes (pick c fs (f ∷ withoutTag k fs))) ≤ length (f ++ fieldBytes fs)
     go true w = omega (arith, length-append f (fieldBytes fs))
     go false w = omega (arith, length-append f (fieldBytes fs), length-append f (fieldBytes (withoutTag k fs)))
 
@@ -143,7 +148,8 @@ unfolding hasTag
 has-last j [] f h d = rw (ne-eqb (tagIn f) j d)
 has-last j (g ∷ fs) f h d = go (eqb (tagIn g) j) (hasTag j fs) h (has-last j fs f)
   where
-    go : (c x : Bool) → pick c true x ≡ false → (x ≡ false → (tagIn f ≡ j → ⊥) → hasTag j (fs ++ (f ∷ [])) ≡ false) → pick c true (hasTag j (fs ++ (f ∷ []))) ≡ false
+    go : (c x : Bool) → pick c true x ≡ false → (x ≡ false → (tagIn f ≡ j → ⊥) → hasTag j (fs ++ (f ∷ [])) ≡ false)
+        → pick c true (hasTag j (fs ++ (f ∷ []))) ≡ false
     go true x h e = let z : _≡_ {A = ℕ} 0 1 = cc in absurd (omega arith)
     go false x h e = e h d
 
@@ -164,7 +170,8 @@ fields-last (g ∷ fs) f q k h =
 
 -- ---- the drafts
 
-found-either : (j : ℕ) (d : Bool) (f : List ℕ) (fs ws : List (List ℕ)) → draftOf j (pick d fs (f ∷ ws)) ≡ pick d (draftOf j fs) (pick (eqb (tagIn f) j) (some (drop 3 f)) (draftOf j ws))
+found-either : (j : ℕ) (d : Bool) (f : List ℕ) (fs ws : List (List ℕ))
+    → draftOf j (pick d fs (f ∷ ws)) ≡ pick d (draftOf j fs) (pick (eqb (tagIn f) j) (some (drop 3 f)) (draftOf j ws))
 unfolding draftOf
 found-either j true f fs ws = refl
 found-either j false f fs ws = refl
@@ -174,7 +181,9 @@ unfolding draftOf withoutTag
 found-other j k [] d = refl
 found-other j k (f ∷ fs) d = found-either j (eqb (tagIn f) k) f fs (withoutTag k fs) ∙ go (eqb (tagIn f) k) refl (found-other j k fs d)
   where
-    go : (c : Bool) → eqb (tagIn f) k ≡ c → draftOf j (withoutTag k fs) ≡ draftOf j fs → pick c (draftOf j fs) (pick (eqb (tagIn f) j) (some (drop 3 f)) (draftOf j (withoutTag k fs))) ≡ pick (eqb (tagIn f) j) (some (drop 3 f)) (draftOf j fs)
+    go : (c : Bool) → eqb (tagIn f) k ≡ c → draftOf j (withoutTag k fs) ≡ draftOf j fs
+        → pick c (draftOf j fs) (pick (eqb (tagIn f) j) (some (drop 3 f)) (draftOf j (withoutTag k fs)))
+        ≡ pick (eqb (tagIn f) j) (some (drop 3 f)) (draftOf j fs)
     go true e w = let i : tagIn f ≡ k = eqb-true (tagIn f) k e in rw (ne-eqb (tagIn f) j (λ z. d (sym z ∙ i)))
     go false e w = rw w
 

@@ -1,4 +1,4 @@
--- What the calls do on a store that was opened for a name. Assumes nothing.
+-- What the calls do on a store that was opened for a name.
 use mathlib.Core.Path.{_≡_, refl, sym, ap, _∙_}
 use Prim.Native.Nat.{ℕ, zero, suc, _+_, _-_, _≤_, _<_}
 use native.Mathlib.Omega.{arith}
@@ -40,7 +40,8 @@ put-store : (n : ℕ) (fs : List (List ℕ)) (f : List ℕ) (m : ℕ) → length
     → take (length (fieldBytes fs)) (storeOf n fs) ++ (f ++ drop (length (fieldBytes fs) + m) (storeOf n fs)) ≡ storeOf n (fs ++ (f ∷ []))
 unfolding storeOf
 put-store n fs f m q h =
-    let a : take (length (fieldBytes fs)) (fieldBytes fs ++ replicate (n - length (fieldBytes fs)) 0) ≡ fieldBytes fs = take-at (fieldBytes fs) (replicate (n - length (fieldBytes fs)) 0) (length (fieldBytes fs)) refl in
+    let a : take (length (fieldBytes fs)) (fieldBytes fs ++ replicate (n - length (fieldBytes fs)) 0) ≡ fieldBytes fs =
+    take-at (fieldBytes fs) (replicate (n - length (fieldBytes fs)) 0) (length (fieldBytes fs)) refl in
     let b : drop (length (fieldBytes fs) + m) (fieldBytes fs ++ replicate (n - length (fieldBytes fs)) 0) ≡ replicate (n - length (fieldBytes fs) - m) 0 =
     drop-append-add (fieldBytes fs) (replicate (n - length (fieldBytes fs)) 0) m ∙ drop-zeros (n - length (fieldBytes fs)) m in
     let l : length (fieldBytes fs ++ f) ≡ length (fieldBytes fs) + length f = length-append (fieldBytes fs) f in
@@ -67,7 +68,11 @@ module _ (n : ℕ) (x : Option (List (List ℕ))) (s : Scan) (e : s ≡ scanOf (
   pub open-0 : s .ok ≡ true → isName n ≡ true → record { number = 0; used = s .used; spot = s .spot } ≡ openedOf n x
   open-0 h m = rw e (go x (sym (ap (λ (t : Scan). t .ok) e) ∙ h))
     where
-      go : (x : Option (List (List ℕ))) → scanOf (tagFor n) x .ok ≡ true → record { number = 0; used = scanOf (tagFor n) x .used; spot = scanOf (tagFor n) x .spot } ≡ openedOf n x
+      go : (x : Option (List (List ℕ))) → scanOf (tagFor n) x .ok ≡ true → record {
+        number = 0;
+        used = scanOf (tagFor n) x .used;
+        spot = scanOf (tagFor n) x .spot;
+      } ≡ openedOf n x
       go none q = let y : _≡_ {A = ℕ} 0 1 = cc in absurd (omega arith)
       go (some fs) q = rw m
 
@@ -78,8 +83,10 @@ module _ (o : List ℕ) (n : ℕ) (p : Opened) (e : p ≡ openedOf n (fieldsOf o
   unfolding returnOf
   refused-return out = rw e (go (fieldsOf o) (λ z. h (ap (λ (q : Opened). q .number) e ∙ z)))
     where
-      named : (fs : List (List ℕ)) (c : Bool) → (pick c (record { number = 0; used = length (fieldBytes fs); spot = fieldFrom (tagFor n) 0 fs }) (refusedOpen 19) .number ≡ 0 → ⊥)
-          → noReturn (pick c (record { number = 0; used = length (fieldBytes fs); spot = fieldFrom (tagFor n) 0 fs }) (refusedOpen 19) .number) out ≡ pick c (returnFound (draftOf (tagFor n) fs) out) (noReturn 19 out)
+      named : (fs : List (List ℕ)) (c :
+          Bool) → (pick c (record { number = 0; used = length (fieldBytes fs); spot = fieldFrom (tagFor n) 0 fs }) (refusedOpen 19) .number ≡ 0 → ⊥)
+          → noReturn (pick c (record { number = 0; used = length (fieldBytes fs); spot = fieldFrom (tagFor n) 0 fs }) (refusedOpen 19) .number) out
+          ≡ pick c (returnFound (draftOf (tagFor n) fs) out) (noReturn 19 out)
       named fs true q = absurd (q refl)
       named fs false q = refl
 
@@ -91,8 +98,12 @@ module _ (o : List ℕ) (n : ℕ) (p : Opened) (e : p ≡ openedOf n (fieldsOf o
   unfolding saveOf
   refused-save tree = rw e (go (fieldsOf o) (λ z. h (ap (λ (q : Opened). q .number) e ∙ z)))
     where
-      named : (fs : List (List ℕ)) (c : Bool) (y : StoreAnswer) → (pick c (record { number = 0; used = length (fieldBytes fs); spot = fieldFrom (tagFor n) 0 fs }) (refusedOpen 19) .number ≡ 0 → ⊥)
-          → record { number = pick c (record { number = 0; used = length (fieldBytes fs); spot = fieldFrom (tagFor n) 0 fs }) (refusedOpen 19) .number; store = o } ≡ pick c y (record { number = 19; store = o })
+      named : (fs : List (List ℕ)) (c : Bool) (y :
+          StoreAnswer) → (pick c (record { number = 0; used = length (fieldBytes fs); spot = fieldFrom (tagFor n) 0 fs }) (refusedOpen 19) .number ≡ 0 → ⊥)
+          → record {
+            number = pick c (record { number = 0; used = length (fieldBytes fs); spot = fieldFrom (tagFor n) 0 fs }) (refusedOpen 19) .number;
+            store = o;
+          } ≡ pick c y (record { number = 19; store = o })
       named fs true y q = absurd (q refl)
       named fs false y q = refl
 
@@ -104,14 +115,19 @@ module _ (o : List ℕ) (n : ℕ) (p : Opened) (e : p ≡ openedOf n (fieldsOf o
   unfolding forgetOf
   refused-forget = rw e (go (fieldsOf o) (λ z. h (ap (λ (q : Opened). q .number) e ∙ z)))
     where
-      named : (fs : List (List ℕ)) (c : Bool) (y : StoreAnswer) → (pick c (record { number = 0; used = length (fieldBytes fs); spot = fieldFrom (tagFor n) 0 fs }) (refusedOpen 19) .number ≡ 0 → ⊥)
-          → record { number = pick c (record { number = 0; used = length (fieldBytes fs); spot = fieldFrom (tagFor n) 0 fs }) (refusedOpen 19) .number; store = o } ≡ pick c y (record { number = 19; store = o })
+      named : (fs : List (List ℕ)) (c : Bool) (y :
+          StoreAnswer) → (pick c (record { number = 0; used = length (fieldBytes fs); spot = fieldFrom (tagFor n) 0 fs }) (refusedOpen 19) .number ≡ 0 → ⊥)
+          → record {
+            number = pick c (record { number = 0; used = length (fieldBytes fs); spot = fieldFrom (tagFor n) 0 fs }) (refusedOpen 19) .number;
+            store = o;
+          } ≡ pick c y (record { number = 19; store = o })
       named fs true y q = absurd (q refl)
       named fs false y q = refl
 
       go : (x : Option (List (List ℕ))) → (openedOf n x .number ≡ 0 → ⊥) → record { number = openedOf n x .number; store = o } ≡ forgetIn o x n
       go none q = refl
-      go (some fs) q = named fs (isName n) (pick (hasTag (tagFor n) fs) (record { number = 0; store = storeOf (length o) (withoutTag (tagFor n) fs) }) (record { number = 19; store = o })) q
+      go (some fs) q = named fs (isName n) (pick (hasTag (tagFor n) fs) (record { number = 0; store = storeOf (length o) (withoutTag (tagFor n) fs) })
+          (record { number = 19; store = o })) q
 
 -- ---- opened
 
@@ -139,7 +155,8 @@ opened-ready o n p e h = go (fieldsOf o) refl (e) (sym (ap (λ (q : Opened). q .
     go (some fs) r e q = named (isName n) refl (rw r at q) (e ∙ ap (openedOf n) r)
       where
         named : (c : Bool) → isName n ≡ c → openedOf n (some fs) .number ≡ 0 → p ≡ openedOf n (some fs) → Openable o n p
-        named true m q e = let d : p ≡ record { number = 0; used = length (fieldBytes fs); spot = fieldFrom (tagFor n) 0 fs } = e ∙ rw m in record { fs = fs; reads = r; named = m; used-is = ap (λ (y : Opened). y .used) d; spot-is = ap (λ (y : Opened). y .spot) d }
+        named true m q e = let d : p ≡ record { number = 0; used = length (fieldBytes fs); spot = fieldFrom (tagFor n) 0 fs } = e
+            ∙ rw m in record { fs = fs; reads = r; named = m; used-is = ap (λ (y : Opened). y .used) d; spot-is = ap (λ (y : Opened). y .spot) d }
         named false m q e = let z : _≡_ {A = ℕ} 19 0 = rw m at q in absurd (omega arith)
 
 -- what the tree reader says
@@ -176,7 +193,11 @@ module _ (o : List ℕ) (n : ℕ) (p : Opened) (r : Openable o n p) where
   pub forget-within : p .spot .found ≡ true → p .spot .at + p .spot .size ≤ length o
   forget-within h = at-within o (tagFor n) (r .fs) (p .spot) formed (draft-there h)
 
-  pub forget-there : p .spot .found ≡ true → (e : List ℕ) → e ≡ take (p .spot .at) o ++ (drop (p .spot .at + p .spot .size) o ++ replicate (p .spot .size) 0) → record { number = 0; store = e } ≡ forgetOf o n
+  pub forget-there : p .spot .found ≡ true → (e :
+      List ℕ) → e ≡ take (p .spot .at) o ++ (drop (p .spot .at + p .spot .size) o ++ replicate (p .spot .size) 0) → record {
+        number = 0;
+        store = e;
+      } ≡ forgetOf o n
   unfolding forgetOf
   forget-there h e q =
       let g : e ≡ storeOf (length o) (withoutTag (tagFor n) (r .fs)) = q ∙ gap-store o (tagFor n) (r .fs) (p .spot) formed (draft-there h) in
@@ -185,7 +206,8 @@ module _ (o : List ℕ) (n : ℕ) (p : Opened) (r : Openable o n p) where
   -- ---- returning
 
   field-long : (h : p .spot .found ≡ true) → 3 ≤ p .spot .size
-  field-long h = let a = draft-there h in let f = fields-mid (a .front) (a .field) (a .back) (rw (a .is) at (formed .good)) in omega (arith, f .ends, a .size-is)
+  field-long h = let a = draft-there h in let f = fields-mid (a .front) (a .field) (a .back) (rw (a .is) at (formed .good)) in
+      omega (arith, f .ends, a .size-is)
 
   pub return-absent : p .spot .found ≡ false → (out : List ℕ) → noReturn 19 out ≡ returnOf o n out
   unfolding returnOf
@@ -219,7 +241,8 @@ module _ (o : List ℕ) (n : ℕ) (p : Opened) (r : Openable o n p) where
     return-there out e l q =
         let m : length body ≤ length out = omega (arith, body-long) in
         let c : p .spot .at + p .spot .size - (p .spot .at + 3) ≡ p .spot .size - 3 = omega (arith, field-long h) in
-        let b : take (p .spot .at + p .spot .size - (p .spot .at + 3)) (drop (p .spot .at + 3) o) ≡ body = ap (λ (k : ℕ). take k (drop (p .spot .at + 3) o)) c ∙ body-at in
+        let b : take (p .spot .at + p .spot .size - (p .spot .at + 3)) (drop (p .spot .at + 3) o) ≡ body = ap (λ (k : ℕ). take k (drop (p .spot .at + 3) o)) c
+        ∙ body-at in
         let z : 0 + length body ≡ length body = omega arith in
         let g : e ≡ body ++ drop (length body) out = q ∙ rw (b, take-all (length body) body (omega arith), z) in
         let s : p .spot .size - 3 ≡ length body = sym body-long in
@@ -263,9 +286,18 @@ module _ (o : List ℕ) (n : ℕ) (p : Opened) (r : Openable o n p) where
           let a = field-absent (tagFor n) 0 (r .fs) (has-found ∙ h) in
           let s : p .spot ≡ noField = r .spot-is ∙ a .0 in
           let e : p .used - 0 ≡ length (fieldBytes (r .fs)) = omega (arith, r .used-is) in
-          rw (s, a .1) (record { low = omega arith; high = omega (arith, r .used-is, used-low); others = e; fits = omega arith; zeros = behind; closed = append-nil o ∙ zeros-is })
+          rw (s, a .1) (record {
+            low = omega arith;
+            high = omega (arith, r .used-is, used-low);
+            others = e;
+            fits = omega arith;
+            zeros = behind;
+            closed = append-nil o
+                ∙ zeros-is;
+          })
 
-  save-fault : (tree : List ℕ) → (treeAnswer (readTree tree) .number ≡ 0 → ⊥) → record { number = treeAnswer (readTree tree) .number; store = o } ≡ saveOf o n tree
+  save-fault : (tree : List ℕ) → (treeAnswer (readTree tree) .number ≡ 0 → ⊥) → record { number = treeAnswer (readTree tree) .number; store = o }
+      ≡ saveOf o n tree
   unfolding saveOf
   save-fault tree h = rw (r .reads, r .named) (go (readTree tree) h)
     where
@@ -273,8 +305,10 @@ module _ (o : List ℕ) (n : ℕ) (p : Opened) (r : Openable o n p) where
       go (ReadOne.refused k) q = refl
       go (ReadOne.one t z w) q = absurd (q refl)
 
-  pub bad-tree : (tree : List ℕ) (a : ReadTree) → a ≡ treeAnswer (readTree tree) → (a .number ≡ 0 → ⊥) → record { number = a .number; store = o } ≡ saveOf o n tree
-  bad-tree tree a e h = let q : a .number ≡ treeAnswer (readTree tree) .number = ap (λ (y : ReadTree). y .number) e in ap (λ (k : ℕ). record { number = k; store = o }) q ∙ save-fault tree (λ z. h (q ∙ z))
+  pub bad-tree : (tree : List ℕ) (a : ReadTree) → a ≡ treeAnswer (readTree tree) → (a .number ≡ 0 → ⊥) → record { number = a .number; store = o }
+      ≡ saveOf o n tree
+  bad-tree tree a e h = let q : a .number ≡ treeAnswer (readTree tree) .number = ap (λ (y : ReadTree). y .number) e in
+      ap (λ (k : ℕ). record { number = k; store = o }) q ∙ save-fault tree (λ z. h (q ∙ z))
 
   pub save-full : (tree : List ℕ) → TreeRead tree → length o < p .used - p .spot .size + (3 + length tree) → record { number = 20; store = o } ≡ saveOf o n tree
   unfolding saveOf
@@ -290,5 +324,6 @@ module _ (o : List ℕ) (n : ℕ) (p : Opened) (r : Openable o n p) where
   save-there tree x h s e k j a b =
       let m : length (fieldBytes rest) + (3 + length tree) ≤ length o = omega (arith, opened-room .others) in
       let q : s ≡ storeOf (length o) rest = a ∙ opened-room .closed in
-      let g : e ≡ storeOf (length o) (rest ++ (element (tagFor n) tree ∷ [])) = b ∙ rw (opened-room .others, q, j) (put-store (length o) rest (element (tagFor n) tree) (3 + length tree) (omega arith) m) in
+      let g : e ≡ storeOf (length o) (rest ++ (element (tagFor n) tree ∷ [])) = b
+      ∙ rw (opened-room .others, q, j) (put-store (length o) rest (element (tagFor n) tree) (3 + length tree) (omega arith) m) in
       rw (r .reads, r .named, x .reads, le-ltb (length o) (length (fieldBytes rest) + (3 + length tree)) m, g)

@@ -1,4 +1,4 @@
--- `returned-read`: what a return gives back is a tree that the tree reader accepts. Assumes nothing.
+-- `returned-read`: what a return gives back is a tree that the tree reader accepts.
 use mathlib.Core.Path.{_≡_, refl}
 use Prim.Native.Nat.{ℕ}
 use native.Mathlib.Omega.{arith}
@@ -21,7 +21,8 @@ module _ (k : ℕ) (tree : List ℕ) where
   abbrev Reads : Option (List ℕ) → Type 0
   Reads m = m ≡ some tree → TreeRead tree
 
-  save-noted : (o : List ℕ) (n : ℕ) (bytes : List ℕ) (m : Option (List ℕ)) → Reads m → (c d : Bool) → eqb (saveOf o n bytes .number) 0 ≡ d → Reads (pick c (pick d (some bytes) m) m)
+  save-noted : (o : List ℕ) (n : ℕ) (bytes : List ℕ) (m : Option (List ℕ)) → Reads m → (c d : Bool) → eqb (saveOf o n bytes .number) 0 ≡ d
+      → Reads (pick c (pick d (some bytes) m) m)
   save-noted o n bytes m r true true e h = let z : bytes ≡ tree = cc in rw z at (saved-read o n bytes (eqb-true (saveOf o n bytes .number) 0 e))
   save-noted o n bytes m r true false e h = r h
   save-noted o n bytes m r false d e h = r h
@@ -47,7 +48,9 @@ module _ (k : ℕ) (tree : List ℕ) where
 abbrev Given : DraftOut → Type 0
 Given r = r .answer .number ≡ 0 → TreeRead (take (r .answer .count) (r .out))
 
-given-case : (tree out : List ℕ) (c : Bool) → TreeRead tree → Given (pick c (noReturn 8 out) (record { answer = record { number = 0; count = length tree }; out = tree ++ drop (length tree) out }))
+given-case : (tree out : List ℕ) (c :
+    Bool) → TreeRead tree → Given (pick c (noReturn 8 out)
+    (record { answer = record { number = 0; count = length tree }; out = tree ++ drop (length tree) out }))
 given-case tree out true r h = absurd (omega arith)
 given-case tree out false r h = rw (take-append-seam tree (drop (length tree) out)) r
 
@@ -60,4 +63,5 @@ pub returned-read : (n : ℕ) (cs : List DraftCall) (k : ℕ) → isName k ≡ t
     → let r = returnOf (storeAfter (replicate n 0) cs) k out in r .answer .number ≡ 0 → TreeRead (take (r .answer .count) (r .out))
 returned-read n cs k name out =
     rw (return-gives n cs k name out)
-    (found-given (lastSaved k (replicate n 0) cs none) out (λ tree. last-read k tree cs (replicate n 0) none (λ h. let z : _≡_ {A = ℕ} 0 1 = cc in absurd (omega arith))))
+    (found-given (lastSaved k (replicate n 0) cs none) out
+    (λ tree. last-read k tree cs (replicate n 0) none (λ h. let z : _≡_ {A = ℕ} 0 1 = cc in absurd (omega arith))))

@@ -1,4 +1,4 @@
--- A store scanned field by field. Assumes nothing.
+-- A store scanned field by field.
 use mathlib.Core.Path.{_≡_, refl, sym, ap, ap₂, _∙_}
 use Prim.Native.Nat.{ℕ, zero, suc, _+_, _-_, _≤_, _<_}
 use native.Mathlib.Omega.{arith}
@@ -45,11 +45,13 @@ module _ (f : ℕ) (b : ℕ) (s : List ℕ) where
   unfolding readFields
   at-bad d e = rw (ne-eqb b 0 d, e, readFields)
 
-  at-field : (b ≡ 0 → ⊥) → wholeField (b ∷ s) ≡ true → readFields (suc f) (b ∷ s) ≡ fieldThen (take (3 + lengthAt (b ∷ s)) (b ∷ s)) (readFields f (drop (3 + lengthAt (b ∷ s)) (b ∷ s)))
+  at-field : (b ≡ 0 → ⊥) → wholeField (b ∷ s) ≡ true
+      → readFields (suc f) (b ∷ s) ≡ fieldThen (take (3 + lengthAt (b ∷ s)) (b ∷ s)) (readFields f (drop (3 + lengthAt (b ∷ s)) (b ∷ s)))
   unfolding readFields
   at-field d e = rw (ne-eqb b 0 d, e, readFields)
 
-pub field-at : (f : ℕ) (s : List ℕ) → (tagIn s ≡ 0 → ⊥) → wholeField s ≡ true → readFields (suc f) s ≡ fieldThen (take (3 + lengthAt s) s) (readFields f (drop (3 + lengthAt s) s))
+pub field-at : (f : ℕ) (s : List ℕ) → (tagIn s ≡ 0 → ⊥) → wholeField s ≡ true
+    → readFields (suc f) s ≡ fieldThen (take (3 + lengthAt s) s) (readFields f (drop (3 + lengthAt s) s))
 field-at f [] d e = absurd (d refl)
 field-at f (b ∷ s) d e = at-field f b s d e
 
@@ -114,7 +116,8 @@ unfolding hasTag allThen
 onto-again [] g x h = let z : _≡_ {A = ℕ} 0 1 = cc in absurd (omega arith)
 onto-again (f ∷ fs) g x h = go (eqb (tagIn f) (tagIn g)) refl h (onto-again fs g x)
   where
-    go : (c : Bool) → eqb (tagIn f) (tagIn g) ≡ c → pick c true (hasTag (tagIn g) fs) ≡ true → (hasTag (tagIn g) fs ≡ true → allThen fs (fieldThen g x) ≡ none) → fieldThen f (allThen fs (fieldThen g x)) ≡ none
+    go : (c : Bool) → eqb (tagIn f) (tagIn g) ≡ c → pick c true (hasTag (tagIn g) fs) ≡ true → (hasTag (tagIn g) fs ≡ true → allThen fs (fieldThen g x) ≡ none)
+        → fieldThen f (allThen fs (fieldThen g x)) ≡ none
     go true e q r =
         let i : tagIn f ≡ tagIn g = eqb-true (tagIn f) (tagIn g) e in
         then-none f (allThen fs (fieldThen g x)) (rw i (onto-holds (tagIn g) fs (fieldThen g x) (then-holds g x)))
@@ -129,9 +132,12 @@ field-from-last k i [] g h = let e : i + 0 ≡ i = omega arith in rw e
 field-from-last k i (f ∷ fs) g h = go (eqb (tagIn f) k) refl (absent (tagIn g) f fs h) (field-from-last k (i + length f) fs g)
   where
     go : (c : Bool) → eqb (tagIn f) k ≡ c → (tagIn f ≡ tagIn g → ⊥) × (hasTag (tagIn g) fs ≡ false)
-        → (hasTag (tagIn g) fs ≡ false → fieldFrom k (i + length f) (fs ++ (g ∷ [])) ≡ nextField (fieldFrom k (i + length f) fs) (eqb (tagIn g) k) (i + length f + length (fieldBytes fs)) (length g))
+        → (hasTag (tagIn g) fs ≡ false
+        → fieldFrom k (i + length f) (fs ++ (g ∷ []))
+        ≡ nextField (fieldFrom k (i + length f) fs) (eqb (tagIn g) k) (i + length f + length (fieldBytes fs)) (length g))
         → pick c (record { found = true; at = i; size = length f }) (fieldFrom k (i + length f) (fs ++ (g ∷ [])))
-        ≡ nextField (pick c (record { found = true; at = i; size = length f }) (fieldFrom k (i + length f) fs)) (eqb (tagIn g) k) (i + length (f ++ fieldBytes fs)) (length g)
+        ≡ nextField (pick c (record { found = true; at = i; size = length f }) (fieldFrom k (i + length f) fs)) (eqb (tagIn g) k)
+        (i + length (f ++ fieldBytes fs)) (length g)
     go true e a r = let d : tagIn f ≡ k = eqb-true (tagIn f) k e in rw (ne-eqb (tagIn g) k (λ z. a .0 (d ∙ sym z)))
     go false e a r =
         let l : i + length f + length (fieldBytes fs) ≡ i + length (f ++ fieldBytes fs) = omega (arith, length-append f (fieldBytes fs)) in
@@ -316,22 +322,28 @@ module _ (o : List ℕ) (k : ℕ) (seen : List Bool) (p : FieldAt) (i : ℕ) (x 
       g-field = taken-field (drop i o) front
 
       seen-is : getD seen (getD o i 0 - 32) false ≡ hasTag (tagIn g) (x .done)
-      seen-is = let b = tag-bounds in let e : 32 + (getD o i 0 - 32) ≡ getD o i 0 = omega arith in x .marks (getD o i 0 - 32) (omega arith) ∙ ap (λ (n : ℕ). hasTag n (x .done)) (e ∙ sym g-tag)
+      seen-is = let b = tag-bounds in let e : 32 + (getD o i 0 - 32) ≡ getD o i 0 = omega arith in x .marks (getD o i 0 - 32) (omega arith)
+          ∙ ap (λ (n : ℕ). hasTag n (x .done)) (e ∙ sym g-tag)
 
       pub scanning-again : getD seen (getD o i 0 - 32) false ≡ true → noScan ≡ scanOf k (fieldsOf o)
       scanning-again e =
           scanned false
           (x .reads ∙ fuelled (λ f. allThen (x .done) (readFields f (drop i o)) ≡ allThen (x .done) none)
-          (λ f l. ap (allThen (x .done)) (next f) ∙ onto-again (x .done) g (readFields f (drop (i + fieldSize (drop i o)) o)) (sym seen-is ∙ e) ∙ sym (onto-none (x .done))))
+          (λ f l. ap (allThen (x .done)) (next f) ∙ onto-again (x .done) g (readFields f (drop (i + fieldSize (drop i o)) o)) (sym seen-is ∙ e)
+          ∙ sym (onto-none (x .done))))
 
-      placed : nextField (fieldFrom k 0 (x .done)) (eqb (tagIn g) k) (0 + length (fieldBytes (x .done))) (length g) ≡ nextField (fieldFrom k 0 (x .done)) (eqb (getD o i 0) k) i (fieldSize (drop i o))
+      placed : nextField (fieldFrom k 0 (x .done)) (eqb (tagIn g) k) (0 + length (fieldBytes (x .done))) (length g)
+          ≡ nextField (fieldFrom k 0 (x .done)) (eqb (getD o i 0) k) i (fieldSize (drop i o))
       placed =
           let z : 0 + length (fieldBytes (x .done)) ≡ i = omega (arith, x .long) in
-          ap₂ (λ (t n : ℕ). nextField (fieldFrom k 0 (x .done)) (eqb t k) n (length g)) g-tag z ∙ ap (λ (n : ℕ). nextField (fieldFrom k 0 (x .done)) (eqb (getD o i 0) k) i n) g-long
+          ap₂ (λ (t n : ℕ). nextField (fieldFrom k 0 (x .done)) (eqb t k) n (length g)) g-tag z
+          ∙ ap (λ (n : ℕ). nextField (fieldFrom k 0 (x .done)) (eqb (getD o i 0) k) i n) g-long
 
       pub scanning-more : length seen ≡ 8 → getD seen (getD o i 0 - 32) false ≡ false
           → Scanning o k (set seen (getD o i 0 - 32) true) (nextField p (eqb (getD o i 0) k) i (fieldSize (drop i o))) (i + fieldSize (drop i o))
-      scanning-more eight e = fuelled (λ f. fieldsOf o ≡ allThen (x .done) (readFields f (drop i o)) → Scanning o k (set seen (getD o i 0 - 32) true) (nextField p (eqb (getD o i 0) k) i (fieldSize (drop i o))) (i + fieldSize (drop i o)))
+      scanning-more eight e =
+          fuelled (λ f. fieldsOf o ≡ allThen (x .done) (readFields f (drop i o))
+          → Scanning o k (set seen (getD o i 0 - 32) true) (nextField p (eqb (getD o i 0) k) i (fieldSize (drop i o))) (i + fieldSize (drop i o)))
           (λ f l r.
           let gone : hasTag (tagIn g) (x .done) ≡ false = sym seen-is ∙ e in
           let big : 3 ≤ fieldSize (drop i o) = omega (arith, front .size-is) in
@@ -349,7 +361,8 @@ module _ (o : List ℕ) (k : ℕ) (seen : List Bool) (p : FieldAt) (i : ℕ) (x 
           })
           (x .reads)
         where
-          marks : hasTag (tagIn g) (x .done) ≡ false → length seen ≡ 8 → (j : ℕ) → j < 8 → getD (set seen (getD o i 0 - 32) true) j false ≡ hasTag (32 + j) (x .done ++ (g ∷ []))
+          marks : hasTag (tagIn g) (x .done) ≡ false → length seen ≡ 8 → (j : ℕ) → j < 8
+              → getD (set seen (getD o i 0 - 32) true) j false ≡ hasTag (32 + j) (x .done ++ (g ∷ []))
           marks gone eight j m = go (eqb j (getD o i 0 - 32)) refl
             where
               go : (c : Bool) → eqb j (getD o i 0 - 32) ≡ c → getD (set seen (getD o i 0 - 32) true) j false ≡ hasTag (32 + j) (x .done ++ (g ∷ []))
@@ -360,7 +373,8 @@ module _ (o : List ℕ) (k : ℕ) (seen : List Bool) (p : FieldAt) (i : ℕ) (x 
               go false z =
                   let b = tag-bounds in
                   let y : j ≡ getD o i 0 - 32 → ⊥ = eqb-false j (getD o i 0 - 32) z in
-                  getD-set-other seen (getD o i 0 - 32) j true false y ∙ x .marks j m ∙ sym (has-same (32 + j) (x .done) g (λ w. y (omega (arith, sym g-tag ∙ w))))
+                  getD-set-other seen (getD o i 0 - 32) j true false y ∙ x .marks j m
+                  ∙ sym (has-same (32 + j) (x .done) g (λ w. y (omega (arith, sym g-tag ∙ w))))
 
 -- ---- the same, of what the code has: the part from i on, and the answers of the functions that it calls
 
@@ -385,5 +399,6 @@ module _ (o : List ℕ) (k : ℕ) (seen : List Bool) (p : FieldAt) (i : ℕ) (x 
       pub scan-again : (r : Scan) → r ≡ noScan → getD seen (w - 32) false ≡ true → r ≡ scanOf k (fieldsOf o)
       scan-again r e s = e ∙ scanning-again o k seen p i x h d some-field (rw b at s)
 
-      pub scan-more : getD seen (w - 32) false ≡ false → (p′ : FieldAt) → p′ ≡ nextField p (eqb (getD o i 0) k) i n → Scanning o k (set seen (w - 32) true) p′ (i + n)
+      pub scan-more : getD seen (w - 32) false ≡ false → (p′ : FieldAt) → p′ ≡ nextField p (eqb (getD o i 0) k) i n
+          → Scanning o k (set seen (w - 32) true) p′ (i + n)
       scan-more s p′ e = rw (e, b, size) (scanning-more o k seen p i x h d some-field (x .eight) (rw b at s))

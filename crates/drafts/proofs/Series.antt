@@ -1,4 +1,4 @@
--- After any series of calls from a store of zero bytes, each name gives back the tree of its last accepted save, not since forgotten. Assumes nothing.
+-- After any series of calls from a store of zero bytes, each name gives back the tree of its last accepted save, not since forgotten.
 use mathlib.Core.Path.{_≡_, refl, sym, ap, _∙_}
 use Prim.Native.Nat.{ℕ, _+_, _-_, _≤_, _<_}
 use native.Mathlib.Omega.{arith}
@@ -108,7 +108,8 @@ module _ (n k : ℕ) (name : isName k ≡ true) where
         let g = withoutTag (tagFor j) fs in
         let e = element (tagFor j) tree in
         let l = state-length (x .state) in
-        let a = fields-last g e (fields-without (tagFor j) fs (x .state .good)) (element-field (tagFor j) tree (name-tag j p)) (without-gone (tagFor j) fs (x .state .good)) in
+        let a = fields-last g e (fields-without (tagFor j) fs (x .state .good)) (element-field (tagFor j) tree (name-tag j p))
+        (without-gone (tagFor j) fs (x .state .good)) in
         let r : length (fieldBytes (g ++ (e ∷ []))) ≤ n = omega (arith, joined-last g e) in
         record {
           state = record { fs = g ++ (e ∷ []); good = a; room = r; is = ap (λ (z : ℕ). storeOf z (g ++ (e ∷ []))) l };
@@ -128,7 +129,8 @@ module _ (n k : ℕ) (name : isName k ≡ true) where
     save-next j tree = rw (state-reads (x .state)) (named (isName j) refl)
       where
         room : (c : Bool) → isName j ≡ true → ltb (length o) (length (fieldBytes (withoutTag (tagFor j) fs)) + (3 + length tree)) ≡ c
-            → CallNext (pick c (record { number = 20; store = o }) (record { number = 0; store = storeOf (length o) (withoutTag (tagFor j) fs ++ (element (tagFor j) tree ∷ [])) })) (save j tree) m
+            → CallNext (pick c (record { number = 20; store = o })
+            (record { number = 0; store = storeOf (length o) (withoutTag (tagFor j) fs ++ (element (tagFor j) tree ∷ [])) })) (save j tree) m
         room true p e = stay o m x 20 (λ z. omega arith) (save j tree)
         room false p e = saved j tree p (ltb-false (length o) (length (fieldBytes (withoutTag (tagFor j) fs)) + (3 + length tree)) e)
 
@@ -136,7 +138,8 @@ module _ (n k : ℕ) (name : isName k ≡ true) where
         read (ReadOne.refused q) e p = stay o m x q (λ z. omega (arith, tree-refusal tree q e)) (save j tree)
         read (ReadOne.one t z w) e p = room (ltb (length o) (length (fieldBytes (withoutTag (tagFor j) fs)) + (3 + length tree))) p refl
 
-        named : (c : Bool) → isName j ≡ c → CallNext (pick c (saveTree o fs (tagFor j) tree (readTree tree)) (record { number = 19; store = o })) (save j tree) m
+        named : (c : Bool) → isName j ≡ c → CallNext (pick c (saveTree o fs (tagFor j) tree (readTree tree)) (record { number = 19; store = o }))
+            (save j tree) m
         named true p = read (readTree tree) refl p
         named false p = stay o m x 19 (λ z. omega arith) (save j tree)
 
@@ -145,7 +148,12 @@ module _ (n k : ℕ) (name : isName k ≡ true) where
     forgot j p =
         let l = state-length (x .state) in
         record {
-          state = record { fs = withoutTag (tagFor j) fs; good = fields-without (tagFor j) fs (x .state .good); room = omega (arith, without-shorter (tagFor j) fs, x .state .room); is = ap (λ (z : ℕ). storeOf z (withoutTag (tagFor j) fs)) l };
+          state = record {
+            fs = withoutTag (tagFor j) fs;
+            good = fields-without (tagFor j) fs (x .state .good);
+            room = omega (arith, without-shorter (tagFor j) fs, x .state .room);
+            is = ap (λ (z : ℕ). storeOf z (withoutTag (tagFor j) fs)) l;
+          };
           holds = go (eqb j k) refl;
         }
       where
@@ -161,11 +169,14 @@ module _ (n k : ℕ) (name : isName k ≡ true) where
     unfolding forgetOf
     forget-next j = rw (state-reads (x .state)) (named (isName j) refl)
       where
-        there : (c : Bool) → isName j ≡ true → CallNext (pick c (record { number = 0; store = storeOf (length o) (withoutTag (tagFor j) fs) }) (record { number = 19; store = o })) (forget j) m
+        there : (c : Bool) → isName j ≡ true → CallNext (pick c (record { number = 0; store = storeOf (length o) (withoutTag (tagFor j) fs) })
+            (record { number = 19; store = o })) (forget j) m
         there true p = forgot j p
         there false p = stay o m x 19 (λ z. omega arith) (forget j)
 
-        named : (c : Bool) → isName j ≡ c → CallNext (pick c (pick (hasTag (tagFor j) fs) (record { number = 0; store = storeOf (length o) (withoutTag (tagFor j) fs) }) (record { number = 19; store = o })) (record { number = 19; store = o })) (forget j) m
+        named : (c : Bool) → isName j ≡ c → CallNext (pick c
+            (pick (hasTag (tagFor j) fs) (record { number = 0; store = storeOf (length o) (withoutTag (tagFor j) fs) }) (record { number = 19; store = o }))
+            (record { number = 19; store = o })) (forget j) m
         named true p = there (hasTag (tagFor j) fs) p
         named false p = stay o m x 19 (λ z. omega arith) (forget j)
 
@@ -212,8 +223,10 @@ module _ (n : ℕ) (cs : List DraftCall) where
   pub save-room : (k : ℕ) → isName k ≡ true → (tree : List ℕ) (t : Tree) (z w : ℕ) → readTree tree ≡ ReadOne.one t z w
       → saveOf store k tree .number ≡ pick (ltb n (length (fieldBytes (withoutTag (tagFor k) (ours .fs))) + (3 + length tree))) 20 0
   unfolding saveOf
-  save-room k name tree t z w e = rw (store-reads, name, e, store-length) (go (ltb n (length (fieldBytes (withoutTag (tagFor k) (ours .fs))) + (3 + length tree))))
+  save-room k name tree t z w e =
+      rw (store-reads, name, e, store-length) (go (ltb n (length (fieldBytes (withoutTag (tagFor k) (ours .fs))) + (3 + length tree))))
     where
-      go : (c : Bool) → pick {X = StoreAnswer} c (record { number = 20; store = store }) (record { number = 0; store = storeOf n (withoutTag (tagFor k) (ours .fs) ++ (element (tagFor k) tree ∷ [])) }) .number ≡ pick c 20 0
+      go : (c : Bool) → pick {X = StoreAnswer} c (record { number = 20; store = store })
+          (record { number = 0; store = storeOf n (withoutTag (tagFor k) (ours .fs) ++ (element (tagFor k) tree ∷ [])) }) .number ≡ pick c 20 0
       go true = refl
       go false = refl

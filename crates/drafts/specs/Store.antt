@@ -113,7 +113,8 @@ saveOf o n tree = saveIn o (fieldsOf o) n tree
 abbrev pub forgetIn : List ℕ → Option (List (List ℕ)) → ℕ → StoreAnswer
 forgetIn o none n = record { number = 18; store = o }
 forgetIn o (some fs) n =
-    pick (isName n) (pick (hasTag (tagFor n) fs) (record { number = 0; store = storeOf (length o) (withoutTag (tagFor n) fs) }) (record { number = 19; store = o }))
+    pick (isName n) (pick (hasTag (tagFor n) fs) (record { number = 0; store = storeOf (length o) (withoutTag (tagFor n) fs) })
+    (record { number = 19; store = o }))
     (record { number = 19; store = o })
 
 unfoldable pub forgetOf : List ℕ → ℕ → StoreAnswer
@@ -126,7 +127,9 @@ noReturn k out = record { answer = record { number = k; count = 0 }; out = out }
 -- 8 where the buffer is shorter than the tree; its bytes past the tree stay
 abbrev pub returnFound : Option (List ℕ) → List ℕ → DraftOut
 returnFound none out = noReturn 19 out
-returnFound (some tree) out = pick (ltb (length out) (length tree)) (noReturn 8 out) (record { answer = record { number = 0; count = length tree }; out = tree ++ drop (length tree) out })
+returnFound (some tree) out =
+    pick (ltb (length out) (length tree)) (noReturn 8 out)
+    (record { answer = record { number = 0; count = length tree }; out = tree ++ drop (length tree) out })
 
 abbrev pub returnIn : Option (List (List ℕ)) → ℕ → List ℕ → DraftOut
 returnIn none n out = noReturn 18 out

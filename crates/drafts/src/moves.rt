@@ -66,7 +66,8 @@ pub fn copy_in(t: &[u8], s: &mut [u8], at: usize)
 // A field of that tag with the bytes of `t`, over those from `at` on.
 pub fn put_field(s: &mut [u8], at: usize, tag: u8, t: &[u8])
     requires { ⌜ (at + (3 + length (now t)) ≤ length (now s)) × (length (now t) ≤ 65535) ⌝ }
-    ensures { λ _. ⌜ now (s .exit) ≡ take at (now (s .entry)) ++ (element tag (now (t .entry)) ++ drop (at + (3 + length (now (t .entry)))) (now (s .entry))) ⌝ }
+    ensures { λ _. ⌜ now (s .exit) ≡ take at (now (s .entry))
+        ++ (element tag (now (t .entry)) ++ drop (at + (3 + length (now (t .entry)))) (now (s .entry))) ⌝ }
 {
     tree::front::put_front(s, at, tag, t.len());
     copy_in(t, s, at + 3);

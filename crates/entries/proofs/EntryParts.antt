@@ -1,4 +1,4 @@
--- A leaf's parts, from its entry. Assumes nothing.
+-- A leaf's parts, from its entry.
 use mathlib.Core.Path.{_≡_, refl, sym, ap, _∙_}
 use Prim.Native.Nat.{ℕ, _+_, _-_, _*_, _≤_, _<_}
 use native.Mathlib.Omega.{arith}
@@ -28,7 +28,12 @@ module _ {s : Settings} {stride : ℕ} {tree list : List ℕ} {l : Placed} {es :
   long = omega (arith, entry-long es stride (b .at) l (b .rest) (b .is))
 
   module _ (e : Entry) (ee : e ≡ entryAt es) where
-    is : e ≡ record { spot = record { node = l .at .node; at = b .at; base = baseOf stride l; flags = flagsNumber (l .at .flags) }; horizontal = length (l .at .horizontal); vertical = length (l .at .vertical); pair = l .at .pair }
+    is : e ≡ record {
+      spot = record { node = l .at .node; at = b .at; base = baseOf stride l; flags = flagsNumber (l .at .flags) };
+      horizontal = length (l .at .horizontal);
+      vertical = length (l .at .vertical);
+      pair = l .at .pair;
+    }
     is = ee ∙ entry-is es stride (b .at) l (b .rest) (b .is)
 
     at-is : e .spot .at ≡ b .at
@@ -67,7 +72,8 @@ module _ {s : Settings} {stride : ℕ} {tree list : List ℕ} {l : Placed} {es :
       text-short : length tree < 65536 → length (l .text) < 65536
       text-short short = rw (← b .stands .text-is, length-take) (omega (arith, b .stands .inside, short))
 
-      module _ (nat z : Size) (nate : nat ≡ naturalAt list (e .spot .node)) (ze : z ≡ allottedAt list (e .spot .node)) (f : Flags) (fe : f ≡ flagsAt (e .spot .flags)) where
+      module _ (nat z : Size) (nate : nat ≡ naturalAt list (e .spot .node)) (ze : z ≡ allottedAt list (e .spot .node)) (f : Flags)
+          (fe : f ≡ flagsAt (e .spot .flags)) where
         nat-is : nat ≡ leafSize s (l .text)
         nat-is = nate ∙ rw node-is (b .stands .sizes .natural-is)
 
@@ -89,8 +95,10 @@ module _ {s : Settings} {stride : ℕ} {tree list : List ℕ} {l : Placed} {es :
         pub base-is : e .spot .base ≡ baseOf stride l
         base-is = ap (λ (x : Entry). x .spot .base) is
 
-        pub paintable : length tree < 65536 → SmallSize z → (base apart len : ℕ) → Fits (leafSize s (l .text)) (l .at .size) → blockWidth s (l .at .size) (l .at .flags) ≤ apart
-            → Room base apart (blockHeight s (l .at .size) (l .at .flags)) (blockWidth s (l .at .size) (l .at .flags)) len → Paintable s text nat z f h v base apart len
+        pub paintable : length tree < 65536 → SmallSize z → (base apart len : ℕ) → Fits (leafSize s (l .text)) (l .at .size)
+            → blockWidth s (l .at .size) (l .at .flags) ≤ apart
+            → Room base apart (blockHeight s (l .at .size) (l .at .flags)) (blockWidth s (l .at .size) (l .at .flags)) len
+            → Paintable s text nat z f h v base apart len
         paintable short small base apart len fits a room =
             let w : z .width < 65536 = small .wide in
             let t : z .height < 65536 = small .tall in

@@ -1,4 +1,4 @@
--- The tries, and the answer, as the code has them. Assumes nothing.
+-- The tries, and the answer, as the code has them.
 use mathlib.Core.Path.{_≡_, refl, sym, ap, _∙_}
 use Prim.Native.Nat.{ℕ, zero, suc, _+_, _-_, _≤_, _<_, min}
 use native.Mathlib.Omega.{arith}
@@ -79,10 +79,13 @@ module _ (ws hs : List ℕ) (g w budget one least : ℕ) (q : Range ws hs g one 
       let e₂ : one - least - 0 ≡ one - least = omega arith in
       rw (e, e₁, e₂, q .one-is, least-is)
 
-  pub turn-down : (i : ℕ) (f : Tried) → i < min budget (one - least) → Down i f → (r : Tried) → r ≡ try (q .known .settings) w (q .known .cells) (one - 1 - i) f → Down (i + 1) r
+  pub turn-down : (i : ℕ) (f : Tried) → i < min budget (one - least) → Down i f → (r : Tried) → r ≡ try (q .known .settings) w (q .known .cells) (one - 1 - i) f
+      → Down (i + 1) r
   turn-down i f h k r e =
       let e₃ = height-down one least (tallest (q .known .cells)) i least-is (omega arith) in
-      rw (one-less budget i, one-less (one - least) i, e, e₃) (sym (down-next (q .known .settings) w (q .known .cells) (budget - i) (one - least - i) f (under-sub budget i (omega arith)) (under-sub (one - least) i (omega arith))) ∙ k)
+      rw (one-less budget i, one-less (one - least) i, e, e₃)
+      (sym (down-next (q .known .settings) w (q .known .cells) (budget - i) (one - least - i) f (under-sub budget i (omega arith))
+      (under-sub (one - least) i (omega arith))) ∙ k)
 
   pub over-down : (i : ℕ) (f : Tried) → min budget (one - least) ≤ i → Down i f → f ≡ find (q .known .settings) w (q .known .cells) budget
   over-down i f h k = sym (down-over (q .known .settings) w (q .known .cells) (budget - i) (one - least - i) f (omega arith)) ∙ k
@@ -112,14 +115,19 @@ module _ (ws hs : List ℕ) (g w budget one : ℕ) (q : Narrow ws hs g w one) (l
     missed-asks = (range-low ws hs g w budget one least try-range, best-above)
 
     module _ (r : Run) (k : Runs (q .known .settings) (f .best) (q .known .cells) r) (l : List ℕ) where
-      pub answer-short : length l < r .columns + 1 → noFolds 8 l ≡ finds (q .known .settings) (q .known .cells) l (find (q .known .settings) w (q .known .cells) budget)
+      pub answer-short : length l < r .columns + 1
+          → noFolds 8 l ≡ finds (q .known .settings) (q .known .cells) l (find (q .known .settings) w (q .known .cells) budget)
       answer-short h = rw (← fe, ← k .count, lt-ltb (length l) (r .columns + 1) h)
 
       pub answer-room : r .columns + 1 ≤ length l → ColumnsRoom ws hs g (f .best) (length l)
       answer-room h = record { known = q .known; enough = rw (← k .count) h }
 
-      pub answer-done : r .columns + 1 ≤ length l → (l₁ : List ℕ) → ((p : ColumnsRoom ws hs g (f .best) (length l)) → l₁ ≡ counts (columns (p .known .settings) (f .best) (p .known .cells)) ++ drop (length (columns (p .known .settings) (f .best) (p .known .cells))) l)
+      pub answer-done : r .columns + 1 ≤ length l → (l₁ : List ℕ)
+          → ((p : ColumnsRoom ws hs g (f .best) (length l))
+          → l₁ ≡ counts (columns (p .known .settings) (f .best) (p .known .cells))
+          ++ drop (length (columns (p .known .settings) (f .best) (p .known .cells))) l)
           → (m : ℕ) → m ≡ pick (ltb (f .tries) (one - least)) (f .best - least) 0
-          → record { answer = record { number = 0; columns = r .columns + 1; height = f .best; tries = f .tries; miss = m }; list = l₁ } ≡ finds (q .known .settings) (q .known .cells) l (find (q .known .settings) w (q .known .cells) budget)
+          → record { answer = record { number = 0; columns = r .columns + 1; height = f .best; tries = f .tries; miss = m }; list = l₁ }
+          ≡ finds (q .known .settings) (q .known .cells) l (find (q .known .settings) w (q .known .cells) budget)
       unfolding answer-room
       answer-done h l₁ e m me = rw (← fe, e (answer-room h), missed-is m me, ← k .count, le-ltb (length l) (r .columns + 1) h)

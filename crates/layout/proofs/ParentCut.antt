@@ -1,4 +1,4 @@
--- `leaf-pair`, `root-pair`: the pair in a leaf's context is that of the cut which its own parent made for it (document 02, request 4). Assumes nothing.
+-- `leaf-pair`, `root-pair`: the pair in a leaf's context is that of the cut which its own parent made for it (document 02, request 4).
 use mathlib.Core.Path.{_≡_, refl, sym, ap, subst, _∙_}
 use Prim.Native.Nat.{ℕ, zero, suc, _+_}
 use native.Mathlib.Omega.{arith}
@@ -40,7 +40,11 @@ mutual
       let d = child a c (eqb i 0) (eqb (suc i) n) old node offset e k handed in
       let w = walk s t d in
       rw length-append
-      (omega (arith, contexts-length s t d, contexts*-length s ts a c spare n (suc i) (k .split) (node + nodes t) (offset + e + sep s) (k .left) (besideList a (w .horizontal) (w .vertical))))
+      (omega (
+        arith,
+        contexts-length s t d,
+        contexts*-length s ts a c spare n (suc i) (k .split) (node + nodes t) (offset + e + sep s) (k .left) (besideList a (w .horizontal) (w .vertical)),
+      ))
 
 contexts-first : (s : Settings) (t : Tree) (c : Context) → getElem? (contexts s t c) 0 ≡ some c
 unfolding contexts
@@ -51,7 +55,8 @@ stand-own : (s : Settings) {cs : List Context} {n : ℕ} (t : Tree) (c : Context
 stand-own s {n = n} t c h = let e : n + 0 ≡ n = omega arith in rw e at (h .is 0 c (contexts-first s t c))
 
 -- the pair of a child's context is its cut's
-child-pair : (a : Axis) (c : Context) (first last old : Bool) (node offset e : ℕ) (k : Cut) (handed : List ℕ) → child a c first last old node offset e k handed .pair ≡ pairOf k
+child-pair : (a : Axis) (c : Context) (first last old : Bool) (node offset e : ℕ) (k : Cut) (handed : List ℕ)
+    → child a c first last old node offset e k handed .pair ≡ pairOf k
 unfolding child
 child-pair across c f l o n off e k hd = refl
 child-pair down c f l o n off e k hd = refl
@@ -83,13 +88,15 @@ module _ (s : Settings) (zs : List Sizes) (cs : List Context) where
       unfolding contexts
       stand-child = stand-front _ _ h
 
-      stand-others : Stand cs (node + nodes t) (contexts* s ts a c spare n (suc i) (first-cut .split) (node + nodes t) (offset + first-extent + sep s) (first-cut .left) next-handed)
+      stand-others : Stand cs (node
+          + nodes t) (contexts* s ts a c spare n (suc i) (first-cut .split) (node + nodes t) (offset + first-extent + sep s) (first-cut .left) next-handed)
       unfolding contexts
       stand-others = stand-back (contexts s t first-child) _ (nodes t) (contexts-length s t _) h
 
     first-extent-is : RecordsFrom zs node (sizes* s (more t ts) a (c .size) spare n i) → extentIn zs a node ≡ first-extent
     unfolding childSize
-    first-extent-is p = ap (λ (x : Sizes). along a (x .allotted)) (part-own s t _ (child-part s a (c .size) spare n i t ts p) .is) ∙ along-sized a first-extent _
+    first-extent-is p = ap (λ (x : Sizes). along a (x .allotted)) (part-own s t _ (child-part s a (c .size) spare n i t ts p) .is)
+        ∙ along-sized a first-extent _
 
   children-cut : (ts : Trees) (a : Axis) (c : Context) (spare n i : ℕ) (old : Bool) (node offset : ℕ) (cut handed : List ℕ)
       → Stand cs node (contexts* s ts a c spare n i old node offset cut handed) → RecordsFrom zs node (sizes* s ts a (c .size) spare n i)
@@ -106,13 +113,15 @@ module _ (s : Settings) (zs : List Sizes) (cs : List Context) where
       })
   children-cut (more t ts) a c spare n i old node offset cut handed h p (suc j) m d =
       rw (first-extent-is a c spare n i old node offset cut handed t ts p)
-      (children-cut ts a c spare n (suc i) _ (node + nodes t) _ _ _ (stand-others a c spare n i old node offset cut handed t ts h) (rest-part s a (c .size) spare n i t ts p) j m d)
+      (children-cut ts a c spare n (suc i) _ (node + nodes t) _ _ _ (stand-others a c spare n i old node offset cut handed t ts h)
+      (rest-part s a (c .size) spare n i t ts p) j m d)
 
   -- node n is a group of the trees ts along the axis a: its context, and the cut of each child
   record GroupCuts (n : ℕ) (a : Axis) (ts : Trees) : Type 0 where
     context : Context
     own : getElem? cs n ≡ some context
-    each : (i m : ℕ) → getElem? (childNodes (suc n) ts) i ≡ some m → CutOff a m (leftAfter (alongList a (context .horizontal) (context .vertical)) (map (extentIn zs a) (take i (childNodes (suc n) ts))))
+    each : (i m : ℕ) → getElem? (childNodes (suc n) ts) i ≡ some m
+        → CutOff a m (leftAfter (alongList a (context .horizontal) (context .vertical)) (map (extentIn zs a) (take i (childNodes (suc n) ts))))
 
   here : (b : Axis) (us : Trees) (c : Context) → Stand cs (c .node) (contexts s (group b us) c) → RecordsFrom zs (c .node) (sizes s (group b us) (c .size))
       → (k : ℕ) (a : Axis) (ts : Trees) → k ≡ 0 → group b us ≡ group a ts → GroupCuts (c .node + k) a ts
@@ -121,7 +130,8 @@ module _ (s : Settings) (zs : List Sizes) (cs : List Context) where
       let x : b ≡ a = cc in
       let y : us ≡ ts = cc in
       let m : c .node + k ≡ c .node = omega arith in
-      rw (m, ← x, ← y) (record { context = c; own = stand-first h; each = children-cut us b c _ _ 0 false (suc (c .node)) 0 _ _ (stand-rest h) (part-tail _ _ p) })
+      rw (m, ← x, ← y) (record
+      { context = c; own = stand-first h; each = children-cut us b c _ _ 0 false (suc (c .node)) 0 _ _ (stand-rest h) (part-tail _ _ p) })
 
   mutual
     unfolding contexts sizes subtrees
@@ -147,7 +157,8 @@ module _ (s : Settings) (zs : List Sizes) (cs : List Context) where
         (group-cuts t kid (rw at (stand-child b c spare n i old node offset cut handed t us h))
         (rw (at, child-size b c _ _ _ _ _ _ _ _) (child-part s b (c .size) spare n i t us p)) k a ts d))
         (λ j d x. let m : node + k ≡ node + nodes t + j = omega (arith, d, subtrees-length t) in
-        rw m (group-cuts* us b c spare n (suc i) _ (node + nodes t) _ _ _ (stand-others b c spare n i old node offset cut handed t us h) (rest-part s b (c .size) spare n i t us p) j a ts x))
+        rw m (group-cuts* us b c spare n (suc i) _ (node + nodes t) _ _ _ (stand-others b c spare n i old node offset cut handed t us h)
+        (rest-part s b (c .size) spare n i t us p) j a ts x))
 
   -- ---- the leaves
 
@@ -156,7 +167,8 @@ module _ (s : Settings) (zs : List Sizes) (cs : List Context) where
   AtContext f = getElem? cs (f .at .node) ≡ some (f .at)
 
   whole : (ts : Trees) (a : Axis) (c : Context) → Stand cs (c .node) (contexts s (group a ts) c)
-      → Every AtContext (children s ts a c (spareOf s a ts (c .size)) (count ts) 0 false (suc (c .node)) 0 (alongList a (c .horizontal) (c .vertical)) (besideList a (c .horizontal) (c .vertical)) .leaves)
+      → Every AtContext (children s ts a c (spareOf s a ts (c .size)) (count ts) 0 false (suc (c .node)) 0 (alongList a (c .horizontal) (c .vertical))
+      (besideList a (c .horizontal) (c .vertical)) .leaves)
       → Every AtContext (walk s (group a ts) c .leaves)
   unfolding walk empty? leafWalked contexts
   whole none a c h q = (stand-first h, tt)
@@ -170,14 +182,16 @@ module _ (s : Settings) (zs : List Sizes) (cs : List Context) where
     at-context (group a ts) c h = whole ts a c h (at-context* ts a c _ _ 0 false (suc (c .node)) 0 _ _ (stand-rest h))
 
     at-context* : (ts : Trees) (a : Axis) (c : Context) (spare n i : ℕ) (old : Bool) (node offset : ℕ) (cut handed : List ℕ)
-        → Stand cs node (contexts* s ts a c spare n i old node offset cut handed) → Every AtContext (children s ts a c spare n i old node offset cut handed .leaves)
+        → Stand cs node (contexts* s ts a c spare n i old node offset cut handed)
+        → Every AtContext (children s ts a c spare n i old node offset cut handed .leaves)
     at-context* none a c spare n i old node offset cut handed h = rw none-leaves tt
     at-context* (more t ts) a c spare n i old node offset cut handed h =
         let kid = first-child a c spare n i old node offset cut handed t ts in
         let at : kid .node ≡ node = child-node a c _ _ _ node _ _ _ _ in
         let w = walk s t kid in
         let k = first-cut a c spare n i old node offset cut handed t ts in
-        let r = children s ts a c spare n (suc i) (k .split) (node + nodes t) (offset + first-extent a c spare n i old node offset cut handed t ts + sep s) (k .left) (besideList a (w .horizontal) (w .vertical)) in
+        let r = children s ts a c spare n (suc i) (k .split) (node + nodes t) (offset + first-extent a c spare n i old node offset cut handed t ts + sep s)
+        (k .left) (besideList a (w .horizontal) (w .vertical)) in
         rw (join-leaves a w r)
         (every-append AtContext (w .leaves) (r .leaves)
         (at-context t kid (rw at (stand-child a c spare n i old node offset cut handed t ts h)))
@@ -198,7 +212,8 @@ module _ (s : Settings) (t : Tree) {m : ℕ} {f : Placed} (p : LeafAt s t m f) w
   unfolding contextAt
   leaf-context = sym (entry-at (contexts s t (root s t)) m (f .at) (root s t) leaf-there)
 
-  -- "each leaf record holds the pair from its own cut": a leaf that is child i of a group has the pair of `short_splits3` of the list that was left before it, at its extent.
+  -- "each leaf record holds the pair from its own cut": a leaf that is child i of a group has the pair of `short_splits3` of the list that was left before it,
+  -- at its extent.
   -- The list is the one that the group, node n, was handed along its axis; the children before the leaf have cut it at their extents.
   pub leaf-pair : (n : ℕ) (a : Axis) (ts : Trees) → getElem? (subtrees t) n ≡ some (group a ts) → (i : ℕ) → getElem? (childNodes (suc n) ts) i ≡ some m
       → let extent = extentIn (treeSizes s t) a in
@@ -216,4 +231,5 @@ module _ (s : Settings) (t : Tree) {m : ℕ} {f : Placed} (p : LeafAt s t m f) w
 -- "zeros for the root"
 pub root-pair : (s : Settings) (t : Tree) {f : Placed} → LeafAt s t 0 f → f .at .pair ≡ noPair
 unfolding contextAt root
-root-pair s t {f} p = ap (λ (c : Context). c .pair) (leaf-context s t p ∙ entry-at (contexts s t (root s t)) 0 (root s t) (root s t) (contexts-first s t (root s t)))
+root-pair s t {f} p =
+    ap (λ (c : Context). c .pair) (leaf-context s t p ∙ entry-at (contexts s t (root s t)) 0 (root s t) (root s t) (contexts-first s t (root s t)))

@@ -22,7 +22,8 @@ unfoldable mutual
   pub contexts : Settings → Tree → Context → List Context
   contexts s (cell t) c = c ∷ []
   contexts s (group a ts) c =
-      c ∷ contexts* s ts a c (spareOf s a ts (c .size)) (count ts) 0 false (suc (c .node)) 0 (alongList a (c .horizontal) (c .vertical)) (besideList a (c .horizontal) (c .vertical))
+      c ∷ contexts* s ts a c (spareOf s a ts (c .size)) (count ts) 0 false (suc (c .node)) 0 (alongList a (c .horizontal) (c .vertical))
+      (besideList a (c .horizontal) (c .vertical))
 
   -- children: the arguments are those of `children`
   pub contexts* : Settings → Trees → Axis → Context → ℕ → ℕ → ℕ → Bool → ℕ → ℕ → List ℕ → List ℕ → List Context
@@ -32,7 +33,8 @@ unfoldable mutual
       let k = shortSplits3 cut extent in
       let d = child a c (eqb i 0) (eqb (suc i) n) old node offset extent k handed in
       let w = walk s t d in
-      contexts s t d ++ contexts* s ts a c spare n (suc i) (k .split) (node + nodes t) (offset + extent + sep s) (k .left) (besideList a (w .horizontal) (w .vertical))
+      contexts s t d ++ contexts* s ts a c spare n (suc i) (k .split) (node + nodes t) (offset + extent
+      + sep s) (k .left) (besideList a (w .horizontal) (w .vertical))
 
 -- the context of node n
 unfoldable pub contextAt : Settings → Tree → ℕ → Context

@@ -1,4 +1,4 @@
--- A leaf's block printed alone: the leaf painted at the first byte, over bytes of 0A. Assumes nothing.
+-- A leaf's block printed alone: the leaf painted at the first byte, over bytes of 0A.
 use mathlib.Core.Path.{_≡_, refl, sym, ap, _∙_}
 use Prim.Native.Nat.{ℕ, _+_, _-_, _*_, _≤_, _<_}
 use native.Mathlib.Omega.{arith}
@@ -31,7 +31,16 @@ use Rattle.leaf.proofs.Bytes.{block-bytes, alone-room, bytes-fit, wide-
 abbrev pub alone : Placed → Placed
 alone l = record {
   text = l .text;
-  at = record { node = l .at .node; line = 0; column = 0; size = l .at .size; horizontal = l .at .horizontal; vertical = l .at .vertical; flags = l .at .flags; pair = l .at .pair };
+  at = record {
+    node = l .at .node;
+    line = 0;
+    column = 0;
+    size = l .at .size;
+    horizontal = l .at .horizontal;
+    vertical = l .at .vertical;
+    flags = l .at .flags;
+    pair = l .at .pair;
+  };
 }
 
 module _ {s : Settings} {stride : ℕ} {tree list : List ℕ} {l : Placed} {es : List ℕ} (b : BeginsEntry s stride tree list l es) where
@@ -97,7 +106,8 @@ module _ {s : Settings} {stride : ℕ} {tree list : List ℕ} {l : Placed} {es :
           record { fits = fits; apart = omega (arith, columns-are); room = rw c (room len h) }
 
       -- what `paint_leaves` asks, and what was written
-      module _ (short : length tree < 65536) (o : List ℕ) (h : n ≤ length o) (len : ℕ) (same : len ≡ length o) (end : ℕ) (d : end ≡ 8 + e .horizontal + e .vertical) where
+      module _ (short : length tree < 65536) (o : List ℕ) (h : n ≤ length o) (len : ℕ) (same : len ≡ length o) (end : ℕ)
+          (d : end ≡ 8 + e .horizontal + e .vertical) where
         unfoldable pub paints : PaintsAll tree list (take end (set es 2 0)) s (w + 1) len
         paints = record {
           leaves = alone l ∷ [];

@@ -1,4 +1,4 @@
--- What both calls answer, from the sizes that were measured, the walk and the leaf that was found. Assumes nothing.
+-- What both calls answer, from the sizes that were measured, the walk and the leaf that was found.
 use mathlib.Core.Path.{_≡_, refl, sym, ap, _∙_}
 use Prim.Native.Nat.{ℕ, _+_, _-_, _*_, _≤_, _<_}
 use native.Mathlib.Omega.{arith}
@@ -63,7 +63,8 @@ module _ (s : Settings) (t : Tree) (large : tooLarge s t ≡ false) where
   unfolding Encodes
   root-whole ts k = (k .got .is, length-drop (3 + lengthAt ts) ts ∙ omega (arith, k .got .ends))
 
-  unfoldable pub tree-ready : (ts list : List ℕ) → Takes ts s t → Allotted s t (natural s t) 0 list → (gap stride len : ℕ) → gap ≡ sep s → stride ≡ W s t + 1 → 5120 ≤ len → ReadyWalk ts list gap stride len
+  unfoldable pub tree-ready : (ts list : List ℕ) → Takes ts s t → Allotted s t (natural s t) 0 list → (gap stride len : ℕ) → gap ≡ sep s → stride ≡ W s t + 1
+      → 5120 ≤ len → ReadyWalk ts list gap stride len
   tree-ready ts list k a gap stride len ge se room = record {
     settings = s;
     root = t;
@@ -93,11 +94,13 @@ module _ (bs ts : List ℕ) (n : ℕ) where
     unfolding leafRecordOf leafPrintOf
     refuses-none h e = record { record-is = rw (i, h, e); print-is = λ o. rw (i, h, e) }
 
-    meets-leaf : tooLarge s t ≡ false → (tree list es : List ℕ) (x : ShowsLeaf tree list es s) → leafNumbered n (leaves s t) ≡ some (x .leaf) → Meets (inputOf bs ts) n tree list es s
+    meets-leaf : tooLarge s t ≡ false → (tree list es : List ℕ) (x : ShowsLeaf tree list es s) → leafNumbered n (leaves s t) ≡ some (x .leaf)
+        → Meets (inputOf bs ts) n tree list es s
     unfolding leafRecordOf leafPrintOf
     meets-leaf h tree list es x e = record { shows = x; record-is = rw (i, h, e); print-is = λ o. rw (i, h, e) }
 
-  pub seeks-none : (tree list l : List ℕ) (k : ℕ) (r : Sought) → r ≡ noSought k → (k ≡ 0 → ⊥) → Refuses (inputOf bs ts) n k → Seeks (inputOf bs ts) n tree r list l
+  pub seeks-none : (tree list l : List ℕ) (k : ℕ) (r : Sought) → r ≡ noSought k → (k ≡ 0 → ⊥) → Refuses (inputOf bs ts) n k
+      → Seeks (inputOf bs ts) n tree r list l
   seeks-none tree list l k r e z q = rw e (record { refuses = λ _. q; meets = λ d. absurd (z d); within = omega arith })
 
 -- ---- as the calls have it: m is what was measured, l the list
@@ -109,7 +112,8 @@ pub record Taken (bs ts : List ℕ) (m : Measured) (l : List ℕ) : Type 0 where
   pub listed : Allotted (m .settings) tree (natural (m .settings) tree) 0 l
   pub root : naturalAt l 0 ≡ natural (m .settings) tree
 
-pub taken : (bs ts : List ℕ) (m : Measured) (l₀ l : List ℕ) → m ≡ measuredOf (inputOf bs ts) → l ≡ sizeListOf (inputOf bs ts) l₀ → m .number ≡ 0 → length l ≡ 2048 → Taken bs ts m l
+pub taken : (bs ts : List ℕ) (m : Measured) (l₀ l : List ℕ) → m ≡ measuredOf (inputOf bs ts) → l ≡ sizeListOf (inputOf bs ts) l₀ → m .number ≡ 0
+    → length l ≡ 2048 → Taken bs ts m l
 taken bs ts m l₀ l e le h size =
     let a = accepts bs ts m l₀ l e le h in
     let size-is = size-list-length (inputOf bs ts) l₀ l le in
@@ -166,10 +170,18 @@ module _ {bs ts : List ℕ} {m : Measured} {list : List ℕ} {stride : ℕ} (k :
         unfolding lists
         fe₁ = rw (numbered-is n (leaves (m .settings) (k .took .tree))) at fe
 
-        begins-there : (e : ℕ) (p : Placed) → e ≤ length (take r l) → BeginsEntry (m .settings) stride ts list p (drop e (take r l)) → BeginsEntry (m .settings) stride ts list p (drop e l)
+        begins-there : (e : ℕ) (p : Placed) → e ≤ length (take r l) → BeginsEntry (m .settings) stride ts list p (drop e (take r l))
+            → BeginsEntry (m .settings) stride ts list p (drop e l)
         begins-there e p i b =
-            let d : drop e l ≡ drop e (take r l) ++ drop r l = ap (λ (z : List ℕ). drop e z) (sym (take-append-drop r l)) ∙ drop-append-le e (take r l) (drop r l) i in
-            record { at = b .at; rest = b .rest ++ drop r l; is = d ∙ rw (b .is, append-assoc (entryOf stride (b .at) p) (b .rest) (drop r l)); stands = b .stands }
+            let d : drop e l ≡ drop e (take r l) ++ drop r l = ap (λ (z : List ℕ). drop e z) (sym (take-append-drop r l))
+            ∙ drop-append-le e (take r l) (drop r l) i in
+            record {
+              at = b .at;
+              rest = b .rest ++ drop r l;
+              is = d
+                  ∙ rw (b .is, append-assoc (entryOf stride (b .at) p) (b .rest) (drop r l));
+              stands = b .stands;
+            }
 
         hit-case : (x : Option Placed) → leafNumbered n (leaves (m .settings) (k .took .tree)) ≡ x → FindsEntry (take r l) lists f x → f .hit ≡ true
             → (f .entry ≤ length l) × Meets (inputOf bs ts) n ts list (drop (f .entry) l) (m .settings)
@@ -188,7 +200,8 @@ module _ {bs ts : List ℕ} {m : Measured} {list : List ℕ} {stride : ℕ} (k :
                   }) e,
             )
 
-        miss-case : (x : Option Placed) → leafNumbered n (leaves (m .settings) (k .took .tree)) ≡ x → FindsEntry (take r l) lists f x → f .hit ≡ false → Refuses (inputOf bs ts) n 9
+        miss-case : (x : Option Placed) → leafNumbered n (leaves (m .settings) (k .took .tree)) ≡ x → FindsEntry (take r l) lists f x → f .hit ≡ false
+            → Refuses (inputOf bs ts) n 9
         miss-case none e y g = refuses-none bs ts n (m .settings) (k .took .tree) (k .took .input) (k .large) e
         miss-case (some p) e y g = let z : true ≡ false = sym (y .hit) ∙ g in let d : _≡_ {A = ℕ} 0 1 = cc in absurd (omega arith)
 

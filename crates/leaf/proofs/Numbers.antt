@@ -1,4 +1,4 @@
--- `record-nine`, `print-nine`: 9 is answered exactly where the number names no leaf. Assumes nothing.
+-- `record-nine`, `print-nine`: 9 is answered exactly where the number names no leaf.
 use mathlib.Core.Path.{_≡_, refl}
 use mathlib.Core.Logic.{_↔_}
 use Prim.Native.Nat.{ℕ}
@@ -48,7 +48,8 @@ module _ (s : Settings) (t : Tree) (n : ℕ) where
   found-case none e h y = node-found y e
   found-case (some f) e h y = omega arith
 
-  large-case : (b : Bool) → tooLarge s t ≡ b → pick b (noLeafRecord 6) (recordFound (leafNumbered n (leaves s t))) .number ≡ 9 → (tooLarge s t ≡ false) × (LeafNode t n → ⊥)
+  large-case : (b : Bool) → tooLarge s t ≡ b → pick b (noLeafRecord 6) (recordFound (leafNumbered n (leaves s t))) .number ≡ 9
+      → (tooLarge s t ≡ false) × (LeafNode t n → ⊥)
   large-case true e h = absurd (omega arith)
   large-case false e h = (e, found-case (leafNumbered n (leaves s t)) refl h)
 
@@ -76,7 +77,8 @@ module _ (s : Settings) (o : List ℕ) where
   printed-case true p e h = omega arith
   printed-case false p e h = omega arith
 
-  same-case : (b : Bool) (x : Option Placed) → (pick b (noPrint 6 o) (printFound s o x) .answer .number ≡ 9) ↔ (pick b (noLeafRecord 6) (recordFound x) .number ≡ 9)
+  same-case : (b : Bool) (x : Option Placed)
+      → (pick b (noPrint 6 o) (printFound s o x) .answer .number ≡ 9) ↔ (pick b (noLeafRecord 6) (recordFound x) .number ≡ 9)
   same-case true x = (λ h. absurd (omega arith), λ h. absurd (omega arith))
   same-case false none = (λ h. h, λ h. h)
   same-case false (some f) = (λ h. absurd (printed-case (ltb (length o) (length (joinLines (block s (leafOf f))))) _ refl h), λ h. absurd (omega arith))

@@ -25,7 +25,8 @@ ghost use Rattle.frame.specs.Printer.{printTo};
 ghost use Rattle.leaf.specs.Answers.{noFlags, noLeafRecord, placedRecord, leafRecordOf, leafPrintOf};
 ghost use Rattle.leaf.specs.Contracts.{noSought, ShowsLeaf, Seeks};
 
-// A leaf's record: node, allotted size, both split lists as handed to the leaf, eight flags, the pair of the cut that its parent made for it; or a refusal with 0 or no elsewhere.
+// A leaf's record: node, allotted size, both split lists as handed to the leaf, eight flags, the pair of the cut that its parent made for it; or a refusal with
+// 0 or no elsewhere.
 pub struct LeafRecord {
     pub number: u8,
     pub node: usize,
@@ -161,11 +162,14 @@ pub fn leaf_record(settings: &[u8], tree: &[u8], node: usize) -> LeafRecord
     record_at(tree, &list, &leaves[i..], s)
 }
 
-// The block of the leaf whose entry is at the front of `leaf`, its lines joined by 0A, at the start of the output; or 8. It is painted over bytes of 0A, as the only
+// The block of the leaf whose entry is at the front of `leaf`, its lines joined by 0A, at the start of the output; or 8. It is painted over bytes of 0A, as the
+// only
 // leaf of a sheet would be: its first byte is the output's.
 fn print_block(tree: &[u8], list: &[u16], leaf: &mut [u16], s: Settings, out: &mut [u8]) -> Written
     requires { ⌜ ShowsLeaf (now tree) (now list) (now leaf) s ⌝ }
-    ensures { λ r. ⌜ ((q : ShowsLeaf (now (tree .entry)) (now (list .entry)) (now (leaf .entry)) s) → (r ≡ printTo (joinLines (blocks.block s (leafOf (q .leaf)))) (now (out .entry)) .answer) × (now (out .exit) ≡ printTo (joinLines (blocks.block s (leafOf (q .leaf)))) (now (out .entry)) .out)) ⌝ }
+    ensures { λ r. ⌜ ((q : ShowsLeaf (now (tree .entry)) (now (list .entry)) (now (leaf .entry)) s)
+        → (r ≡ printTo (joinLines (blocks.block s (leafOf (q .leaf)))) (now (out .entry)) .answer)
+        × (now (out .exit) ≡ printTo (joinLines (blocks.block s (leafOf (q .leaf)))) (now (out .entry)) .out)) ⌝ }
 {
     let e = entry_at(leaf);
     let end = FRONT + e.horizontal + e.vertical;

@@ -1,4 +1,4 @@
--- `export-numbers`: the number in the word of each C function is one of its list, and each of them is met. Assumes nothing.
+-- `export-numbers`: the number in the word of each C function is one of its list, and each of them is met.
 use mathlib.Core.Path.{_≡_, refl, sym, ap₂, _∙_}
 use Prim.Native.Nat.{ℕ, _<_, min}
 use native.Mathlib.Omega.{arith}
@@ -51,7 +51,8 @@ unfolding small oneOf
 among-small n [] s h = let z : _≡_ {A = ℕ} 0 1 = cc in absurd (omega arith)
 among-small n (k ∷ ns) s h = go (ltb k 256) (eqb k n) refl refl s h (λ u v. among-small n ns u v)
   where
-    go : (a b : Bool) → ltb k 256 ≡ a → eqb k n ≡ b → pick a (small ns) false ≡ true → pick b true (oneOf n ns) ≡ true → (small ns ≡ true → Among n ns → n < 256) → n < 256
+    go : (a b : Bool) → ltb k 256 ≡ a → eqb k n ≡ b → pick a (small ns) false ≡ true → pick b true (oneOf n ns) ≡ true
+        → (small ns ≡ true → Among n ns → n < 256) → n < 256
     go true true p q s h r = omega (arith, ltb-true k 256 p, eqb-true k n q)
     go true false p q s h r = r s h
     go false b p q s h r = let z : _≡_ {A = ℕ} 0 1 = cc in absurd (omega arith)
@@ -65,7 +66,10 @@ module _ {A : Type 0} {number : A → ℕ} {ns : List ℕ} (a : Answers number n
   same-answers : (word : A → ℕ) → ((x : A) → number x < 256 → numberIn (word x) ≡ number x) → Answers (λ x. numberIn (word x)) ns
   same-answers word e =
       let is : (x : A) → numberIn (word x) ≡ number x = λ x. e x (among-small (number x) ns s (a .only x)) in
-      record { only = λ x. rw (is x) (a .only x); met = record { inputs = a .met .inputs; each = same-map (λ x. numberIn (word x)) number is (a .met .inputs) ∙ a .met .each } }
+      record {
+        only = λ x. rw (is x) (a .only x);
+        met = record { inputs = a .met .inputs; each = same-map (λ x. numberIn (word x)) number is (a .met .inputs) ∙ a .met .each };
+      }
 
   packed-answers : (count : A → ℕ) → Answers (λ x. numberIn (packed (number x) (count x))) ns
   packed-answers count = same-answers (λ x. packed (number x) (count x)) (λ x h. number-back (number x) (count x) h)
@@ -81,7 +85,8 @@ unfolding within oneOf
 wider n [] ks w h = let z : _≡_ {A = ℕ} 0 1 = cc in absurd (omega arith)
 wider n (m ∷ ns) ks w h = go (oneOf m ks) (eqb m n) refl refl w h (λ u v. wider n ns ks u v)
   where
-    go : (a b : Bool) → oneOf m ks ≡ a → eqb m n ≡ b → pick a (within ns ks) false ≡ true → pick b true (oneOf n ns) ≡ true → (within ns ks ≡ true → Among n ns → Among n ks) → Among n ks
+    go : (a b : Bool) → oneOf m ks ≡ a → eqb m n ≡ b → pick a (within ns ks) false ≡ true → pick b true (oneOf n ns) ≡ true
+        → (within ns ks ≡ true → Among n ns → Among n ks) → Among n ks
     go true true p q w h r = let e : m ≡ n = eqb-true m n q in rw (← e) p
     go true false p q w h r = r w h
     go false b p q w h r = let z : _≡_ {A = ℕ} 0 1 = cc in absurd (omega arith)
@@ -95,12 +100,16 @@ module _ (ns : List ℕ) (s : small ns ≡ true) where
 
   offered-among : (count : ℕ) (numbers o : List ℕ) → Among 0 ns → Among 8 ns → Among (numberIn (offered count numbers o .word)) ns
   unfolding offered refusal written
-  offered-among count numbers o z e = number-of (λ (g : Gives). numberIn (g .word)) ns (ltb (length o) (length numbers)) (refusal 8 o) (written count numbers o) (word-among 8 0 e) (word-among 0 count z)
+  offered-among count numbers o z e =
+      number-of (λ (g : Gives). numberIn (g .word)) ns (ltb (length o) (length numbers)) (refusal 8 o) (written count numbers o) (word-among 8 0 e)
+      (word-among 0 count z)
 
   -- what is offered where the call's number is 0
-  given-among : (n count : ℕ) (numbers o : List ℕ) → Among 0 ns → Among 8 ns → Among n ns → Among (numberIn (pick (eqb n 0) (offered count numbers o) (refusal n o) .word)) ns
+  given-among : (n count : ℕ) (numbers o : List ℕ) → Among 0 ns → Among 8 ns → Among n ns
+      → Among (numberIn (pick (eqb n 0) (offered count numbers o) (refusal n o) .word)) ns
   unfolding refusal
-  given-among n count numbers o z e h = number-of (λ (g : Gives). numberIn (g .word)) ns (eqb n 0) (offered count numbers o) (refusal n o) (offered-among count numbers o z e) (word-among n 0 h)
+  given-among n count numbers o z e h =
+      number-of (λ (g : Gives). numberIn (g .word)) ns (eqb n 0) (offered count numbers o) (refusal n o) (offered-among count numbers o z e) (word-among n 0 h)
 
 read-among : (count : ℕ) (numbers : Settings → List ℕ) (p : Parsed) (o : List ℕ) → Among (numberIn (readGiven count numbers p o .word)) ofLegSettings
 unfolding readGiven refusal small oneOf
@@ -116,13 +125,15 @@ record-among : (bs ts : List ℕ) (n : ℕ) (o : List ℕ) → Among (numberIn (
 unfolding recordGiven small oneOf within
 record-among bs ts n o =
     let r = leafRecordOf (inputOf bs ts) n in
-    given-among ofLeaf refl (r .number) 1039 (recordNumbers r) o refl refl (wider (r .number) ofRecord ofLeaf refl (call-numbers .leaf-record .only (record { settings = bs; tree = ts; rest = n })))
+    given-among ofLeaf refl (r .number) 1039 (recordNumbers r) o refl refl (wider (r .number) ofRecord ofLeaf refl
+    (call-numbers .leaf-record .only (record { settings = bs; tree = ts; rest = n })))
 
 place-among : (bs ts : List ℕ) (l k : ℕ) (o : List ℕ) → Among (numberIn (placeGiven (leafPlaceOf (inputOf bs ts) l k) o .word)) ofLegPlace
 unfolding placeGiven small oneOf within
 place-among bs ts l k o =
     let r = leafPlaceOf (inputOf bs ts) l k in
-    given-among ofLegPlace refl (r .number) 3 (placeNumbers r) o refl refl (wider (r .number) ofPlace ofLegPlace refl (call-numbers .leaf-at .only (record { settings = bs; tree = ts; rest = (l, k) })))
+    given-among ofLegPlace refl (r .number) 3 (placeNumbers r) o refl refl (wider (r .number) ofPlace ofLegPlace refl
+    (call-numbers .leaf-at .only (record { settings = bs; tree = ts; rest = (l, k) })))
 
 -- ---- cuts
 
@@ -142,22 +153,28 @@ refused-among held n room needed = go (ltb 512 n) (ltb held n) (ltb room needed)
     go false false false p q r = simp (p, q, r)
 
 -- the number k of a refusal, or the word of 0
-unless-among : {T : Type 0} (word : T → ℕ) (k : ℕ) (refuse : ℕ → T) (x : T) → Among k ofLegCut → ((j : ℕ) → word (refuse j) ≡ packed j 0) → Among (numberIn (word x)) ofLegCut → Among (numberIn (word (unless k refuse x))) ofLegCut
+unless-among : {T : Type 0} (word : T → ℕ) (k : ℕ) (refuse : ℕ → T) (x : T) → Among k ofLegCut → ((j : ℕ) → word (refuse j) ≡ packed j 0)
+    → Among (numberIn (word x)) ofLegCut → Among (numberIn (word (unless k refuse x))) ofLegCut
 unfolding small oneOf
 unless-among word k refuse x h e g = number-of (λ y. numberIn (word y)) ofLegCut (eqb k 0) x (refuse k) g (rw (e k) (word-among ofLegCut refl k 0 h))
 
 splits3-among : (s : List ℕ) (n w : ℕ) (o : List ℕ) → Among (numberIn (splits3Given s n w o .word)) ofLegCut
 unfolding splits3Given refusal written oneOf
-splits3-among s n w o = unless-among (λ (g : Gives). g .word) (refusedBy (length s) n (length o) 1029) (λ k. refusal k o) _ (refused-among (length s) n (length o) 1029) (λ j. refl) refl
+splits3-among s n w o =
+    unless-among (λ (g : Gives). g .word) (refusedBy (length s) n (length o) 1029) (λ k. refusal k o) _ (refused-among (length s) n (length o) 1029)
+    (λ j. refl) refl
 
 lent-among : (s : List ℕ) (n w : ℕ) (o : List ℕ) → Among (numberIn (lentGiven s n w o .word)) ofLegCut
 unfolding lentGiven keptGiven refusalTwo writtenTwo oneOf
-lent-among s n w o = unless-among (λ (g : GivesTwo). g .word) (refusedBy (length s) n (length o) 517) (λ k. refusalTwo k s o) _ (refused-among (length s) n (length o) 517) (λ j. refl) refl
+lent-among s n w o =
+    unless-among (λ (g : GivesTwo). g .word) (refusedBy (length s) n (length o) 517) (λ k. refusalTwo k s o) _ (refused-among (length s) n (length o) 517)
+    (λ j. refl) refl
 
 splits-among : (s : List ℕ) (n w : ℕ) (o p : List ℕ) → Among (numberIn (splitsGiven s n w o p .word)) ofLegCut
 unfolding splitsGiven shortGiven refusalTwo writtenTwo oneOf
 splits-among s n w o p =
-    unless-among (λ (g : GivesTwo). g .word) (refusedBy (length s) n (min (length o) (length p)) 513) (λ k. refusalTwo k o p) _ (refused-among (length s) n (min (length o) (length p)) 513) (λ j. refl) refl
+    unless-among (λ (g : GivesTwo). g .word) (refusedBy (length s) n (min (length o) (length p)) 513) (λ k. refusalTwo k o p) _
+    (refused-among (length s) n (min (length o) (length p)) 513) (λ j. refl) refl
 
 -- ---- the planning word
 
@@ -183,7 +200,8 @@ export-numbers = record {
   leg-place = record { only = λ x. place-among (x .settings) (x .tree) (x .rest .0) (x .rest .1) (x .rest .2); met = leg-place-met };
   leg-places = packed-answers (call-numbers .find-places) refl (λ x. findsOf (inputIn x) (x .rest .0) (x .rest .1) .answer .count);
   leg-fold = packed-answers (call-numbers .fold-list) refl (λ x. foldOf (inputIn x) (x .rest .0) (x .rest .1) (x .rest .2) .answer .columns);
-  leg-plan = same-answers (call-numbers .plan-sheet) refl (λ x. endsWord (plannedOf (planInput (x .0) (x .1)))) (λ x. ends-number (plannedOf (planInput (x .0) (x .1))));
+  leg-plan = same-answers (call-numbers .plan-sheet) refl (λ x. endsWord (plannedOf (planInput (x .0) (x .1))))
+      (λ x. ends-number (plannedOf (planInput (x .0) (x .1))));
   leg-widen = packed-answers (call-numbers .nearest-cells) refl (λ x. nearestOf (inputIn x) (x .rest .0) (x .rest .1) .answer .count);
   leg-save-draft = packed-answers (call-numbers .save-draft) refl (λ x. 0);
   leg-forget-draft = packed-answers (call-numbers .forget-draft) refl (λ x. 0);

@@ -1,5 +1,6 @@
--- `call-numbers`: each call answers the numbers of its list and no other. `leaf-never-seven` and its like: 7, which document 01 has for a leaf of width 0, is answered by none (document 02, 8).
--- Assumes nothing.
+-- `call-numbers`: each call answers the numbers of its list and no other. `leaf-never-seven` and its like: 7, which document 01 has for a leaf of width 0, is
+-- answered by none (document 02, 8).
+--
 use mathlib.Core.Path.{_≡_, refl}
 use Prim.Native.Nat.{ℕ, zero, suc, _+_, _-_, _≤_}
 use native.Mathlib.Omega.{arith}
@@ -112,7 +113,8 @@ cut-number list w = number-of (λ (r : CutParts). r .number) ofCut (leb (list .c
 
 short-number : (list : SplitList) (w : ℕ) → Among (shortOf list w .number) ofCut
 unfolding shortOf oneOf
-short-number list w = number-of (λ (r : ShortParts). r .number) ofCut (leb (list .count) 512) (answeredShort (shortSplits (listOf list) w)) refusedShort refl refl
+short-number list w =
+    number-of (λ (r : ShortParts). r .number) ofCut (leb (list .count) 512) (answeredShort (shortSplits (listOf list) w)) refusedShort refl refl
 
 kept-number : (list : SplitList) (w : ℕ) → Among (inPlaceCut list w .answer .number) ofCut
 unfolding inPlaceCut
@@ -120,7 +122,8 @@ kept-number list w = cut-number list w
 
 share-number : (spare n : ℕ) (p : Priority) (i : ℕ) → Among (shareOf spare n p i .number) ofShare
 unfolding oneOf
-share-number spare n p i = number-of (λ (r : Shared). r .number) ofShare (ltb i n) (record { number = 0; part = share spare n p i }) (record { number = 11; part = 0 }) refl refl
+share-number spare n p i =
+    number-of (λ (r : Shared). r .number) ofShare (ltb i n) (record { number = 0; part = share spare n p i }) (record { number = 11; part = 0 }) refl refl
 
 -- ---- the calls on settings and tree: by what these are
 
@@ -129,7 +132,9 @@ abbrev printed : Prints → ℕ
 printed p = p .answer .number
 
 to-number : (ns bytes o : List ℕ) → Among 8 ns → Among 0 ns → Among (printTo bytes o .answer .number) ns
-to-number ns bytes o p q = number-of printed ns (ltb (length o) (length bytes)) (noPrint 8 o) (record { answer = record { number = 0; count = length bytes }; out = bytes ++ drop (length bytes) o }) p q
+to-number ns bytes o p q =
+    number-of printed ns (ltb (length o) (length bytes)) (noPrint 8 o)
+    (record { answer = record { number = 0; count = length bytes }; out = bytes ++ drop (length bytes) o }) p q
 
 module _ (bs ts : List ℕ) where
   collect-in : (l : List SizeRecord) (x : Input) → inputOf bs ts ≡ x → Among (collectOf x l .answer .number) ofSizes
@@ -148,7 +153,8 @@ module _ (bs ts : List ℕ) where
   unfolding leafRecordOf oneOf
   record-in n (refused k) e = input-among ofRecord refl refl refl refl refl bs ts k e
   record-in n (given s t) e =
-      number-of (λ (r : LeafRecord). r .number) ofRecord (tooLarge s t) (noLeafRecord 6) (recordFound (leafNumbered n (leaves s t))) refl (found-record (leafNumbered n (leaves s t)))
+      number-of (λ (r : LeafRecord). r .number) ofRecord (tooLarge s t) (noLeafRecord 6) (recordFound (leafNumbered n (leaves s t))) refl
+      (found-record (leafNumbered n (leaves s t)))
 
   found-print : (s : Settings) (o : List ℕ) (x : Option Placed) → Among (printFound s o x .answer .number) ofLeaf
   unfolding oneOf
@@ -183,7 +189,8 @@ module _ (bs ts : List ℕ) where
     place-among : (l k : ℕ) → Among (leafPlaceIn s t l k .number) ns
     unfolding leafPlaceIn
     place-among l k =
-        number-of (λ (r : LeafPlace). r .number) ns (eqb (faultOf s t l k) 0) (leafPlaceFound l k (ownerOf (areas s t) l k)) (noLeafPlace (faultOf s t l k)) (owned (ownerOf (areas s t) l k)) (fault-among l k)
+        number-of (λ (r : LeafPlace). r .number) ns (eqb (faultOf s t l k) 0) (leafPlaceFound l k (ownerOf (areas s t) l k)) (noLeafPlace (faultOf s t l k))
+        (owned (ownerOf (areas s t) l k)) (fault-among l k)
       where
         owned : (x : Option Area) → Among (leafPlaceFound l k x .number) ns
         owned none = z
@@ -192,7 +199,9 @@ module _ (bs ts : List ℕ) where
     first-among : (ps : List ℕ) → Among (firstFault s t ps) ns
     unfolding firstFault
     first-among [] = z
-    first-among (x ∷ ps) = number-of (λ (n : ℕ). n) ns (eqb (leafPlaceIn s t (lineOf x) (columnOf x) .number) 0) (firstFault s t ps) (leafPlaceIn s t (lineOf x) (columnOf x) .number) (first-among ps) (place-among (lineOf x) (columnOf x))
+    first-among (x ∷ ps) =
+        number-of (λ (n : ℕ). n) ns (eqb (leafPlaceIn s t (lineOf x) (columnOf x) .number) 0) (firstFault s t ps)
+        (leafPlaceIn s t (lineOf x) (columnOf x) .number) (first-among ps) (place-among (lineOf x) (columnOf x))
 
   place-in : (l k : ℕ) (x : Input) → inputOf bs ts ≡ x → Among (leafPlaceOf x l k .number) ofPlace
   unfolding leafPlaceOf oneOf
@@ -208,7 +217,9 @@ module _ (bs ts : List ℕ) where
       number-of g ofPlaces (tooLarge s t) (noFinds 6 fs) (findsIn s t ps fs) refl
       (number-of g ofPlaces (ltb 256 (length ps)) (noFinds 14 fs) (pick (eqb (firstFault s t ps) 0) (findsTo s t ps fs) (noFinds (firstFault s t ps) fs)) refl
       (number-of g ofPlaces (eqb (firstFault s t ps) 0) (findsTo s t ps fs) (noFinds (firstFault s t ps) fs)
-      (number-of g ofPlaces (ltb (length fs) (length ps)) (noFinds 8 fs) (record { answer = record { number = 0; count = length ps; steps = located s t .steps }; list = map (wordOf s t) ps ++ drop (length ps) fs }) refl refl)
+      (number-of g ofPlaces (ltb (length fs) (length ps)) (noFinds 8 fs)
+      (record { answer = record { number = 0; count = length ps; steps = located s t .steps }; list = map (wordOf s t) ps ++ drop (length ps) fs }) refl
+      refl)
       (first-among ofPlaces refl refl refl s t ps)))
 
   -- ---- folds, plans, letters
@@ -224,7 +235,10 @@ module _ (bs ts : List ℕ) where
       number-of g ofFold (list? t) (foldCells s w budget zs l) (noFolds 15 l)
       (number-of g ofFold (ltb w (greatest (map sizeWidth zs))) (noFolds 16 l) (finds s zs l f) refl
       (number-of g ofFold (ltb (length l) (length cs)) (noFolds 8 l)
-      (record { answer = record { number = 0; columns = length cs; height = f .best; tries = f .tries; miss = missed s zs f }; list = counts cs ++ drop (length cs) l }) refl refl))
+      (record {
+        answer = record { number = 0; columns = length cs; height = f .best; tries = f .tries; miss = missed s zs f };
+        list = counts cs ++ drop (length cs) l;
+      }) refl refl))
       refl
 
   nearest-in : (ns ls : List ℕ) (x : Input) → inputOf bs ts ≡ x → Among (nearestOf x ns ls .answer .number) ofSizes
@@ -233,8 +247,10 @@ module _ (bs ts : List ℕ) where
   nearest-in ns ls (given s t) e =
       let g : Nearests → ℕ = λ r. r .answer .number in
       let l = nearestList (treeNeeds s t) in
-      let all : Nearests = record { answer = record { number = 0; count = length l }; nodes = nodesOf l ++ drop (length l) ns; letters = lettersOf l ++ drop (length l) ls } in
-      number-of g ofSizes (ltb (length ns) (length l)) (noNearest 8 ns ls) (pick (ltb (length ls) (length l)) (noNearest 8 ns ls) all) refl (number-of g ofSizes (ltb (length ls) (length l)) (noNearest 8 ns ls) all refl refl)
+      let all : Nearests =
+      record { answer = record { number = 0; count = length l }; nodes = nodesOf l ++ drop (length l) ns; letters = lettersOf l ++ drop (length l) ls } in
+      number-of g ofSizes (ltb (length ns) (length l)) (noNearest 8 ns ls) (pick (ltb (length ls) (length l)) (noNearest 8 ns ls) all) refl
+      (number-of g ofSizes (ltb (length ls) (length l)) (noNearest 8 ns ls) all refl refl)
 
   plan-in : (p : Parsed) (x : PlanOne) → readPlan ts ≡ x → Among (plannedOf (planSettingsInput p x) .number) ofPlan
   unfolding oneOf
@@ -259,12 +275,14 @@ save-number o n tree = go (fieldsOf o)
     read : (fs : List (List ℕ)) (y : ReadOne) → readTree tree ≡ y → Among (saveTree o fs (tagFor n) tree y .number) ofSave
     read fs (ReadOne.refused k) e = tree-among ofSave refl refl refl refl tree k e
     read fs (ReadOne.one t z w) e =
-        number-of (λ (r : StoreAnswer). r .number) ofSave (ltb (length o) (length (fieldBytes (withoutTag (tagFor n) fs)) + (3 + length tree))) (record { number = 20; store = o })
+        number-of (λ (r : StoreAnswer). r .number) ofSave (ltb (length o) (length (fieldBytes (withoutTag (tagFor n) fs)) + (3 + length tree))) (record
+        { number = 20; store = o })
         (record { number = 0; store = storeOf (length o) (withoutTag (tagFor n) fs ++ (element (tagFor n) tree ∷ [])) }) refl refl
 
     go : (x : Option (List (List ℕ))) → Among (saveIn o x n tree .number) ofSave
     go none = refl
-    go (some fs) = number-of (λ (r : StoreAnswer). r .number) ofSave (isName n) (saveTree o fs (tagFor n) tree (readTree tree)) (record { number = 19; store = o }) (read fs (readTree tree) refl) refl
+    go (some fs) = number-of (λ (r : StoreAnswer). r .number) ofSave (isName n) (saveTree o fs (tagFor n) tree (readTree tree)) (record
+        { number = 19; store = o }) (read fs (readTree tree) refl) refl
 
 forget-number : (o : List ℕ) (n : ℕ) → Among (forgetOf o n .number) ofForget
 unfolding forgetOf oneOf
@@ -285,11 +303,13 @@ return-number o n out = go (fieldsOf o)
     found : (x : Option (List ℕ)) → Among (returnFound x out .answer .number) ofReturn
     found none = refl
     found (some tree) =
-        number-of (λ (r : DraftOut). r .answer .number) ofReturn (ltb (length out) (length tree)) (noReturn 8 out) (record { answer = record { number = 0; count = length tree }; out = tree ++ drop (length tree) out }) refl refl
+        number-of (λ (r : DraftOut). r .answer .number) ofReturn (ltb (length out) (length tree)) (noReturn 8 out) (record
+        { answer = record { number = 0; count = length tree }; out = tree ++ drop (length tree) out }) refl refl
 
     go : (x : Option (List (List ℕ))) → Among (returnIn x n out .answer .number) ofReturn
     go none = refl
-    go (some fs) = number-of (λ (r : DraftOut). r .answer .number) ofReturn (isName n) (returnFound (draftOf (tagFor n) fs) out) (noReturn 19 out) (found (draftOf (tagFor n) fs)) refl
+    go (some fs) = number-of (λ (r : DraftOut). r .answer .number) ofReturn (isName n) (returnFound (draftOf (tagFor n) fs) out) (noReturn 19 out) (found
+        (draftOf (tagFor n) fs)) refl
 
 -- ---- question papers
 
@@ -300,7 +320,8 @@ blank-in tree ns o (ReadOne.one t z n) e =
     let g : Blanks → ℕ = λ r. r .answer .number in
     let bytes = bytesOf (blanked (dotsFor ns) 0 t) in
     number-of g ofBlank (allCells (cellFlags t) ns) (blankTo bytes o) (noBlank 9 o)
-    (number-of g ofBlank (ltb (length o) (length bytes)) (noBlank 8 o) (record { answer = record { number = 0; count = length bytes }; out = bytes ++ drop (length bytes) o }) refl refl) refl
+    (number-of g ofBlank (ltb (length o) (length bytes)) (noBlank 8 o)
+    (record { answer = record { number = 0; count = length bytes }; out = bytes ++ drop (length bytes) o }) refl refl) refl
 
 blank-number : (tree ns o : List ℕ) → Among (blankOf tree ns o .answer .number) ofBlank
 unfolding blankOf
@@ -331,7 +352,8 @@ nine k low high = rw e (go (k - 31) (omega arith))
 typed-number : (text out : List ℕ) → Among (typedOf text out .answer .number) ofTyped
 unfolding oneOf
 typed-number text out =
-    typed-cases text out (λ x. Among (x .answer .number) ofTyped) refl (λ k l c e. let f = fault-at text k l c e in nine k (f .number-low) (f .number-high)) refl (λ ns e. refl)
+    typed-cases text out (λ x. Among (x .answer .number) ofTyped) refl (λ k l c e. let f = fault-at text k l c e in nine k (f .number-low) (f .number-high))
+    refl (λ ns e. refl)
 
 -- ---- all calls
 

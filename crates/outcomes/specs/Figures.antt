@@ -1,4 +1,5 @@
--- Inputs for each number of each call and each C function, computed on the definitions: these inputs are answered with the numbers of the list, one after the other.
+-- Inputs for each number of each call and each C function, computed on the definitions: these inputs are answered with the numbers of the list, one after the
+-- other.
 use mathlib.Core.Path.{_≡_, refl}
 use Prim.Native.Nat.{ℕ, zero, suc, _*_}
 use mathlib.Core.Bool.{Bool, true, false}
@@ -110,7 +111,8 @@ on s t r = record { settings = s; tree = t; rest = r }
 
 -- refused with 1 to 5; what this opens is enough to read every input below
 pub refusals : {R : Type 0} → R → List (Handed R)
-unfolding plainSettings edgedSettings emptyCell forbidden crowded deep tallCell columnOfOne badTrees inputOf readSettings readTree readElement headerOf isText nodes sep
+unfolding plainSettings edgedSettings emptyCell forbidden crowded deep tallCell columnOfOne badTrees inputOf readSettings readTree readElement headerOf isText
+    nodes sep
 refusals r = on [] [] r ∷ map (λ (t : List ℕ). on plainSettings t r) badTrees
 
 abbrev noSizes : SizeRecord
@@ -126,15 +128,28 @@ record-met = record { inputs = on plainSettings emptyCell 0 ∷ (refusals 0 ++ (
 
 pub leaf-met : Met leafNumber ofLeaf
 unfolding refusals leafPrintOf
-leaf-met = record { inputs = on plainSettings emptyCell (0, replicate 8 0) ∷ (refusals (0, []) ++ (on plainSettings tallCell (0, []) ∷ on plainSettings emptyCell (1, []) ∷ on plainSettings emptyCell (0, []) ∷ [])); each = refl }
+leaf-met = record {
+  inputs =
+      on plainSettings emptyCell (0, replicate 8 0)
+      ∷ (refusals (0, []) ++ (on plainSettings tallCell (0, []) ∷ on plainSettings emptyCell (1, []) ∷ on plainSettings emptyCell (0, []) ∷ []));
+  each = refl;
+}
 
 pub sheet-met : Met sheetNumber ofSheet
 unfolding refusals sheetOf
-sheet-met = record { inputs = on plainSettings emptyCell (replicate 8 0) ∷ (refusals [] ++ (on plainSettings tallCell [] ∷ on plainSettings emptyCell [] ∷ [])); each = refl }
+sheet-met = record {
+  inputs = on plainSettings emptyCell (replicate 8 0) ∷ (refusals [] ++ (on plainSettings tallCell [] ∷ on plainSettings emptyCell [] ∷ []));
+  each = refl;
+}
 
 pub place-met : Met placeNumber ofPlace
 unfolding refusals leafPlaceOf
-place-met = record { inputs = on plainSettings emptyCell (0, 0) ∷ (refusals (0, 0) ++ (on plainSettings tallCell (0, 0) ∷ on plainSettings emptyCell (3, 0) ∷ on edgedSettings emptyCell (0, 0) ∷ [])); each = refl }
+place-met = record {
+  inputs =
+      on plainSettings emptyCell (0, 0)
+      ∷ (refusals (0, 0) ++ (on plainSettings tallCell (0, 0) ∷ on plainSettings emptyCell (3, 0) ∷ on edgedSettings emptyCell (0, 0) ∷ []));
+  each = refl;
+}
 
 -- line 0, column 0; 257 of it; line 0, column 2; on the margin
 pub places-met : Met placesNumber ofPlaces
@@ -154,7 +169,12 @@ places-met = record {
 
 pub fold-met : Met foldNumber ofFold
 unfolding refusals foldOf list? cells? count fold.listedTrees foldCells naturals greatest columns folded
-fold-met = record { inputs = on plainSettings columnOfOne (1, 0, 0 ∷ []) ∷ (refusals (0, 0, []) ++ (on plainSettings emptyCell (0, 0, []) ∷ on plainSettings columnOfOne (0, 0, []) ∷ on plainSettings columnOfOne (1, 0, []) ∷ [])); each = refl }
+fold-met = record {
+  inputs =
+      on plainSettings columnOfOne (1, 0, 0 ∷ [])
+      ∷ (refusals (0, 0, []) ++ (on plainSettings emptyCell (0, 0, []) ∷ on plainSettings columnOfOne (0, 0, []) ∷ on plainSettings columnOfOne (1, 0, []) ∷ []));
+  each = refl;
+}
 
 pub nearest-met : Met nearestNumber ofSizes
 unfolding refusals nearestOf nearestList nearestFrom treeNeeds needs ofNumber greatest
@@ -162,7 +182,10 @@ nearest-met = record { inputs = on plainSettings emptyCell (0 ∷ [], 0 ∷ []) 
 
 pub plan-met : Met planNumber ofPlan
 unfolding refusals noRange planInput wholeIn elementIn headerIn
-plan-met = record { inputs = (plainSettings, emptyCell) ∷ ([], []) ∷ (map (λ (t : List ℕ). (plainSettings, t)) badTrees ++ ((plainSettings, noRange) ∷ [])); each = refl }
+plan-met = record {
+  inputs = (plainSettings, emptyCell) ∷ ([], []) ∷ (map (λ (t : List ℕ). (plainSettings, t)) badTrees ++ ((plainSettings, noRange) ∷ []));
+  each = refl;
+}
 
 -- ---- cuts and shares
 
@@ -194,7 +217,11 @@ storeOfOne = 32 ∷ 0 ∷ 3 ∷ emptyCell
 
 pub save-met : Met saveNumber ofSave
 unfolding refusals saveOf
-save-met = record { inputs = (replicate 6 0, 65, emptyCell) ∷ (1 ∷ [], 65, emptyCell) ∷ ([], 64, emptyCell) ∷ (map (λ (t : List ℕ). ([], 65, t)) badTrees ++ (([], 65, emptyCell) ∷ [])); each = refl }
+save-met = record {
+  inputs =
+      (replicate 6 0, 65, emptyCell) ∷ (1 ∷ [], 65, emptyCell) ∷ ([], 64, emptyCell) ∷ (map (λ (t : List ℕ). ([], 65, t)) badTrees ++ (([], 65, emptyCell) ∷ []));
+  each = refl;
+}
 
 pub forget-met : Met forgetNumber ofForget
 unfolding storeOfOne forgetOf
@@ -206,7 +233,11 @@ return-met = record { inputs = (storeOfOne, 65, replicate 3 0) ∷ (1 ∷ [], 65
 
 pub blank-met : Met blankNumber ofBlank
 unfolding refusals blankOf
-blank-met = record { inputs = (emptyCell, [], replicate 3 0) ∷ (map (λ (t : List ℕ). (t, [], [])) badTrees ++ ((emptyCell, 1 ∷ [], []) ∷ (emptyCell, [], []) ∷ [])); each = refl }
+blank-met = record {
+  inputs =
+      (emptyCell, [], replicate 3 0) ∷ (map (λ (t : List ℕ). (t, [], [])) badTrees ++ ((emptyCell, 1 ∷ [], []) ∷ (emptyCell, [], []) ∷ []));
+  each = refl;
+}
 
 -- ---- the settings, trees and the store above are bytes
 
@@ -239,14 +270,18 @@ leg-sizes-met = record { inputs = on plainSettings emptyCell (replicate 5 0) ∷
 pub leg-record-met : Met legRecord ofLeaf
 unfolding refusals leafRecordOf recordGiven
 leg-record-met = record {
-  inputs = on plainSettings emptyCell (0, replicate 1039 0) ∷ (refusals (0, []) ++ (on plainSettings tallCell (0, []) ∷ on plainSettings emptyCell (1, []) ∷ on plainSettings emptyCell (0, []) ∷ []));
+  inputs = on plainSettings emptyCell (0, replicate 1039 0)
+      ∷ (refusals (0, []) ++ (on plainSettings tallCell (0, []) ∷ on plainSettings emptyCell (1, []) ∷ on plainSettings emptyCell (0, []) ∷ []));
   each = refl;
 }
 
 pub leg-place-met : Met legPlace ofLegPlace
 unfolding refusals leafPlaceOf placeGiven
 leg-place-met = record {
-  inputs = on plainSettings emptyCell (0, 0, replicate 3 0) ∷ (refusals (0, 0, []) ++ (on plainSettings tallCell (0, 0, []) ∷ on plainSettings emptyCell (3, 0, []) ∷ on edgedSettings emptyCell (0, 0, []) ∷ on plainSettings emptyCell (0, 0, []) ∷ []));
+  inputs = on plainSettings emptyCell (0, 0, replicate 3 0)
+      ∷ (refusals (0, 0, [])
+      ++ (on plainSettings tallCell (0, 0, []) ∷ on plainSettings emptyCell (3, 0, []) ∷ on edgedSettings emptyCell (0, 0, [])
+      ∷ on plainSettings emptyCell (0, 0, []) ∷ []));
   each = refl;
 }
 
@@ -260,7 +295,11 @@ leg-lent-met = record { inputs = ([], 0, 0, replicate 517 0) ∷ ([], 0, 0, []) 
 
 pub leg-splits-met : Met legSplits ofLegCut
 unfolding splitsGiven refusedBy shortGiven refusalTwo writtenTwo
-leg-splits-met = record { inputs = ([], 0, 0, replicate 513 0, replicate 513 0) ∷ ([], 0, 0, [], []) ∷ (replicate 513 0, 513, 0, replicate 513 0, replicate 513 0) ∷ []; each = refl }
+leg-splits-met = record {
+  inputs =
+      ([], 0, 0, replicate 513 0, replicate 513 0) ∷ ([], 0, 0, [], []) ∷ (replicate 513 0, 513, 0, replicate 513 0, replicate 513 0) ∷ [];
+  each = refl;
+}
 
 pub leg-share-met : Met legShare ofShare
 leg-share-met = record { inputs = (0, 1, 0, 0) ∷ (0, 0, 0, 0) ∷ []; each = refl }

@@ -1,4 +1,5 @@
--- The numbers that each call answers (the tables of documents 01 and 02; README's table of calls), and each C function in its word (include/leg_sheet.h): one of a list, whatever it is
+-- The numbers that each call answers (the tables of documents 01 and 02; docs/CALLS.md), and each C function in its word (include/leg_sheet.h): one of a list,
+-- whatever it is
 -- handed, and each number of the list for some input.
 use mathlib.Core.Path.{_≡_}
 use Prim.Native.Nat.{ℕ}

@@ -1,1 +1,2 @@
-// The numbers that each call and each C function answers: specs/Promises.antt, proofs/Numbers.antt, proofs/Exported.antt; inputs for each: specs/Figures.antt. This crate has no code.
+// The numbers that each call and each C function answers: specs/Promises.antt, proofs/Numbers.antt, proofs/Exported.antt; inputs for each: specs/Figures.antt.
+// This crate has no code.

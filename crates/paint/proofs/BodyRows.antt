@@ -1,4 +1,4 @@
--- How a text lies in its allotted size, and the room of each part of the body. Assumes nothing.
+-- How a text lies in its allotted size, and the room of each part of the body.
 use mathlib.Core.Path.{_≡_, refl}
 use Prim.Native.Nat.{ℕ, _+_, _-_, _*_, _≤_}
 use native.Mathlib.Omega.{arith}
@@ -49,7 +49,8 @@ body-fits s t n z k is fits e = rw (e, is) (plan-planned s t z (rw is at fits))
 
 -- ---- the room of the parts
 
-module _ (s : Settings) (t : List ℕ) (z : Size) (k : BodyRows) (h : BodyFits s t z k) (at stride len : ℕ) (room : Room at stride (z .height) (z .width) len) where
+module _ (s : Settings) (t : List ℕ) (z : Size) (k : BodyRows) (h : BodyFits s t z k) (at stride len : ℕ)
+    (room : Room at stride (z .height) (z .width) len) where
   whole : Room at stride (k .above + s .top + (textHeight t + (s .bottom + k .below))) (z .width) len
   whole = rw (h .tall) at room
 
@@ -62,6 +63,3 @@ module _ (s : Settings) (t : List ℕ) (z : Size) (k : BodyRows) (h : BodyFits s
 
     pub text-room : {len′ : ℕ} → len′ ≡ len → Room p stride (textHeight t) (s .left + k .inner + s .right) len′
     text-room l = rw (h .wide, l) (room-first _ _ rest)
-
-    pub below-room : (q : ℕ) → q ≡ p + textHeight t * stride → {len′ : ℕ} → len′ ≡ len → Room q stride (s .bottom + k .below) (z .width) len′
-    below-room q eq l = room-then (textHeight t) _ rest eq l

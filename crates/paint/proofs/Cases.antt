@@ -1,4 +1,4 @@
--- A leaf's block with lines and without: the painter's two cases. Assumes nothing.
+-- A leaf's block with lines and without: the painter's two cases.
 use mathlib.Core.Path.{_≡_, refl, ap, _∙_}
 use Prim.Native.Nat.{ℕ, zero, suc, _+_}
 use native.Mathlib.Omega.{arith}

@@ -1,4 +1,4 @@
--- The marks of a leaf: with its corners in the altered copy, the parts that the painter writes are the block's. Assumes nothing.
+-- The marks of a leaf: with its corners in the altered copy, the parts that the painter writes are the block's.
 use mathlib.Core.Path.{_≡_, _∙_}
 use mathlib.Core.Logic.{_≢_}
 use Prim.Native.Nat.{ℕ}
@@ -19,7 +19,8 @@ module _ (m : List ℕ) (long : length m ≡ 15) (a b d : ℕ) where
   corners = set (set (set m 6 a) 7 b) 9 d
 
   corner-6 : getD corners 6 0 ≡ a
-  corner-6 = getD-set-other (set (set m 6 a) 7 b) 9 6 d 0 (λ e. omega arith) ∙ getD-set-other (set m 6 a) 7 6 b 0 (λ e. omega arith) ∙ getD-set-same m 6 a 0 (omega arith)
+  corner-6 = getD-set-other (set (set m 6 a) 7 b) 9 6 d 0 (λ e. omega arith) ∙ getD-set-other (set m 6 a) 7 6 b 0 (λ e. omega arith)
+      ∙ getD-set-same m 6 a 0 (omega arith)
 
   corner-7 : getD corners 7 0 ≡ b
   corner-7 = getD-set-other (set (set m 6 a) 7 b) 9 7 d 0 (λ e. omega arith) ∙ getD-set-same (set m 6 a) 7 b 0 (rw length-set (omega arith))

@@ -1,4 +1,4 @@
--- Crossings: the named places of a row or a column become another mark. Assumes nothing.
+-- Crossings: the named places of a row or a column become another mark.
 use mathlib.Core.Path.{_≡_, refl, sym, ap, _∙_}
 use Prim.Native.Nat.{ℕ, zero, suc, _+_, _*_, _≤_, _<_}
 use native.Mathlib.Nat.{add-zero}
@@ -49,7 +49,8 @@ module _ (l : List ℕ) (at step n b : ℕ) (o : List ℕ) (pos i : ℕ) where
     next k = rw (drop-cons l i 0 h, ← is, lt-ltb (pos + p) n k, add-one)
 
     pub cross-in : pos + p < n → pos + p + i < n
-        → crossed o at step n (namedFrom n pos i (drop i l)) b ≡ crossed (set o (at + (pos + p + i) * step) b) at step n (namedFrom n (pos + p) (i + 1) (drop (i + 1) l)) b
+        → crossed o at step n (namedFrom n pos i (drop i l)) b
+        ≡ crossed (set o (at + (pos + p + i) * step) b) at step n (namedFrom n (pos + p) (i + 1) (drop (i + 1) l)) b
     cross-in k j = rw (next k) (crossed-in o at step n b (pos + p + i) _ j)
 
     pub cross-out : pos + p < n → n ≤ pos + p + i
@@ -97,12 +98,14 @@ crossed-ruled ks n b c =
     let l = length-crossed ks (replicate n c) n b ∙ length-replicate n c in
     ext-getD 0 (crossed (replicate n c) 0 1 n ks b) (ruled ks b c 0 n) (l ∙ sym (length-ruled ks b c 0 n))
     (λ i h. let j : i < n = omega (arith, l) in
-    getD-crossed ks (replicate n c) n b i (length-replicate n c) j ∙ rw (getD-replicate n i c 0 j) (let z : 0 + i ≡ i = omega arith in rw z at (sym (getD-ruled ks b c 0 n i j))))
+    getD-crossed ks (replicate n c) n b i (length-replicate n c) j ∙ rw (getD-replicate n i c 0 j) (let z : 0 + i ≡ i = omega arith in
+    rw z at (sym (getD-ruled ks b c 0 n i j))))
 
 -- ---- in a column
 
 -- a store at line k of a column
-set-column : (l o : List ℕ) (at step k b : ℕ) → 0 < step → k < length l → set (pasted o at step (column 1 l)) (at + k * step) b ≡ pasted o at step (column 1 (set l k b))
+set-column : (l o : List ℕ) (at step k b : ℕ) → 0 < step → k < length l
+    → set (pasted o at step (column 1 l)) (at + k * step) b ≡ pasted o at step (column 1 (set l k b))
 unfolding pasted column
 set-column [] o at step k b s h = absurd (omega arith)
 set-column (x ∷ l) o at step zero b s h =
@@ -112,7 +115,8 @@ set-column (x ∷ l) o at step (suc k) b s h =
     let e : at + suc k * step ≡ at + step + k * step = omega arith in
     rw e (set-column l (set o at x) (at + step) step k b s (omega arith))
 
-crossed-column : (ks l o : List ℕ) (at step n b : ℕ) → 0 < step → length l ≡ n → crossed (pasted o at step (column 1 l)) at step n ks b ≡ pasted o at step (column 1 (crossed l 0 1 n ks b))
+crossed-column : (ks l o : List ℕ) (at step n b : ℕ) → 0 < step → length l ≡ n
+    → crossed (pasted o at step (column 1 l)) at step n ks b ≡ pasted o at step (column 1 (crossed l 0 1 n ks b))
 unfolding crossed
 crossed-column [] l o at step n b s h = refl
 crossed-column (k ∷ ks) l o at step n b s h = either n k
@@ -127,12 +131,15 @@ column-replicate zero c = refl
 column-replicate (suc n) c = ap (λ (x : List (List ℕ)). (c ∷ []) ∷ x) (column-replicate n c)
 
 -- n equal marks, one under another, and then crossed
-stack-crossed : (ks o : List ℕ) (at step n b c : ℕ) → 0 < step → crossed (pasted o at step (replicate n (c ∷ []))) at step n ks b ≡ pasted o at step (column 1 (ruled ks b c 0 n))
-stack-crossed ks o at step n b c h = rw (← (column-replicate n c), crossed-column ks (replicate n c) o at step n b h (length-replicate n c), crossed-ruled ks n b c)
+stack-crossed : (ks o : List ℕ) (at step n b c : ℕ) → 0 < step
+    → crossed (pasted o at step (replicate n (c ∷ []))) at step n ks b ≡ pasted o at step (column 1 (ruled ks b c 0 n))
+stack-crossed ks o at step n b c h =
+    rw (← (column-replicate n c), crossed-column ks (replicate n c) o at step n b h (length-replicate n c), crossed-ruled ks n b c)
 
 -- the same with w spaces behind each
 pub marks-crossed : (ks o : List ℕ) (at step n w b c : ℕ) → 1 + w ≤ step
-    → crossed (pasted o at step (replicate n (c ∷ replicate w 32))) at step n ks b ≡ pasted (pasted o at step (column 1 (ruled ks b c 0 n))) (at + 1) step (spaceLines n w)
+    → crossed (pasted o at step (replicate n (c ∷ replicate w 32))) at step n ks b
+    ≡ pasted (pasted o at step (column 1 (ruled ks b c 0 n))) (at + 1) step (spaceLines n w)
 marks-crossed ks o at step n w b c h =
     let x : List (List ℕ) = replicate n (c ∷ []) in
     let y : List (List ℕ) = spaceLines n w in
@@ -151,7 +158,8 @@ pasted-row [] o at = refl
 pasted-row (b ∷ l) o at = ap (λ (k : ℕ). pasted (set o at b) k 1 (column 1 l)) (add-one at) ∙ pasted-row l (set o at b) (suc at)
 
 -- n equal marks between a corner and what stands after them, and then crossed
-pub row-crossed : (ks y o : List ℕ) (at n b c corner : ℕ) → crossed (sets o at (corner ∷ (replicate n c ++ y))) (at + 1) 1 n ks b ≡ sets o at (corner ∷ (ruled ks b c 0 n ++ y))
+pub row-crossed : (ks y o : List ℕ) (at n b c corner : ℕ)
+    → crossed (sets o at (corner ∷ (replicate n c ++ y))) (at + 1) 1 n ks b ≡ sets o at (corner ∷ (ruled ks b c 0 n ++ y))
 row-crossed ks y o at n b c corner =
     let x : List ℕ = replicate n c in
     let r = ruled ks b c 0 n in
@@ -160,5 +168,12 @@ row-crossed ks y o at n b c corner =
     let f : length r ≡ n = length-ruled ks b c 0 n in
     let swap : (z : List ℕ) → length z ≡ n → sets o₁ (suc at) (z ++ y) ≡ sets (sets o₁ (suc at + n) y) (suc at) z =
     λ z h. sets-append z y o₁ (suc at) ∙ rw h (sym (sets-sets z y o₁ (suc at) (suc at + n) (omega arith))) in
-    rw (swap x e, swap r f, add-one at, ← (pasted-row x (sets o₁ (suc at + n) y) (suc at)), crossed-column ks x (sets o₁ (suc at + n) y) (suc at) 1 n b (omega arith) e, crossed-ruled ks n b c)
+    rw (
+      swap x e,
+      swap r f,
+      add-one at,
+      ← (pasted-row x (sets o₁ (suc at + n) y) (suc at)),
+      crossed-column ks x (sets o₁ (suc at + n) y) (suc at) 1 n b (omega arith) e,
+      crossed-ruled ks n b c,
+    )
     (pasted-row r (sets o₁ (suc at + n) y) (suc at))

@@ -1,4 +1,4 @@
--- Lines joined by 0A: their length, their places, and that they are the lines laid over bytes of 0A. Assumes nothing.
+-- Lines joined by 0A: their length, their places, and that they are the lines laid over bytes of 0A.
 use mathlib.Core.Path.{_≡_, refl, sym, _∙_}
 use Prim.Native.Nat.{ℕ, zero, suc, _+_, _*_, _≤_, _<_}
 use native.Mathlib.Omega.{arith}
@@ -46,7 +46,8 @@ feeds-at (l ∷ m ∷ x) {w = w} d (suc i) j p q =
 over : (pre a r l : List ℕ) → length a ≡ length l → sets (pre ++ (a ++ r)) (length pre) l ≡ pre ++ (l ++ r)
 over pre a r l e =
     sets-eq l (pre ++ (a ++ r)) (length pre) (simp length-append (omega arith))
-    ∙ rw (take-at pre (a ++ r) (length pre) refl, ← e, ← (append-assoc pre a r), drop-at (pre ++ a) r (length pre + length a) (length-append pre a)) (append-assoc pre l r)
+    ∙ rw (take-at pre (a ++ r) (length pre) refl, ← e, ← (append-assoc pre a r), drop-at (pre ++ a) r (length pre + length a) (length-append pre a))
+    (append-assoc pre l r)
 
 pub feeds-over : (x : List (List ℕ)) (pre r : List ℕ) (w : ℕ) → Every (λ l. length l ≡ w) x
     → pasted (pre ++ (replicate (length (joinLines x)) 10 ++ r)) (length pre) (w + 1) x ≡ pre ++ (joinLines x ++ r)
@@ -59,13 +60,15 @@ feeds-over (l ∷ m ∷ x) pre r w e =
     let b : List ℕ = replicate n 10 in
     let q = pre ++ (l ++ (10 ∷ [])) in
     let y : length q ≡ length pre + (w + 1) = simp length-append (omega (arith, e .0)) in
-    let split : replicate (length (l ++ (10 ∷ joinLines (m ∷ x)))) 10 ≡ a ++ (10 ∷ b) = rw length-append (sym (replicate-append-replicate (length l) (suc n) 10)) in
+    let split : replicate (length (l ++ (10 ∷ joinLines (m ∷ x)))) 10 ≡ a ++ (10 ∷ b) =
+    rw length-append (sym (replicate-append-replicate (length l) (suc n) 10)) in
     let shift : (z : List ℕ) → pre ++ (l ++ (10 ∷ z)) ≡ q ++ z = λ z. simp append-assoc in
     rw (split, append-assoc a (10 ∷ b) r, over pre a (10 ∷ (b ++ r)) l (length-replicate (length l) 10), shift (b ++ r), ← y)
     (feeds-over (m ∷ x) q r w (e .1) ∙ simp append-assoc)
 
 -- lines laid over 0A, each one place after the one before: the lines joined by 0A, and what came after them
-pub pasted-feeds : (x : List (List ℕ)) (r : List ℕ) (w : ℕ) → Every (λ l. length l ≡ w) x → pasted (replicate (length (joinLines x)) 10 ++ r) 0 (w + 1) x ≡ joinLines x ++ r
+pub pasted-feeds : (x : List (List ℕ)) (r : List ℕ) (w : ℕ) → Every (λ l. length l ≡ w) x
+    → pasted (replicate (length (joinLines x)) 10 ++ r) 0 (w + 1) x ≡ joinLines x ++ r
 pasted-feeds x r w e = feeds-over x [] r w e
 
 -- the same where n bytes of 0A were written at the start

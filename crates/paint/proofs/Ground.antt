@@ -1,4 +1,4 @@
--- A body's spaces and padding, and the text over them. Assumes nothing.
+-- A body's spaces and padding, and the text over them.
 use mathlib.Core.Path.{_≡_, refl, sym, ap, _∙_}
 use Prim.Native.Nat.{ℕ, zero, suc, _+_, _-_, _*_, _≤_, _<_}
 use native.Mathlib.Omega.{arith}
@@ -35,31 +35,40 @@ sides-painted s inner n o o₁ o₂ o₃ at stride h e₁ e₂ e₃ =
     let m : List ℕ = replicate inner 32 in
     let r : List ℕ = replicate (s .right) (getD (s .fills) 1 0) in
     let p : at + s .left + inner ≡ at + (s .left + inner) = omega arith in
-    let both : o₂ ≡ pasted o at stride (replicate n (l ++ m)) = e₂ ∙ rw e₁ (pasted-beside o at stride (dims-replicate n (s .left) (getD (s .fills) 0 0)) (dims-replicate n inner 32) (omega arith) ∙ rw (paired-same n l m)) in
-    e₃ ∙ rw (both, p) (pasted-beside o at stride (dims-lines n (l ++ m) (s .left + inner) (simp (length-append, length-replicate))) (dims-replicate n (s .right) (getD (s .fills) 1 0)) h
+    let both : o₂ ≡ pasted o at stride (replicate n (l ++ m)) = e₂
+    ∙ rw e₁ (pasted-beside o at stride (dims-replicate n (s .left) (getD (s .fills) 0 0)) (dims-replicate n inner 32) (omega arith)
+    ∙ rw (paired-same n l m)) in
+    e₃ ∙ rw (both, p) (pasted-beside o at stride (dims-lines n (l ++ m) (s .left + inner) (simp (length-append, length-replicate))) (dims-replicate n (s .right)
+    (getD (s .fills) 1 0)) h
     ∙ rw (paired-same n (l ++ m) r, append-assoc l m r))
 
 -- where every padding is of spaces, all lines are
-ground-blank : (s : Settings) (k : BodyRows) (n w h : ℕ) → Blank (s .fills) → s .left + k .inner + s .right ≡ w → groundLines s k n ≡ h → replicate h (replicate w 32) ≡ ground s k n w
+ground-blank : (s : Settings) (k : BodyRows) (n w h : ℕ) → Blank (s .fills) → s .left + k .inner + s .right ≡ w → groundLines s k n ≡ h
+    → replicate h (replicate w 32) ≡ ground s k n w
 unfolding ground clear
 ground-blank s k n w h b wide tall =
     let c : _≡_ {A = List ℕ} (replicate (s .left) 32 ++ (replicate (k .inner) 32 ++ replicate (s .right) 32)) (replicate w 32)
-    = rw (replicate-append-replicate {A = ℕ} (k .inner) (s .right) 32, replicate-append-replicate {A = ℕ} (s .left) (k .inner + s .right) 32) (let e : s .left + (k .inner + s .right) ≡ w = omega arith in rw e) in
+    = rw (replicate-append-replicate {A = ℕ} (k .inner) (s .right) 32, replicate-append-replicate {A = ℕ} (s .left) (k .inner + s .right) 32)
+    (let e : s .left + (k .inner + s .right) ≡ w = omega arith in rw e) in
     rw (b .left-is, b .right-is, b .top-is, b .bottom-is, c, ← tall) (sym (simp replicate-append-replicate))
 
 ground-dims : (s : Settings) (k : BodyRows) (n w : ℕ) → s .left + k .inner + s .right ≡ w → Dims (ground s k n w) (groundLines s k n) w
 unfolding ground clear
 ground-dims s k n w e =
     dims-append (dims-append (dims-replicate (k .above) w 32) (dims-replicate (s .top) w _))
-    (dims-append (dims-lines n _ w (simp (length-append, length-replicate) (omega arith))) (dims-append (dims-replicate (s .bottom) w _) (dims-replicate (k .below) w 32)))
+    (dims-append (dims-lines n _ w (simp (length-append, length-replicate) (omega arith)))
+    (dims-append (dims-replicate (s .bottom) w _) (dims-replicate (k .below) w 32)))
 
 -- over spaces the ground is already there, or it is painted
-pub turned-blank : (s : Settings) (k : BodyRows) (n w h at stride : ℕ) (o : List ℕ) → Blank (s .fills) → s .left + k .inner + s .right ≡ w → groundLines s k n ≡ h → Turned (spaceLines h w) (ground s k n w) at stride o o
+pub turned-blank : (s : Settings) (k : BodyRows) (n w h at stride : ℕ) (o : List ℕ) → Blank (s .fills) → s .left + k .inner + s .right ≡ w
+    → groundLines s k n ≡ h → Turned (spaceLines h w) (ground s k n w) at stride o o
 turned-blank s k n w h at stride o blank wide tall = record { done = λ b e. e ∙ ap (pasted b at stride) (ground-blank s k n w h blank wide tall) }
 
-pub turned-padded : (s : Settings) (k : BodyRows) (n w h at stride : ℕ) (o o′ : List ℕ) → s .left + k .inner + s .right ≡ w → groundLines s k n ≡ h → w ≤ stride → o′ ≡ pasted o at stride (ground s k n w)
+pub turned-padded : (s : Settings) (k : BodyRows) (n w h at stride : ℕ) (o o′ : List ℕ) → s .left + k .inner + s .right ≡ w → groundLines s k n ≡ h → w ≤ stride
+    → o′ ≡ pasted o at stride (ground s k n w)
     → Turned (spaceLines h w) (ground s k n w) at stride o o′
-turned-padded s k n w h at stride o o′ wide tall apart p = record { done = λ b e. p ∙ rw e (pasted-over b at stride (dims-replicate h w 32) (rw tall at (ground-dims s k n w wide)) apart) }
+turned-padded s k n w h at stride o o′ wide tall apart p =
+    record { done = λ b e. p ∙ rw e (pasted-over b at stride (dims-replicate h w 32) (rw tall at (ground-dims s k n w wide)) apart) }
 
 -- ---- the lines of the text still to come, from a place on
 
@@ -91,7 +100,8 @@ pub record Still (g : List ℕ) (f : List ℕ → List ℕ) (ls rs : List (List 
   pub long : length o ≡ length o₀
   pub all : (e : List ℕ) → LaidOver g f rs p stride o e → LaidOver g f ls at stride o₀ e
 
-pub still-start : (g : List ℕ) (f : List ℕ → List ℕ) (ls : List (List ℕ)) (at stride w n : ℕ) (o : List ℕ) → length ls ≡ n → Room at stride n w (length o) → Still g f ls ls at at stride w o o
+pub still-start : (g : List ℕ) (f : List ℕ → List ℕ) (ls : List (List ℕ)) (at stride w n : ℕ) (o : List ℕ) → length ls ≡ n → Room at stride n w (length o)
+    → Still g f ls ls at at stride w o o
 still-start g f ls at stride w n o e r = record { room = rw e r; long = refl; all = λ e k. k }
 
 module _ {g : List ℕ} {f : List ℕ → List ℕ} {ls : List (List ℕ)} {at p stride w : ℕ} {o₀ o : List ℕ} where
@@ -106,8 +116,10 @@ module _ {g : List ℕ} {f : List ℕ → List ℕ} {ls : List (List ℕ)} {at p
     pub still-next : p + stride < 18446744073709551616
     still-next = room-next (k .room)
 
-    pub still-step : (q : ℕ) → q + length l ≤ p + stride → ((b : List ℕ) → sets (sets b p g) q l ≡ sets b p (f l)) → Still g f ls rs at (p + stride) stride w o₀ (sets o q l)
-    still-step q h own = record { room = room-tail (k .room); long = length-sets o q l ∙ k .long; all = λ e v. k .all e (over-step g f l rs p q stride o e h own v) }
+    pub still-step : (q : ℕ) → q + length l ≤ p + stride → ((b : List ℕ) → sets (sets b p g) q l ≡ sets b p (f l))
+        → Still g f ls rs at (p + stride) stride w o₀ (sets o q l)
+    still-step q h own =
+        record { room = room-tail (k .room); long = length-sets o q l ∙ k .long; all = λ e v. k .all e (over-step g f l rs p q stride o e h own v) }
 
 pub line-over : (s : Settings) (inner widest : ℕ) (l b : List ℕ) (at : ℕ) → indent s inner widest l + length l ≤ inner
     → sets (sets b at (clear s inner)) (at + (s .left + indent s inner widest l)) l ≡ sets b at (textLine s inner widest l)
@@ -118,10 +130,12 @@ line-over s inner widest l b at h =
     let x : List ℕ = replicate (s .left) (getD (s .fills) 0 0) in
     let y : List ℕ = replicate (s .right) (getD (s .fills) 1 0) in
     let c : _≡_ {A = List ℕ} (replicate inner 32) (replicate i 32 ++ (replicate (length l) 32 ++ replicate n 32))
-    = sym (rw (replicate-append-replicate {A = ℕ} (length l) n 32, replicate-append-replicate {A = ℕ} i (length l + n) 32) (let e : i + (length l + n) ≡ inner = omega arith in rw e)) in
+    = sym (rw (replicate-append-replicate {A = ℕ} (length l) n 32, replicate-append-replicate {A = ℕ} i (length l + n) 32)
+    (let e : i + (length l + n) ≡ inner = omega arith in rw e)) in
     rw (c, append-assoc (replicate i 32) (replicate (length l) 32 ++ replicate n 32) y, append-assoc (replicate (length l) 32) (replicate n 32) y)
     (rw (← append-assoc x (replicate i 32) (replicate (length l) 32 ++ (replicate n 32 ++ y)))
-    (sets-within (x ++ replicate i 32) (replicate (length l) 32) l (replicate n 32 ++ y) b at (at + (s .left + i)) (length-replicate (length l) 32) (simp (length-append, length-replicate))
+    (sets-within (x ++ replicate i 32) (replicate (length l) 32) l (replicate n 32 ++ y) b at (at + (s .left + i)) (length-replicate (length l) 32)
+    (simp (length-append, length-replicate))
     ∙ rw (append-assoc x (replicate i 32) (l ++ (replicate n 32 ++ y)))))
 
 pub body-over : (s : Settings) (t : List ℕ) (z : Size) (k : BodyRows) → BodyFits s t z k → (o o₁ o₂ : List ℕ) (at stride : ℕ)

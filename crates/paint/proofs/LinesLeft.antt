@@ -1,4 +1,4 @@
--- Lines laid one after another: what a loop that lays them keeps, and how parts follow each other. Assumes nothing.
+-- Lines laid one after another: what a loop that lays them keeps, and how parts follow each other.
 use mathlib.Core.Path.{_≡_, refl, ap, _∙_}
 use Prim.Native.Nat.{ℕ, suc, _+_, _-_, _*_, _≤_, _<_}
 use native.Mathlib.Omega.{arith}
@@ -18,7 +18,8 @@ pub record LinesLeft (all : List ℕ) (len end : ℕ) (o : List ℕ) (p stride w
   pub room : Room p stride (length y) w len
   pub long : length o ≡ len
 
-pub left-start : (o : List ℕ) (at stride n w : ℕ) (x : List (List ℕ)) → length x ≡ n → Room at stride n w (length o) → LinesLeft (pasted o at stride x) (length o) (at + n * stride) o at stride w x
+pub left-start : (o : List ℕ) (at stride n w : ℕ) (x : List (List ℕ)) → length x ≡ n → Room at stride n w (length o)
+    → LinesLeft (pasted o at stride x) (length o) (at + n * stride) o at stride w x
 left-start o at stride n w x e r = record { same = refl; end-is = rw e; room = rw e r; long = refl }
 
 module _ {all : List ℕ} {len end : ℕ} {o : List ℕ} {p stride w : ℕ} where
@@ -51,9 +52,11 @@ module _ {all : List ℕ} {len end : ℕ} {o : List ℕ} {p stride w : ℕ} (l :
 pub then-sets : (x y o o₁ o₂ : List ℕ) (at p n : ℕ) → length x ≡ n → Wrote p (at + n) o₁ (sets o at x) → o₂ ≡ sets o₁ p y → o₂ ≡ sets o at (x ++ y)
 then-sets x y o o₁ o₂ at p n h w e = e ∙ rw (sets-append x y o at, h, w .end-is, w .out-is)
 
-pub then-pasted : (x y : List (List ℕ)) (o o₁ o₂ : List ℕ) (at p stride n : ℕ) → length x ≡ n → Wrote p (at + n * stride) o₁ (pasted o at stride x) → o₂ ≡ pasted o₁ p stride y → o₂ ≡ pasted o at stride (x ++ y)
+pub then-pasted : (x y : List (List ℕ)) (o o₁ o₂ : List ℕ) (at p stride n : ℕ) → length x ≡ n → Wrote p (at + n * stride) o₁ (pasted o at stride x)
+    → o₂ ≡ pasted o₁ p stride y → o₂ ≡ pasted o at stride (x ++ y)
 then-pasted x y o o₁ o₂ at p stride n h w e = e ∙ rw (pasted-append x y o at stride, h, w .end-is, w .out-is)
 
-pub pasted-first : (l : List ℕ) (x : List (List ℕ)) (o o₁ : List ℕ) (at stride : ℕ) → o₁ ≡ sets o at l → pasted o₁ (at + stride) stride x ≡ pasted o at stride (l ∷ x)
+pub pasted-first : (l : List ℕ) (x : List (List ℕ)) (o o₁ : List ℕ) (at stride : ℕ) → o₁ ≡ sets o at l
+    → pasted o₁ (at + stride) stride x ≡ pasted o at stride (l ∷ x)
 unfolding pasted
 pasted-first l x o o₁ at stride e = ap (λ (k : List ℕ). pasted k (at + stride) stride x) e

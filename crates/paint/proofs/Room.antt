@@ -1,4 +1,4 @@
--- Room for lines: of one line, of the lines after it, of some of the columns. Assumes nothing.
+-- Room for lines: of one line, of the lines after it, of some of the columns.
 use mathlib.Core.Path.{_≡_}
 use Prim.Native.Nat.{ℕ, suc, _+_, _-_, _*_, _≤_, _<_}
 use native.Mathlib.Omega.{arith}
@@ -26,9 +26,6 @@ module _ {at stride w len : ℕ} (a m : ℕ) (r : Room at stride (a + m) w len) 
   room-then e l = record { fits = omega (arith, r .fits); small = omega (arith, r .small) }
 
 -- ---- v columns from column x on
-
-pub room-in : {at stride n w len : ℕ} → Room at stride n w len → (p v x : ℕ) → p ≡ at + x → x + v ≤ w → {len′ : ℕ} → len′ ≡ len → Room p stride n v len′
-room-in r p v x e h l = record { fits = omega (arith, r .fits); small = omega (arith, r .small) }
 
 -- ---- line k of n
 

@@ -49,7 +49,8 @@ fn rows_twice(
     c: u8,
 ) -> usize
     requires { ⌜ Room at stride (n + m) w (length (now out)) ⌝ }
-    ensures { λ r. ⌜ Wrote r (at + (n + m) * stride) (now (out .exit)) (pasted (now (out .entry)) at stride (replicate n (replicate w b) ++ replicate m (replicate w c))) ⌝ }
+    ensures { λ r. ⌜ Wrote r (at + (n + m) * stride) (now (out .exit))
+        (pasted (now (out .entry)) at stride (replicate n (replicate w b) ++ replicate m (replicate w c))) ⌝ }
 {
     let p = bytes::rows(out, at, stride, n, w, b);
     bytes::rows(out, p, stride, m, w, c)

@@ -113,7 +113,8 @@ pub fn print_left(
 ) -> usize
     requires { ⌜ (n < 65536) × (length (now pieces) ≤ 512) × (1 + w ≤ stride) ⌝ }
     requires { ⌜ Room at stride n (1 + w) (length (now out)) ⌝ }
-    ensures { λ r. ⌜ Wrote r (at + n * stride) (now (out .exit)) (pasted (pasted (now (out .entry)) at stride (leftOf b n (now (pieces .entry)))) (at + 1) stride (spaceLines n w)) ⌝ }
+    ensures { λ r. ⌜ Wrote r (at + n * stride) (now (out .exit))
+        (pasted (pasted (now (out .entry)) at stride (leftOf b n (now (pieces .entry)))) (at + 1) stride (spaceLines n w)) ⌝ }
 {
     let next = bytes::marked_rows(out, at, stride, n, w, b.marks[marks::LEFT]);
     bytes::cross(

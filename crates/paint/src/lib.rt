@@ -84,7 +84,9 @@ pub fn paint_block(
     vertical: &[u16],
 )
     requires { ⌜ Paintable s (now text) (x .natural) (x .size) (x .flags) (now horizontal) (now vertical) base stride (length (now out)) ⌝ }
-    ensures { λ _. ⌜ now (out .exit) ≡ pasted (now (out .entry)) base stride (block s (leafWith (now (text .entry)) (x .size) (x .flags) (now (horizontal .entry)) (now (vertical .entry)))) ⌝ }
+    ensures { λ _. ⌜ now (out .exit)
+        ≡ pasted (now (out .entry)) base stride
+        (block s (leafWith (now (text .entry)) (x .size) (x .flags) (now (horizontal .entry)) (now (vertical .entry)))) ⌝ }
 {
     let natural = x.natural;
     let size = x.size;

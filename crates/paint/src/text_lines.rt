@@ -77,7 +77,8 @@ pub fn text_lines(
     n: usize,
     text: &[u8],
 )
-    requires { ⌜ (length (now text) < 65536) × (n ≡ textHeight (now text)) × (widest ≡ textWidth (now text)) × (widest ≤ inner) × (s .left + inner + s .right ≤ stride) ⌝ }
+    requires { ⌜ (length (now text) < 65536) × (n ≡ textHeight (now text)) × (widest ≡ textWidth (now text)) × (widest ≤ inner)
+        × (s .left + inner + s .right ≤ stride) ⌝ }
     requires { ⌜ Room at stride (textHeight (now text)) (s .left + inner + s .right) (length (now out)) ⌝ }
     ensures { λ _. ⌜ LaidOver (clear s inner) (textLine s inner widest) (lines (now (text .entry))) at stride (now (out .entry)) (now (out .exit)) ⌝ }
 {

@@ -1,4 +1,4 @@
--- What the call answers, from the sizes that were measured and what the walk wrote. Assumes nothing.
+-- What the call answers, from the sizes that were measured and what the walk wrote.
 use mathlib.Core.Path.{_≡_, refl, sym, ap, _∙_}
 use Prim.Native.Nat.{ℕ, _+_, _*_, _/_, _%_, _<_}
 use native.Mathlib.Omega.{arith}
@@ -75,7 +75,8 @@ unfolding leafPlaceOf checkedOf
 place-no (refused n) l k m e h = rw e
 place-no (given s t) l k m e h = refusal-chosen (tooLarge s t) noLeafPlace (leafPlaceIn s t l k) (m .number) (ap (λ (y : Measured). y .number) e) h
 
-pub place-refused : (bs ts : List ℕ) (l k : ℕ) (m : Measured) → m ≡ checkedOf (inputOf bs ts) → (m .number ≡ 0 → ⊥) → leafPlaceOf (inputOf bs ts) l k ≡ noLeafPlace (m .number)
+pub place-refused : (bs ts : List ℕ) (l k : ℕ) (m : Measured) → m ≡ checkedOf (inputOf bs ts) → (m .number ≡ 0 → ⊥)
+    → leafPlaceOf (inputOf bs ts) l k ≡ noLeafPlace (m .number)
 place-refused bs ts l k m e h = place-no (inputOf bs ts) l k m e h
 
 unpack-fields : (n l k : ℕ) → l < 65536 → k < 65536 → unpacked (answerWord n l k) ≡ record { number = 0; node = n; line = l; column = k }
@@ -86,12 +87,14 @@ unpack-fields n l k a b =
     rw (x, y, z)
 
 pub unpack-same : (r : LeafPlace) → r .number ≡ 0 → r .line < 65536 → r .column < 65536 → unpacked (placeWord r) ≡ r
-unpack-same r e a b = unpack-fields (r .node) (r .line) (r .column) a b ∙ ap (λ (x : ℕ). record { number = x; node = r .node; line = r .line; column = r .column }) (sym e)
+unpack-same r e a b = unpack-fields (r .node) (r .line) (r .column) a b
+    ∙ ap (λ (x : ℕ). record { number = x; node = r .node; line = r .line; column = r .column }) (sym e)
 
 word-place : (l k : ℕ) → k < 4294967296 → (lineOf (l * 4294967296 + k) ≡ l) × (columnOf (l * 4294967296 + k) ≡ k)
 word-place l k h = (omega arith, omega arith)
 
-module _ {bs ts : List ℕ} {m : Measured} {sizes : List ℕ} (q : Checked bs ts m sizes) (z : Size) (ze : z ≡ naturalAt sizes 0) (f : Frame) (fe : f ≡ frameOf (m .settings) z) (l k n : ℕ)
+module _ {bs ts : List ℕ} {m : Measured} {sizes : List ℕ} (q : Checked bs ts m sizes) (z : Size) (ze : z ≡ naturalAt sizes 0) (f : Frame)
+    (fe : f ≡ frameOf (m .settings) z) (l k n : ℕ)
     (e : (s : Settings) (t : Tree) → Frames (m .settings .margin) f s t → n ≡ faultOf s t l k) where
   in-sheet : leafPlaceOf (inputOf bs ts) l k ≡ leafPlaceIn (s q) (t q) l k
   unfolding leafPlaceOf

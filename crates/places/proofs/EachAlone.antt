@@ -1,4 +1,4 @@
--- Request 6, "each exactly as if it had been put alone", about the numbers that `find_places` wrote. Assumes nothing.
+-- Request 6, "each exactly as if it had been put alone", about the numbers that `find_places` wrote.
 use mathlib.Core.Path.{_≡_, refl}
 use Prim.Native.Nat.{ℕ, zero, suc, _<_}
 use native.Mathlib.Omega.{arith}
@@ -34,5 +34,6 @@ module _ (bs ts : List ℕ) where
         count = k .count;
         alone = λ i l.
             let m : i < length ps = omega (arith, k .count) in
-            rw (k .list, mapped-at (aloneWord (inputOf bs ts)) ps (drop (length ps) fs) i m) (apart (getD ps i 0) (every-at (Alone (inputOf bs ts)) ps 0 i (k .each) m));
+            rw (k .list, mapped-at (aloneWord (inputOf bs ts)) ps (drop (length ps) fs) i m)
+            (apart (getD ps i 0) (every-at (Alone (inputOf bs ts)) ps 0 i (k .each) m));
       }

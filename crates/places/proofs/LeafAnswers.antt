@@ -1,4 +1,4 @@
--- What the walk writes at its leaves, place by place. Assumes nothing.
+-- What the walk writes at its leaves, place by place.
 use mathlib.Core.Path.{_≡_, refl, sym, _∙_}
 use Prim.Native.Nat.{ℕ, suc, _+_, _-_, _*_, _≤_, _<_}
 use native.Mathlib.Omega.{arith}
@@ -36,9 +36,11 @@ unfolding answersAt
 answer-more a ps fs i v h k e = rw (take-suc-set fs i v k, drop-set-lt (suc i) fs i v (omega arith), drop-cons ps i 0 h, drop-cons fs i 0 k, append-assoc, e)
 
 -- all places are looked at
-pub answers-end : (a : Area) (ps f₀ fs : List ℕ) (i : ℕ) → length ps ≤ i → length fs ≡ length ps → answersAt a ps f₀ ≡ take i fs ++ answersAt a (drop i ps) (drop i fs) → fs ≡ answersAt a ps f₀
+pub answers-end : (a : Area) (ps f₀ fs : List ℕ) (i : ℕ) → length ps ≤ i → length fs ≡ length ps
+    → answersAt a ps f₀ ≡ take i fs ++ answersAt a (drop i ps) (drop i fs) → fs ≡ answersAt a ps f₀
 unfolding answersAt
-answers-end a ps f₀ fs i h k e = sym (e ∙ rw (take-all i fs (omega arith), drop-of-length-le ps {i = i} h, drop-of-length-le fs {i = i} (omega arith), append-nil fs))
+answers-end a ps f₀ fs i h k e =
+    sym (e ∙ rw (take-all i fs (omega arith), drop-of-length-le ps {i = i} h, drop-of-length-le fs {i = i} (omega arith), append-nil fs))
 
 -- ---- at one leaf after the other
 
@@ -59,4 +61,5 @@ pick-low false n = omega arith
 
 pub area-small : (gap : ℕ) (z : Size) (node : ℕ) (p : Anchor) → node < 512 → gap ≤ 1 → SmallSize z → SmallArea (areaAt gap z node p)
 unfolding areaAt
-area-small gap z node p n h k = record { node = n; tall = omega (arith, k .tall, pick-low (p .«last_row») gap); wide = omega (arith, k .wide, pick-low (p .«last_col») gap) }
+area-small gap z node p n h k =
+    record { node = n; tall = omega (arith, k .tall, pick-low (p .«last_row») gap); wide = omega (arith, k .wide, pick-low (p .«last_col») gap) }

@@ -1,4 +1,4 @@
--- `place-twelve`, `place-thirteen`: when `leaf_at` answers 12 and 13. Nothing here opens `sep`. Assumes nothing.
+-- `place-twelve`, `place-thirteen`: when `leaf_at` answers 12 and 13. Nothing here opens `sep`.
 use mathlib.Core.Path.{_≡_, refl, sym, _∙_}
 use mathlib.Core.Logic.{_↔_, _⊎_, inl, inr}
 use Prim.Native.Nat.{ℕ, _+_, _≤_, _<_}
@@ -56,7 +56,8 @@ module _ (s : Settings) (t : Tree) (l k : ℕ) where
 
   -- ---- 13
 
-  beside-case : (a b c d : Bool) → ltb l (s .margin .top) ≡ a → ltb l (s .margin .top + insideH s t) ≡ b → ltb k (s .margin .left) ≡ c → ltb k (s .margin .left + insideW s t) ≡ d
+  beside-case : (a b c d : Bool) → ltb l (s .margin .top) ≡ a → ltb l (s .margin .top + insideH s t) ≡ b → ltb k (s .margin .left) ≡ c
+      → ltb k (s .margin .left + insideW s t) ≡ d
       → both (pick a false b) (pick c false d) ≡ false → Beside s t l k
   beside-case true b c d p q r w h = above (ltb-true _ _ p)
   beside-case false false c d p q r w h = under (ltb-false _ _ q)
@@ -64,12 +65,17 @@ module _ (s : Settings) (t : Tree) (l k : ℕ) where
   beside-case false true false false p q r w h = behind (ltb-false _ _ w)
   beside-case false true false true p q r w h = let z : _≡_ {A = ℕ} 0 1 = cc in absurd (omega arith)
 
-  margin-case : (a b c : Bool) → leb (H s t) l ≡ a → leb (W s t) k ≡ b → inside ≡ c → _≡_ {A = ℕ} (pick a 12 (pick b 12 (pick c 0 13))) 13 → (l < H s t) × (k < W s t) × Beside s t l k
+  margin-case : (a b c : Bool) → leb (H s t) l ≡ a → leb (W s t) k ≡ b → inside ≡ c → _≡_ {A = ℕ} (pick a 12 (pick b 12 (pick c 0 13))) 13
+      → (l < H s t) × (k < W s t) × Beside s t l k
   margin-case true b c p q r h = absurd (omega arith)
   margin-case false true c p q r h = absurd (omega arith)
   margin-case false false true p q r h = absurd (omega arith)
-  margin-case false false false p q r h =
-      (leb-false (H s t) l p, leb-false (W s t) k q, beside-case (ltb l (s .margin .top)) (ltb l (s .margin .top + insideH s t)) (ltb k (s .margin .left)) (ltb k (s .margin .left + insideW s t)) refl refl refl refl r)
+  margin-case false false false p q r h = (
+    leb-false (H s t) l p,
+    leb-false (W s t) k q,
+    beside-case (ltb l (s .margin .top)) (ltb l (s .margin .top + insideH s t)) (ltb k (s .margin .left))
+        (ltb k (s .margin .left + insideW s t)) refl refl refl refl r,
+  )
 
   first-no : (x : Bool) → both false x ≡ false
   first-no true = refl
@@ -91,7 +97,8 @@ module _ (s : Settings) (t : Tree) (l k : ℕ) where
 
   -- ---- of a sheet within the limits
 
-  large-case : (b : Bool) (n : ℕ) → tooLarge s t ≡ b → pick b (noLeafPlace 6) (leafPlaceIn s t l k) .number ≡ n → 6 < n → (tooLarge s t ≡ false) × (faultOf s t l k ≡ n)
+  large-case : (b : Bool) (n : ℕ) → tooLarge s t ≡ b → pick b (noLeafPlace 6) (leafPlaceIn s t l k) .number ≡ n → 6 < n
+      → (tooLarge s t ≡ false) × (faultOf s t l k ≡ n)
   large-case true n e h m = absurd (omega arith)
   large-case false n e h m = (e, sym place-number ∙ h)
 
@@ -102,7 +109,13 @@ module _ (bs ts : List ℕ) (l k : ℕ) where
   twelve-in (refused n) e h = absurd (omega (arith, input-refusal bs ts n e))
   twelve-in (given s t) e h =
       let y = large-case s t l k (tooLarge s t) 12 refl h (omega arith) in
-      record { settings = s; tree = t; input = e; within = y .0; outside = outside-case s t l k (leb (H s t) l) (leb (W s t) k) (inside s t l k) refl refl (y .1) }
+      record {
+        settings = s;
+        tree = t;
+        input = e;
+        within = y .0;
+        outside = outside-case s t l k (leb (H s t) l) (leb (W s t) k) (inside s t l k) refl refl (y .1);
+      }
 
   thirteen-in : (x : Input) → inputOf bs ts ≡ x → leafPlaceOf x l k .number ≡ 13 → InMargin bs ts l k
   unfolding leafPlaceOf faultOf
@@ -115,9 +128,15 @@ module _ (bs ts : List ℕ) (l k : ℕ) where
   -- "12 for a line or column outside the printed sheet"
   pub place-twelve : (leafPlaceOf (inputOf bs ts) l k .number ≡ 12) ↔ OutsideSheet bs ts l k
   unfolding leafPlaceOf
-  place-twelve = (twelve-in (inputOf bs ts) refl, λ y. rw (y .input, y .within) (place-number (y .settings) (y .tree) l k ∙ outside-fault (y .settings) (y .tree) l k (y .outside)))
+  place-twelve = (
+    twelve-in (inputOf bs ts) refl,
+    λ y. rw (y .input, y .within) (place-number (y .settings) (y .tree) l k ∙ outside-fault (y .settings) (y .tree) l k (y .outside)),
+  )
 
   -- "13 for a place in the margin"
   pub place-thirteen : (leafPlaceOf (inputOf bs ts) l k .number ≡ 13) ↔ InMargin bs ts l k
   unfolding leafPlaceOf
-  place-thirteen = (thirteen-in (inputOf bs ts) refl, λ y. rw (y .input, y .within) (place-number (y .settings) (y .tree) l k ∙ margin-fault (y .settings) (y .tree) l k (y .line) (y .column) (y .beside)))
+  place-thirteen = (
+    thirteen-in (inputOf bs ts) refl,
+    λ y. rw (y .input, y .within) (place-number (y .settings) (y .tree) l k ∙ margin-fault (y .settings) (y .tree) l k (y .line) (y .column) (y .beside)),
+  )

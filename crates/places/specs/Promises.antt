@@ -77,7 +77,8 @@ pub record BytesLeadBack (x : Input) (s : Settings) (t : Tree) (n : ℕ) (bytes 
   pub back : (i j : ℕ) → i < length (lines bytes) → j < length (getD (lines bytes) i [])
       → leafPlaceOf x (s .margin .top + (leaf .at .line + i)) (s .margin .left + (leaf .at .column + j)) ≡ record { number = 0; node = n; line = i; column = j }
 
--- an answered place is one of an accepted sheet: the answer's node is a leaf, its line and column are of that leaf's block, and stand at the place that was asked
+-- an answered place is one of an accepted sheet: the answer's node is a leaf, its line and column are of that leaf's block, and stand at the place that was
+-- asked
 pub record LeadsForward (x : Input) (l k : ℕ) (r : LeafPlace) : Type 0 where
   pub settings : Settings
   pub tree : Tree
@@ -92,7 +93,8 @@ aloneWord x p = placeWord (leafPlaceOf x (lineOf p) (columnOf p))
 abbrev pub Alone : Input → ℕ → Type 0
 Alone x p = leafPlaceOf x (lineOf p) (columnOf p) .number ≡ 0
 
--- in the order given, each exactly as if it had been put alone; so many answers are counted, entries past them stay, and the walk read as many elements as the tree has nodes
+-- in the order given, each exactly as if it had been put alone; so many answers are counted, entries past them stay, and the walk read as many elements as the
+-- tree has nodes
 pub record Together (x : Input) (ps fs : List ℕ) (r : Finds) : Type 0 where
   pub settings : Settings
   pub tree : Tree

@@ -1,4 +1,4 @@
--- `plan-bounds`: every choice of a planning tree has its size between the least and the greatest. Nothing here opens `sep`. Assumes nothing.
+-- `plan-bounds`: every choice of a planning tree has its size between the least and the greatest. Nothing here opens `sep`.
 use mathlib.Core.Path.{_≡_, refl, ap}
 use Prim.Native.Nat.{ℕ, suc, _≤_}
 use native.Mathlib.Omega.{arith}
@@ -89,7 +89,8 @@ group-case s x Plans.none (tree.more u us) k h = absurd k
 group-case s x (Plans.more p ps) tree.none k h = absurd k
 group-case s x (Plans.more p ps) (tree.more u us) k h = record { least = spanned-fits s x _ _ (h .least); greatest = spanned-fits s x _ _ (h .greatest) }
 
-axis-case : (s : Settings) (x y : Axis) (ps : Plans) (us : Trees) → x ≡ y → Between s (Plan.group x ps) (tree.group x us) → Between s (Plan.group x ps) (tree.group y us)
+axis-case : (s : Settings) (x y : Axis) (ps : Plans) (us : Trees) → x ≡ y → Between s (Plan.group x ps) (tree.group x us)
+    → Between s (Plan.group x ps) (tree.group y us)
 axis-case s x y ps us e h = rw (← e) h
 
 mutual

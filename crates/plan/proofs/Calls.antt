@@ -1,4 +1,4 @@
--- `planned`: what the planning call's answer 0 says; `planned-tree`: a tree of document 01 has both ends at its W and H. Nothing here opens `sep`. Assumes nothing.
+-- `planned`: what the planning call's answer 0 says; `planned-tree`: a tree of document 01 has both ends at its W and H. Nothing here opens `sep`.
 use mathlib.Core.Path.{_≡_, refl, sym, ap, _∙_}
 use Prim.Native.Nat.{ℕ}
 use native.Mathlib.Omega.{arith}
@@ -40,10 +40,12 @@ outer-height s t = refl
 
 module _ (s : Settings) (p : Plan) (k : Allowed true p) where
   reached-width : (m : Bool) → Reaches p (W s) (outer s (endSize s m p) .width)
-  reached-width m = let r = plan-reached s m p k in record { tree = r .tree; chooses = r .chooses; texts = r .texts; is = sym (outer-width s (r .tree)) ∙ ap (λ (z : Size). outer s z .width) (r .size) }
+  reached-width m = let r = plan-reached s m p k in
+      record { tree = r .tree; chooses = r .chooses; texts = r .texts; is = sym (outer-width s (r .tree)) ∙ ap (λ (z : Size). outer s z .width) (r .size) }
 
   reached-height : (m : Bool) → Reaches p (H s) (outer s (endSize s m p) .height)
-  reached-height m = let r = plan-reached s m p k in record { tree = r .tree; chooses = r .chooses; texts = r .texts; is = sym (outer-height s (r .tree)) ∙ ap (λ (z : Size). outer s z .height) (r .size) }
+  reached-height m = let r = plan-reached s m p k in
+      record { tree = r .tree; chooses = r .chooses; texts = r .texts; is = sym (outer-height s (r .tree)) ∙ ap (λ (z : Size). outer s z .height) (r .size) }
 
 between : (s : Settings) (p : Plan) (t : Tree) → Chooses p t → Between s (endsAnswered (outer s (endSize s false p)) (outer s (endSize s true p))) t
 between s p t c =
@@ -58,9 +60,11 @@ between s p t c =
     }
 
 module _ (bs ts : List ℕ) (o : Planned) where
-  case : (x : Parsed) (y : PlanOne) → readSettings bs ≡ x → readPlan ts ≡ y → planInput bs ts ≡ planSettingsInput x y → o ≡ plannedOf (planSettingsInput x y) → o .number ≡ 0 → PlanHolds bs ts o
+  case : (x : Parsed) (y : PlanOne) → readSettings bs ≡ x → readPlan ts ≡ y → planInput bs ts ≡ planSettingsInput x y → o ≡ plannedOf (planSettingsInput x y)
+      → o .number ≡ 0 → PlanHolds bs ts o
   case Parsed.refused y f g i e h = let z : o .number ≡ 1 = ap (λ (u : Planned). u .number) e in absurd (omega arith)
-  case (Parsed.read s) (PlanOne.refused k) f g i e h = let z : o .number ≡ k = ap (λ (u : Planned). u .number) e in absurd (omega (arith, refusal-low true k (plan-refusal true ts k g)))
+  case (Parsed.read s) (PlanOne.refused k) f g i e h = let z : o .number ≡ k = ap (λ (u : Planned). u .number) e in
+      absurd (omega (arith, refusal-low true k (plan-refusal true ts k g)))
   case (Parsed.read s) (PlanOne.one p size n) f g i e h =
       let t = plan-sound true ts p size n g in
       rw e (record {
@@ -104,13 +108,15 @@ mutual
 outer-planned : (s : Settings) (t : Tree) → endsAnswered (outer s (natural s t)) (outer s (natural s t)) ≡ treePlanned s t
 outer-planned s t = rw (outer-width s t, outer-height s t)
 
-plain-case : (s : Settings) (ts : List ℕ) (t : Tree) (size n : ℕ) → readTree ts ≡ ReadOne.one t size n → plannedOf (planTreeInput s (readPlan ts)) ≡ treePlanned s t
+plain-case : (s : Settings) (ts : List ℕ) (t : Tree) (size n : ℕ) → readTree ts ≡ ReadOne.one t size n
+    → plannedOf (planTreeInput s (readPlan ts)) ≡ treePlanned s t
 plain-case s ts t size n e =
     let r = read-as ts t size n e in
     let z : (m : Bool) → endSize s m (r .plan) ≡ natural s t = λ m. plain-size s m (r .plan) (r .leaves) ∙ ap (natural s) (r .tree-is) in
     rw (read-wider ts (r .plan) size n (r .is), z false, z true) (outer-planned s t)
 
-input-case : (bs ts : List ℕ) (s : Settings) (t : Tree) (x : Parsed) (y : ReadOne) → readSettings bs ≡ x → readTree ts ≡ y → sizes.settingsInput x y ≡ sizes.given s t → plannedOf (planSettingsInput x (readPlan ts)) ≡ treePlanned s t
+input-case : (bs ts : List ℕ) (s : Settings) (t : Tree) (x : Parsed) (y : ReadOne) → readSettings bs ≡ x → readTree ts ≡ y
+    → sizes.settingsInput x y ≡ sizes.given s t → plannedOf (planSettingsInput x (readPlan ts)) ≡ treePlanned s t
 input-case bs ts s t Parsed.refused y f g e = let z : _≡_ {A = ℕ} 0 1 = cc in absurd (omega arith)
 input-case bs ts s t (Parsed.read s₁) (ReadOne.refused k) f g e = let z : _≡_ {A = ℕ} 0 1 = cc in absurd (omega arith)
 input-case bs ts s t (Parsed.read s₁) (ReadOne.one t₁ size n) f g e =

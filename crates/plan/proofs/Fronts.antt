@@ -1,4 +1,4 @@
--- What the front of an accepted planning tree's bytes tells of it. Assumes nothing.
+-- What the front of an accepted planning tree's bytes tells of it.
 use mathlib.Core.Path.{_≡_, refl, sym, ap, _∙_}
 use mathlib.Core.List.{List, []}
 use Prim.Native.Nat.{ℕ, _+_, _-_, _≤_, _<_}
@@ -41,7 +41,8 @@ unfolding PlanEncodes endSize noPlans?
 empty-group S most x Plans.none s k e = rw e
 empty-group S most x (Plans.more p ps) s k e = absurd (omega (arith, plan-whole p s (k .0), ap length e))
 
-plan-leaf-is : (S : Settings) (most : Bool) (p : Plan) (s : List ℕ) → PlanEncodes p s → (getD s 0 0 ≡ 4 → ⊥) → (eqb (getD s 0 0) 1 ≡ true) ⊎ (eqb (lengthAt s) 0 ≡ true) → endSize S most p ≡ leafSize S (contents s)
+plan-leaf-is : (S : Settings) (most : Bool) (p : Plan) (s : List ℕ) → PlanEncodes p s → (getD s 0 0 ≡ 4 → ⊥)
+    → (eqb (getD s 0 0) 1 ≡ true) ⊎ (eqb (lengthAt s) 0 ≡ true) → endSize S most p ≡ leafSize S (contents s)
 unfolding PlanEncodes endSize
 plan-leaf-is S most (Plan.cell text) s k n h = rw (k .2)
 plan-leaf-is S most (Plan.range a b c d) s k n h = absurd (n (k .1))
@@ -61,7 +62,8 @@ pub record PlanGroupIs (p : Plan) (a : Bool) (r : List ℕ) : Type 0 where
   pub are : PlanEncodesAll plans r
   pub some : noPlans? plans ≡ false
 
-plan-group-is : (p : Plan) (s : List ℕ) → PlanEncodes p s → (getD s 0 0 ≡ 4 → ⊥) → eqb (getD s 0 0) 1 ≡ false → eqb (lengthAt s) 0 ≡ false → PlanGroupIs p (eqb (getD s 0 0) 2) (contents s)
+plan-group-is : (p : Plan) (s : List ℕ) → PlanEncodes p s → (getD s 0 0 ≡ 4 → ⊥) → eqb (getD s 0 0) 1 ≡ false → eqb (lengthAt s) 0 ≡ false
+    → PlanGroupIs p (eqb (getD s 0 0) 2) (contents s)
 unfolding PlanEncodes
 plan-group-is (Plan.cell text) s k n h z = absurd (eqb-false (getD s 0 0) 1 h (k .1))
 plan-group-is (Plan.range a b c d) s k n h z = absurd (n (k .1))
@@ -99,11 +101,13 @@ module _ (p : Plan) (s : List ℕ) (k : PlanEncodes p s) where
 
     module _ (n : getD s 0 0 ≡ 4 → ⊥) where
       pub leaf-at : (S : Settings) (most : Bool) → v .leaf ≡ true → endSize S most p ≡ leafSize S inside
-      leaf-at S most h = rw inside-is (plan-leaf-is S most p s k n (front-leaf (eqb (getD s 0 0) 1) (eqb (lengthAt s) 0) (eqb (getD s 0 0) 2) (3 + lengthAt s) (rw ve at h)))
+      leaf-at S most h = rw inside-is (plan-leaf-is S most p s k n
+          (front-leaf (eqb (getD s 0 0) 1) (eqb (lengthAt s) 0) (eqb (getD s 0 0) 2) (3 + lengthAt s) (rw ve at h)))
 
       pub group-at : v .leaf ≡ false → PlanGroupIs p (v .across) inside
       group-at h =
           let cases = front-group (eqb (getD s 0 0) 1) (eqb (lengthAt s) 0) (eqb (getD s 0 0) 2) (3 + lengthAt s) (rw ve at h) in
           let g = plan-group-is p s k n (cases .0) (cases .1) in
-          let e : p ≡ Plan.group (axisOf (v .across)) (g .plans) = g .is ∙ ap (λ (y : Bool). Plan.group (axisOf y) (g .plans)) (sym (ap (λ (y : Front). y .across) (ve ∙ cases .2))) in
+          let e : p ≡ Plan.group (axisOf (v .across)) (g .plans) = g .is
+          ∙ ap (λ (y : Bool). Plan.group (axisOf y) (g .plans)) (sym (ap (λ (y : Front). y .across) (ve ∙ cases .2))) in
           record { plans = g .plans; is = e; are = rw inside-is (g .are); some = g .some }

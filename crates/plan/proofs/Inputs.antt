@@ -1,4 +1,4 @@
--- What the readers' answers say of the planning input. Assumes nothing.
+-- What the readers' answers say of the planning input.
 use mathlib.Core.Path.{_≡_, refl, ap}
 use Prim.Native.Nat.{ℕ}
 use native.Mathlib.Omega.{arith}
@@ -23,7 +23,8 @@ use Rattle.plan.proofs.Large.{LowBytes, end-short}
 
 -- ---- the settings
 
-settings-no : (x : Parsed) (r : ReadSettings) → r ≡ settings.parsedAnswer x → (r .number ≡ 0 → ⊥) → (y : PlanOne) → planSettingsInput x y ≡ PlanInput.refused (r .number)
+settings-no : (x : Parsed) (r : ReadSettings) → r ≡ settings.parsedAnswer x → (r .number ≡ 0 → ⊥) → (y : PlanOne)
+    → planSettingsInput x y ≡ PlanInput.refused (r .number)
 settings-no Parsed.refused r e h y = rw (ap (λ (u : ReadSettings). u .number) e)
 settings-no (Parsed.read s) r e h y = absurd (h (ap (λ (u : ReadSettings). u .number) e))
 
@@ -40,7 +41,8 @@ record Accepted (b : List ℕ) : Type 0 where
   is : readPlan b ≡ PlanOne.one plan size count
 
 plan-yes : (b : List ℕ) (y : PlanOne) (t : ReadTree) → readPlan b ≡ y → t ≡ planAnswer y → t .number ≡ 0 → Accepted b
-plan-yes b (PlanOne.refused k) t f e h = let z : t .number ≡ k = ap (λ (u : ReadTree). u .number) e in absurd (omega (arith, refusal-low true k (plan-refusal true b k f)))
+plan-yes b (PlanOne.refused k) t f e h = let z : t .number ≡ k = ap (λ (u : ReadTree). u .number) e in
+    absurd (omega (arith, refusal-low true k (plan-refusal true b k f)))
 plan-yes b (PlanOne.one p size n) t f e h = record { plan = p; size = size; count = n; is = f }
 
 -- ---- both
@@ -72,6 +74,7 @@ module _ (l b : List ℕ) (r : ReadSettings) (e : r ≡ settings.settingsAnswer 
         short = end-short (r .settings) m (accepted .plan) b _ _ (settings-small l (r .settings) settings-are) low got;
       }
 
-      pub planned-is : (x y : Size) → x ≡ outer (r .settings) (endSize (r .settings) false (root-ready false .plan)) → y ≡ outer (r .settings) (endSize (r .settings) true (root-ready true .plan)) → endsAnswered x y ≡ plannedOf (planInput l b)
+      pub planned-is : (x y : Size) → x ≡ outer (r .settings) (endSize (r .settings) false (root-ready false .plan))
+          → y ≡ outer (r .settings) (endSize (r .settings) true (root-ready true .plan)) → endsAnswered x y ≡ plannedOf (planInput l b)
       unfolding root-ready planInput
       planned-is x y p q = rw (settings-are, accepted .is, p, q)

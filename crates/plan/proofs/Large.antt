@@ -1,4 +1,4 @@
--- How large the ends of a planning tree can be: 42 for each of its bytes. Assumes nothing.
+-- How large the ends of a planning tree can be: 42 for each of its bytes.
 use mathlib.Core.Path.{_≡_, ap, subst}
 use Prim.Native.Nat.{ℕ, zero, suc, _+_, _*_, _≤_, _<_}
 use native.Mathlib.Omega.{arith}
@@ -44,13 +44,15 @@ pick-low : (m : Bool) (a b : ℕ) → a < 256 → b < 256 → pick m b a < 256
 pick-low true a b h k = k
 pick-low false a b h k = h
 
-range-le : (s : Settings) (d : Axis) (m : Bool) (x y z w : ℕ) (r : List ℕ) → r ≡ x ∷ y ∷ z ∷ w ∷ [] → LowBytes r → along d (rangeSize s (pick m y x) (pick m w z)) + sep s ≤ each s d + 255
+range-le : (s : Settings) (d : Axis) (m : Bool) (x y z w : ℕ) (r : List ℕ) → r ≡ x ∷ y ∷ z ∷ w ∷ [] → LowBytes r
+    → along d (rangeSize s (pick m y x) (pick m w z)) + sep s ≤ each s d + 255
 unfolding along rangeSize each
 range-le s across m x y z w r e h = let l = subst LowBytes e h in omega (arith, pick-low m x y (l 0) (l 1))
 range-le s down m x y z w r e h = let l = subst LowBytes e h in omega (arith, pick-low m z w (l 2) (l 3))
 
 module _ (s : Settings) (m : Bool) (d : Axis) (h : each s d ≤ 34) where
-  group-le : (a : Axis) (ps : Plans) (n : ℕ) → total (map (along d) (endSizes s m ps)) + length (endSizes s m ps) * sep s ≤ 42 * n → along d (endSize s m (Plan.group a ps)) + sep s ≤ 42 * (3 + n)
+  group-le : (a : Axis) (ps : Plans) (n : ℕ) → total (map (along d) (endSizes s m ps)) + length (endSizes s m ps) * sep s ≤ 42 * n
+      → along d (endSize s m (Plan.group a ps)) + sep s ≤ 42 * (3 + n)
   unfolding endSize noPlans?
   group-le a Plans.none n i = omega (arith, leaf-le s d [])
   group-le a (Plans.more p ps) n i = omega (arith, span-le s d a (endSizes s m (Plans.more p ps)), sep-le s d)
@@ -63,7 +65,8 @@ module _ (s : Settings) (m : Bool) (d : Axis) (h : each s d ≤ 34) where
     end-le (Plan.range x y z w) b k l = omega (arith, range-le s d m x y z w (contents b) (k .2) (contents-low b l), contents-le b, ap length (k .2))
     end-le (Plan.group a ps) b k l = group-le a ps (lengthAt b) (omega (arith, contents-le b, ends-le ps (contents b) (k .2) (contents-low b l)))
 
-    ends-le : (ps : Plans) (b : List ℕ) → PlanEncodesAll ps b → LowBytes b → total (map (along d) (endSizes s m ps)) + length (endSizes s m ps) * sep s ≤ 42 * length b
+    ends-le : (ps : Plans) (b : List ℕ) → PlanEncodesAll ps b → LowBytes b
+        → total (map (along d) (endSizes s m ps)) + length (endSizes s m ps) * sep s ≤ 42 * length b
     ends-le Plans.none b k l = omega arith
     ends-le (Plans.more p ps) b k l =
         let n = 3 + lengthAt b in

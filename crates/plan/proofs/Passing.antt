@@ -1,4 +1,4 @@
--- Going through the plans of a group, one after the other. Assumes nothing.
+-- Going through the plans of a group, one after the other.
 use mathlib.Core.Path.{_≡_}
 use Prim.Native.Nat.{ℕ, _+_, _-_, _≤_, _<_}
 use native.Mathlib.Omega.{arith}

@@ -1,4 +1,4 @@
--- `plan-reached`: each end of a planning tree is the size of some choice. Assumes nothing.
+-- `plan-reached`: each end of a planning tree is the size of some choice.
 use mathlib.Core.Path.{_≡_, refl, ap, _∙_}
 use Prim.Native.Nat.{ℕ, zero, suc, _-_, _≤_}
 use native.Mathlib.Omega.{arith}
@@ -68,8 +68,20 @@ text-allowed w h = letters-text w (h - 1)
 -- ---- the choice at an end
 
 within-case : (most : Bool) (a b c d : ℕ) → GoodRange a b c d → WithinRange a b c d (textOf (pick most b a) (pick most d c))
-within-case true a b c d g = record { least-width = omega (arith, text-width b d, g .widths); greatest-width = omega (arith, text-width b d); least-lines = omega (arith, textOf-height b d (omega (arith, g .some, g .lines)), g .lines); greatest-lines = omega (arith, textOf-height b d (omega (arith, g .some, g .lines))) }
-within-case false a b c d g = record { least-width = omega (arith, text-width a c); greatest-width = omega (arith, text-width a c, g .widths); least-lines = omega (arith, textOf-height a c (g .some)); greatest-lines = omega (arith, textOf-height a c (g .some), g .lines) }
+within-case true a b c d g =
+    record {
+      least-width = omega (arith, text-width b d, g .widths);
+      greatest-width = omega (arith, text-width b d);
+      least-lines = omega (arith, textOf-height b d (omega (arith, g .some, g .lines)), g .lines);
+      greatest-lines = omega (arith, textOf-height b d (omega (arith, g .some, g .lines)));
+    }
+within-case false a b c d g =
+    record {
+      least-width = omega (arith, text-width a c);
+      greatest-width = omega (arith, text-width a c, g .widths);
+      least-lines = omega (arith, textOf-height a c (g .some));
+      greatest-lines = omega (arith, textOf-height a c (g .some), g .lines);
+    }
 
 lines-low : (most : Bool) (a b c d : ℕ) → GoodRange a b c d → 1 ≤ pick most d c
 lines-low true a b c d g = omega (arith, g .some, g .lines)
@@ -101,7 +113,12 @@ mutual
   plan-reached s most (Plan.range a b c d) k =
       let w = pick most b a in
       let h = pick most d c in
-      record { tree = tree.cell (textOf w h); chooses = within-case most a b c d (k .1); texts = text-allowed w h; size = range-size s w h (lines-low most a b c d (k .1)) }
+      record {
+        tree = tree.cell (textOf w h);
+        chooses = within-case most a b c d (k .1);
+        texts = text-allowed w h;
+        size = range-size s w h (lines-low most a b c d (k .1));
+      }
   plan-reached s most (Plan.group x ps) k =
       let r = ends-reached s most ps k in
       record { tree = tree.group x (r .trees); chooses = (refl, r .chooses); texts = r .texts; size = rw (r .empty, r .sizes) }
@@ -111,4 +128,10 @@ mutual
   ends-reached s most (Plans.more p ps) k =
       let r = plan-reached s most p (k .0) in
       let q = ends-reached s most ps (k .1) in
-      record { trees = tree.more (r .tree) (q .trees); chooses = (r .chooses, q .chooses); texts = (r .texts, q .texts); sizes = rw (r .size, q .sizes); empty = refl }
+      record {
+        trees = tree.more (r .tree) (q .trees);
+        chooses = (r .chooses, q .chooses);
+        texts = (r .texts, q .texts);
+        sizes = rw (r .size, q .sizes);
+        empty = refl;
+      }

@@ -1,4 +1,4 @@
--- The turns of the loop over a group's plans, and a plan by its front. Assumes nothing.
+-- The turns of the loop over a group's plans, and a plan by its front.
 use mathlib.Core.Path.{_≡_, sym, ap, _∙_}
 use Prim.Native.Nat.{ℕ, _+_, _-_, _*_, _≤_, _<_, max}
 use native.Mathlib.Omega.{arith}
@@ -50,7 +50,8 @@ sizes-few S m Plans.none s k = omega arith
 sizes-few S m (Plans.more p ps) s k = omega (arith, sizes-few S m ps (drop (3 + lengthAt s) s) (k .1), length-drop (3 + lengthAt s) s, plan-whole p s (k .0))
 
 group-size : (S : Settings) (m : Bool) (a : Axis) (ps : Plans) → noPlans? ps ≡ false
-    → endSize S m (Plan.group a ps) ≡ sized a (total (map (along a) (endSizes S m ps)) + (length (endSizes S m ps) - 1) * sep S) (greatest (map (beside a) (endSizes S m ps)))
+    → endSize S m (Plan.group a ps)
+    ≡ sized a (total (map (along a) (endSizes S m ps)) + (length (endSizes S m ps) - 1) * sep S) (greatest (map (beside a) (endSizes S m ps)))
 unfolding endSize spanned
 group-size S m a ps e = rw e
 
@@ -76,7 +77,8 @@ module _ (S : Settings) (m a : Bool) (s : List ℕ) (q : ReadyPlans S m a s) whe
     holds = rw e (record { passing = begin s all (q .are); along-is = omega arith; beside-is = omega arith; children = omega arith });
   }
 
-  short : (total (map (along A) (endSizes S m all)) + (length (endSizes S m all) - 1) * sep S < 2097152) × (greatest (map (beside A) (endSizes S m all)) < 2097152)
+  short : (total (map (along A) (endSizes S m all)) + (length (endSizes S m all) - 1) * sep S < 2097152)
+      × (greatest (map (beside A) (endSizes S m all)) < 2097152)
   short =
       let k = sides-short A (endSize S m (Plan.group A all)) (q .short) in
       let e = group-size S m A all (q .some) in
@@ -120,7 +122,8 @@ module _ (S : Settings) (m a : Bool) (s : List ℕ) (q : ReadyPlans S m a s) whe
 
   -- all plans are met
   module _ (at : ℕ) (g : Span) (l : Turn at g Plans.none) where
-    sums : (g .along ≡ total (map (along A) (endSizes S m all))) × (g .beside ≡ greatest (map (beside A) (endSizes S m all))) × (g .children ≡ length (endSizes S m all))
+    sums : (g .along ≡ total (map (along A) (endSizes S m all))) × (g .beside ≡ greatest (map (beside A) (endSizes S m all)))
+        × (g .children ≡ length (endSizes S m all))
     unfolding endSizes total greatest
     sums = (omega (arith, l .along-is), omega (arith, l .beside-is), omega (arith, l .children))
 

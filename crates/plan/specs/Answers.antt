@@ -30,7 +30,8 @@ noPlanned k = record { number = k; «least_width» = 0; «greatest_width» = 0; 
 
 -- the two ends as numbers
 abbrev pub endsAnswered : Size → Size → Planned
-endsAnswered least most = record { number = 0; «least_width» = least .width; «greatest_width» = most .width; «least_height» = least .height; «greatest_height» = most .height }
+endsAnswered least most =
+    record { number = 0; «least_width» = least .width; «greatest_width» = most .width; «least_height» = least .height; «greatest_height» = most .height }
 
 -- the answer for each input: no limit on W and H
 abbrev pub plannedOf : PlanInput → Planned

@@ -1,4 +1,4 @@
--- What stands behind the settings and the longest tree changes nothing. Assumes nothing.
+-- What stands behind the settings and the longest tree changes nothing.
 use mathlib.Core.Path.{_≡_, refl, ap}
 use Prim.Native.Nat.{ℕ, _≤_, _<_}
 use native.Mathlib.Omega.{arith}
@@ -31,10 +31,15 @@ end-front : (b : List ℕ) → settingsEnd (take 32811 b) ≡ settingsEnd b
 unfolding settingsEnd
 end-front b = rw (getD-take 32811 b 31 0 (omega arith))
 
-cut-front : (b : List ℕ) (e : ℕ) → e ≤ 42 → 32811 < length b → printedOf (inputOf (take e (take 32811 b)) (drop e (take 32811 b))) ≡ printedOf (inputOf (take e b) (drop e b))
+cut-front : (b : List ℕ) (e : ℕ) → e ≤ 42 → 32811 < length b
+    → printedOf (inputOf (take e (take 32811 b)) (drop e (take 32811 b))) ≡ printedOf (inputOf (take e b) (drop e b))
 unfolding inputOf
 cut-front b e small h =
-    rw (take-take e 32811 b (omega arith), too-long (drop e (take 32811 b)) (simp (length-drop, length-take) (omega arith)), too-long (drop e b) (simp length-drop (omega arith)))
+    rw (
+      take-take e 32811 b (omega arith),
+      too-long (drop e (take 32811 b)) (simp (length-drop, length-take) (omega arith)),
+      too-long (drop e b) (simp length-drop (omega arith)),
+    )
 
 front-case : (b : List ℕ) (x : Bool) → ltb 32811 (length b) ≡ x → programOf (take 32811 b) ≡ programOf b
 unfolding programOf

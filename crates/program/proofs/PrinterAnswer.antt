@@ -1,4 +1,4 @@
--- What the sheet printer's answer, in an output with room for every sheet, says of what the program prints. Assumes nothing.
+-- What the sheet printer's answer, in an output with room for every sheet, says of what the program prints.
 use mathlib.Core.Path.{_≡_, refl, sym, _∙_}
 use Prim.Native.Nat.{ℕ, _+_, _-_, _*_, _≤_, _<_, min}
 use native.Mathlib.Omega.{arith}
@@ -66,7 +66,8 @@ sheet-told s t o long large =
     let e : ltb (length o) (length (sheet s t)) ≡ false = le-ltb (length o) (length (sheet s t)) (omega arith) in
     rw e (record { no = λ z. absurd (z refl); yes = λ z. record { bytes = sheet s t; is = rw large; count = refl; room = fits; out = refl } })
 
-large-told : (s : Settings) (t : Tree) (o : List ℕ) → 64160 ≤ length o → (b : Bool) → tooLarge s t ≡ b → Tells (given s t) o (pick b (noPrint 6 o) (printTo (sheet s t) o))
+large-told : (s : Settings) (t : Tree) (o : List ℕ) → 64160 ≤ length o → (b : Bool) → tooLarge s t ≡ b
+    → Tells (given s t) o (pick b (noPrint 6 o) (printTo (sheet s t) o))
 unfolding printedOf
 large-told s t o long true e = refusal (given s t) 6 o (omega arith) (omega arith) (rw e)
 large-told s t o long false e = sheet-told s t o long e
@@ -76,15 +77,18 @@ unfolding sheetOf printedOf
 told-case bs ts o long (refused k) e = refusal (refused k) k o (input-refusal bs ts k e .0) (omega (arith, input-refusal bs ts k e)) refl
 told-case bs ts o long (given s t) e = large-told s t o long (tooLarge s t) refl
 
-pub program-prints : (input o settings tree : List ℕ) (w : Written) (o₁ : List ℕ) → 64160 ≤ length o → settings ≡ take (settingsEnd input) input → tree ≡ drop (settingsEnd input) input
+pub program-prints : (input o settings tree : List ℕ) (w : Written) (o₁ : List ℕ) → 64160 ≤ length o → settings ≡ take (settingsEnd input) input
+    → tree ≡ drop (settingsEnd input) input
     → w ≡ sheetOf (inputOf settings tree) o .answer → o₁ ≡ sheetOf (inputOf settings tree) o .out → ProgramPrints (programOf input) o w o₁
 unfolding programOf
 program-prints input o settings tree w o₁ long es et ew eo =
-    rw (ew, eo, es, et) (told-case (take (settingsEnd input) input) (drop (settingsEnd input) input) o long (inputOf (take (settingsEnd input) input) (drop (settingsEnd input) input)) refl)
+    rw (ew, eo, es, et) (told-case (take (settingsEnd input) input) (drop (settingsEnd input) input) o long (inputOf (take (settingsEnd input) input)
+    (drop (settingsEnd input) input)) refl)
 
 -- ---- a front of n elements, or all if there are fewer, and the rest
 
-parts-case : (n : ℕ) (l : List ℕ) (k : ℕ) → k ≡ min n (length l) → (b : Bool) → ltb (length l) n ≡ b → (take k l ≡ take n l) × (take (length l - k) (drop k l) ≡ drop n l)
+parts-case : (n : ℕ) (l : List ℕ) (k : ℕ) → k ≡ min n (length l) → (b : Bool) → ltb (length l) n ≡ b
+    → (take k l ≡ take n l) × (take (length l - k) (drop k l) ≡ drop n l)
 parts-case n l k e true h =
     let few : length l < n = ltb-true (length l) n h in
     let all : k ≡ length l = omega arith in (
@@ -114,6 +118,12 @@ module _ (text o : List ℕ) (w : Written) (o₁ : List ℕ) (long : 64160 ≡ l
   sheet-answered t =
       let room : w .count < length o₁ = rw (t .out) (simp (length-append, length-drop) (omega (arith, t .count, t .room))) in
       let front : take (w .count) o₁ ≡ t .bytes = rw (t .out) (take-at (t .bytes) (drop (w .count) o) (w .count) (t .count)) in
-      let back : drop (w .count + 1) o₁ ≡ drop (w .count + 1) o = rw (t .out, ← t .count, drop-append-add (t .bytes) (drop (length (t .bytes)) o) 1, drop-drop) in
-      let shown : take (w .count + 1) (set o₁ (w .count) 10) ≡ text = rw (add-one (w .count)) (take-suc-set o₁ (w .count) 10 room ∙ rw (front, t .is)) in
-      (shown, ((omega (arith, t .room), simp length-set (rw (t .out) (simp (length-append, length-drop) (omega (arith, t .count, t .room))))), drop-set-lt (w .count + 1) o₁ (w .count) 10 (omega arith) ∙ back))
+      let back : drop (w .count + 1) o₁ ≡ drop (w .count + 1) o =
+      rw (t .out, ← t .count, drop-append-add (t .bytes) (drop (length (t .bytes)) o) 1, drop-drop) in
+      let shown : take (w .count + 1) (set o₁ (w .count) 10) ≡ text = rw (add-one (w .count)) (take-suc-set o₁ (w .count) 10 room ∙ rw (front, t .is)) in (
+        shown,
+        (
+          (omega (arith, t .room), simp length-set (rw (t .out) (simp (length-append, length-drop) (omega (arith, t .count, t .room))))),
+          drop-set-lt (w .count + 1) o₁ (w .count) 10 (omega arith) ∙ back,
+        ),
+      )

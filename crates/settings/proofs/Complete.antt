@@ -1,4 +1,4 @@
--- Every settings within 01's ranges are read from their record: nothing else is refused. Assumes nothing.
+-- Every settings within 01's ranges are read from their record: nothing else is refused.
 use mathlib.Core.Path.{_≡_, refl, sym, ap, _∙_}
 use mathlib.Core.Bool.{Bool, true, false}
 use mathlib.Core.List.{List, [], _∷_, _++_, append-nil}
@@ -87,11 +87,13 @@ mode-read true = refl
 mode-read false = refl
 
 -- the first field, then what stands behind it
-read-front : (lines : Bool) (l f k : List ℕ) → take 31 l ≡ f → drop 31 l ≡ k → within (low lines) (high lines) f ≡ true → readForm lines l ≡ readBehind lines f k
+read-front : (lines : Bool) (l f k : List ℕ) → take 31 l ≡ f → drop 31 l ≡ k → within (low lines) (high lines) f ≡ true
+    → readForm lines l ≡ readBehind lines f k
 unfolding readForm
 read-front lines l f k e d h = rw (e, d, h)
 
-read-margin : (lines : Bool) (l : List ℕ) (b : ℕ) (k : List ℕ) → within marginLow marginHigh (b ∷ k) ≡ true → readBehind lines l (b ∷ k) ≡ read (settingsOf lines (marginOf (b ∷ k)) l)
+read-margin : (lines : Bool) (l : List ℕ) (b : ℕ) (k : List ℕ) → within marginLow marginHigh (b ∷ k) ≡ true
+    → readBehind lines l (b ∷ k) ≡ read (settingsOf lines (marginOf (b ∷ k)) l)
 unfolding readBehind
 read-margin lines l b k h = rw h
 
@@ -118,7 +120,8 @@ number n xs ys e i =
 
 module _ (s : Settings) (r : Ranges s) where
   choices : List ℕ
-  choices = alignmentNumber (s .horizontal) ∷ alignmentNumber (s .vertical) ∷ pick (s .«line_mode») 1 0 ∷ priorityNumber (s .«width_priority») ∷ priorityNumber (s .«height_priority») ∷ []
+  choices = alignmentNumber (s .horizontal) ∷ alignmentNumber (s .vertical) ∷ pick (s .«line_mode») 1 0 ∷ priorityNumber (s .«width_priority»)
+      ∷ priorityNumber (s .«height_priority») ∷ []
 
   paddings : List ℕ
   unfolding choices
@@ -186,14 +189,16 @@ module _ (s : Settings) (r : Ranges s) where
   first-mark : (k : List ℕ) → (pick (s .lines) 32 0 ≤ getD (settingsBytes s ++ k) 3 0) × (getD (settingsBytes s ++ k) 3 0 ≤ pick (s .lines) 126 0)
   unfolding paddings
   first-mark k =
-      let e : getD (settingsBytes s ++ k) 3 0 ≡ getD (s .marks) 0 0 = List·getD-append (settingsBytes s) k 0 3 (omega (arith, record-long)) ∙ List·getD-append (s .marks) paddings 0 0 (omega (arith, r .marks .many)) in
+      let e : getD (settingsBytes s ++ k) 3 0 ≡ getD (s .marks) 0 0 = List·getD-append (settingsBytes s) k 0 3 (omega (arith, record-long))
+      ∙ List·getD-append (s .marks) paddings 0 0 (omega (arith, r .marks .many)) in
       rw e (r .marks .each 0 (omega arith))
 
   -- with the margin's field
   pub settings-read : readSettings (settingsBytes s ++ marginBytes (s .margin)) ≡ read s
   settings-read =
       read-either (s .lines) _ (first-mark (marginBytes (s .margin)))
-      ∙ read-front (s .lines) _ (settingsBytes s) (marginBytes (s .margin)) (front-is (marginBytes (s .margin))) (behind-is (marginBytes (s .margin))) (record-within s r)
+      ∙ read-front (s .lines) _ (settingsBytes s) (marginBytes (s .margin)) (front-is (marginBytes (s .margin))) (behind-is (marginBytes (s .margin)))
+      (record-within s r)
       ∙ read-margin (s .lines) (settingsBytes s) 17 _ margin-within
       ∙ ap read (ap (λ (m : Margin). settingsOf (s .lines) m (settingsBytes s)) margin-is ∙ fields-read)
 
@@ -201,6 +206,7 @@ module _ (s : Settings) (r : Ranges s) where
   pub plain-read : s .margin ≡ noMargin → readSettings (settingsBytes s) ≡ read s
   plain-read e =
       read-either (s .lines) (settingsBytes s) (rw (append-nil (settingsBytes s)) at (first-mark []))
-      ∙ read-front (s .lines) _ (settingsBytes s) [] (take-all 31 (settingsBytes s) (omega (arith, record-long))) (drop-of-length-le (settingsBytes s) {i = 31} (omega (arith, record-long))) (record-within s r)
+      ∙ read-front (s .lines) _ (settingsBytes s) [] (take-all 31 (settingsBytes s) (omega (arith, record-long))) (drop-of-length-le (settingsBytes s) {i = 31}
+      (omega (arith, record-long))) (record-within s r)
       ∙ read-none (s .lines) (settingsBytes s)
       ∙ ap read (ap (λ (m : Margin). settingsOf (s .lines) m (settingsBytes s)) (sym e) ∙ fields-read)

@@ -1,4 +1,4 @@
--- Settings that were read are within 01's ranges. Assumes nothing.
+-- Settings that were read are within 01's ranges.
 use mathlib.Core.Path.{_≡_, refl, sym, _∙_, ap}
 use mathlib.Core.Bool.{Bool, true, false}
 use mathlib.Core.List.{List, [], _∷_, _++_}
@@ -21,7 +21,8 @@ bound-at l k n x rest e i h =
 
 module _ (ls hs l : List ℕ) (e : within ls hs l ≡ true) where
   -- the n bytes from k on, which all have the same bounds
-  bounded : (k n x y : ℕ) (lr hr : List ℕ) → drop k ls ≡ replicate n x ++ lr → drop k hs ≡ replicate n y ++ hr → k + n ≤ length ls → Bounded n x y (take n (drop k l))
+  bounded : (k n x y : ℕ) (lr hr : List ℕ) → drop k ls ≡ replicate n x ++ lr → drop k hs ≡ replicate n y ++ hr → k + n ≤ length ls
+      → Bounded n x y (take n (drop k l))
   bounded k n x y lr hr p q h = record {
     many = length-take-le n (drop k l) (rw length-drop (omega (arith, within-length ls hs l e)));
     each = λ i j.
@@ -73,7 +74,8 @@ module _ (lines : Bool) (l : List ℕ) (e : within (low lines) (high lines) l �
     fills = bounded (low lines) (high lines) l e 22 4 32 126 (drop 26 (low lines)) (drop 26 (high lines)) refl refl (omega arith);
   }
 
-  second : (b : Bool) (k : List ℕ) (s : Settings) → (b ≡ true → Edges (marginOf k)) → pick b (read (settingsOf lines (marginOf k) l)) refused ≡ read s → Ranges s
+  second : (b : Bool) (k : List ℕ) (s : Settings) → (b ≡ true → Edges (marginOf k)) → pick b (read (settingsOf lines (marginOf k) l)) refused ≡ read s
+      → Ranges s
   second true k s g p = let z : settingsOf lines (marginOf k) l ≡ s = cc in rw z at (ranges (marginOf k) (g refl))
   second false k s g p = let z : _≡_ {A = ℕ} 0 1 = cc in absurd (omega arith)
 

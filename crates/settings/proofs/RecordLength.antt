@@ -1,4 +1,4 @@
--- Settings that were read have 31 bytes, or 42 of which the 32nd is hex 11. Assumes nothing.
+-- Settings that were read have 31 bytes, or 42 of which the 32nd is hex 11.
 use mathlib.Core.Path.{_≡_, refl, sym, ap, _∙_}
 use mathlib.Core.Logic.{_⊎_, inl, inr}
 use mathlib.Core.Bool.{Bool, true, false}
@@ -15,7 +15,8 @@ use Rattle.settings.proofs.Within.{within-length, within-at, read-form,
 abbrev Long : List ℕ → Type 0
 Long l = (length l ≡ 31) ⊎ ((length l ≡ 42) × (getD l 31 0 ≡ 17))
 
-margin-long : (lines : Bool) (l k : List ℕ) (s : Settings) (b : Bool) → 31 ≤ length l → drop 31 l ≡ k → within marginLow marginHigh k ≡ b → pick b (read (settingsOf lines (marginOf k) (take 31 l))) refused ≡ read s → Long l
+margin-long : (lines : Bool) (l k : List ℕ) (s : Settings) (b : Bool) → 31 ≤ length l → drop 31 l ≡ k → within marginLow marginHigh k ≡ b
+    → pick b (read (settingsOf lines (marginOf k) (take 31 l))) refused ≡ read s → Long l
 margin-long lines l k s true h d e p =
     let many : length k ≡ 11 = within-length marginLow marginHigh k e in
     let tag = within-at marginLow marginHigh k e 0 (omega arith) in

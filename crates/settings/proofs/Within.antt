@@ -1,4 +1,4 @@
--- Bytes within their bounds, byte by byte. Assumes nothing.
+-- Bytes within their bounds, byte by byte.
 use mathlib.Core.Path.{_≡_, refl, ap, _∙_}
 use mathlib.Core.Bool.{Bool, true, false}
 use mathlib.Core.List.{List, [], _∷_}
@@ -65,7 +65,9 @@ short-refused l h = rw (short-form true l h, short-form false l h)
 -- the first mark is within its bounds
 form-mark : (lines : Bool) (l : List ℕ) → ((pick lines 32 0 ≤ getD l 3 0) × (getD l 3 0 ≤ pick lines 126 0) → ⊥) → readForm lines l ≡ refused
 unfolding readForm
-form-mark lines l f = rw (not-true (within (low lines) (high lines) (take 31 l)) (λ e. f (rw (getD-take 31 l 3 0 (omega arith)) at (within-at (low lines) (high lines) (take 31 l) e 3 (omega arith)))))
+form-mark lines l f =
+    rw (not-true (within (low lines) (high lines) (take 31 l))
+    (λ e. f (rw (getD-take 31 l 3 0 (omega arith)) at (within-at (low lines) (high lines) (take 31 l) e 3 (omega arith)))))
 
 pub bare-form : (l : List ℕ) → getD l 3 0 ≡ 0 → readSettings l ≡ readForm false l
 unfolding readSettings
@@ -92,7 +94,8 @@ read-form l s e = go (readForm true l) refl e
     go refused q e = record { lines = false; is = e }
     go (read t) q e = record { lines = true; is = q ∙ e }
 
-pub form-front : (lines : Bool) (l : List ℕ) (s : Settings) → readForm lines l ≡ read s → (within (low lines) (high lines) (take 31 l) ≡ true) × (readBehind lines (take 31 l) (drop 31 l) ≡ read s)
+pub form-front : (lines : Bool) (l : List ℕ) (s : Settings) → readForm lines l ≡ read s
+    → (within (low lines) (high lines) (take 31 l) ≡ true) × (readBehind lines (take 31 l) (drop 31 l) ≡ read s)
 unfolding readForm
 form-front lines l s e = go (within (low lines) (high lines) (take 31 l)) refl e
   where

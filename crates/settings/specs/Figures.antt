@@ -20,7 +20,21 @@ defaults-read = refl
 
 -- a margin of 2 columns on the left, 1 line on top, of dots and stars
 pub margin-read : readSettings (settingsBytes defaults ++ (17 ∷ 0 ∷ 8 ∷ 2 ∷ 0 ∷ 1 ∷ 0 ∷ 46 ∷ 32 ∷ 42 ∷ 32 ∷ []))
-    ≡ read (record { lines = true; margin = record { left = 2; right = 0; top = 1; bottom = 0; fills = 46 ∷ 32 ∷ 42 ∷ 32 ∷ [] }; marks = defaults .marks; left = 1; right = 1; top = 0; bottom = 0; fills = replicate 4 32; horizontal = Alignment.Start; vertical = Alignment.Start; «line_mode» = false; «width_priority» = Priority.Last; «height_priority» = Priority.List })
+    ≡ read (record {
+      lines = true;
+      margin = record { left = 2; right = 0; top = 1; bottom = 0; fills = 46 ∷ 32 ∷ 42 ∷ 32 ∷ [] };
+      marks = defaults .marks;
+      left = 1;
+      right = 1;
+      top = 0;
+      bottom = 0;
+      fills = replicate 4 32;
+      horizontal = Alignment.Start;
+      vertical = Alignment.Start;
+      «line_mode» = false;
+      «width_priority» = Priority.Last;
+      «height_priority» = Priority.List;
+    })
 unfolding readSettings
 margin-read = refl
 
@@ -36,7 +50,21 @@ abbrev pub bareRecord : List ℕ → List ℕ
 bareRecord marks = 16 ∷ 0 ∷ 28 ∷ (marks ++ (1 ∷ 1 ∷ 0 ∷ 0 ∷ 32 ∷ 32 ∷ 32 ∷ 32 ∷ 0 ∷ 0 ∷ 0 ∷ 1 ∷ 2 ∷ []))
 
 pub bare-read : readSettings (bareRecord (replicate 15 0))
-    ≡ read (record { lines = false; margin = noMargin; marks = replicate 15 0; left = 1; right = 1; top = 0; bottom = 0; fills = replicate 4 32; horizontal = Alignment.Start; vertical = Alignment.Start; «line_mode» = false; «width_priority» = Priority.Last; «height_priority» = Priority.List })
+    ≡ read (record {
+      lines = false;
+      margin = noMargin;
+      marks = replicate 15 0;
+      left = 1;
+      right = 1;
+      top = 0;
+      bottom = 0;
+      fills = replicate 4 32;
+      horizontal = Alignment.Start;
+      vertical = Alignment.Start;
+      «line_mode» = false;
+      «width_priority» = Priority.Last;
+      «height_priority» = Priority.List;
+    })
 unfolding readSettings
 bare-read = refl
 

@@ -1,4 +1,5 @@
--- Reading the settings (document 01, "Settings record"; document 02, 1 and 13): tag hex 10, two-byte length 28, 28 bytes, each in its own range, or fifteen zeros as
+-- Reading the settings (document 01, "Settings record"; document 02, 1 and 13): tag hex 10, two-byte length 28, 28 bytes, each in its own range, or fifteen
+-- zeros as
 -- marks; then nothing, or the margin.
 use Prim.Native.Nat.{ℕ}
 use mathlib.Core.Bool.{Bool, true, false}

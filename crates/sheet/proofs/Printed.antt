@@ -1,4 +1,4 @@
--- What the sheet printer answers, from the plan and the walk. Assumes nothing.
+-- What the sheet printer answers, from the plan and the walk.
 use mathlib.Core.Path.{_≡_, refl, sym, _∙_}
 use Prim.Native.Nat.{ℕ, suc, _+_, _-_, _*_, _≤_}
 use native.Mathlib.Omega.{arith}
@@ -62,13 +62,15 @@ unfolding W
 wide-within s t = omega arith
 
 sheet-room : (w h len : ℕ) → w ≤ 400 → h ≤ 160 → (w + 1) * h - 1 ≤ len → Room 0 (w + 1) h w len
-sheet-room w h len p q r = let m : (w + 1) * h ≤ 401 * 160 = mul-le-mul {n₂ = 401} {m₂ = 160} (omega arith) q in record { fits = omega arith; small = omega arith }
+sheet-room w h len p q r = let m : (w + 1) * h ≤ 401 * 160 = mul-le-mul {n₂ = 401} {m₂ = 160} (omega arith) q in
+    record { fits = omega arith; small = omega arith }
 
 -- the rectangle inside starts within the bytes, and has room in those from its start on
 inside-in : (l t k b r w stride len : ℕ) → Room 0 stride (t + suc k + b) (l + w + r) len → l + t * stride ≤ len
 inside-in l t k b r w stride len x = omega (arith, x .fits)
 
-inside-room : (l t k b r w stride len : ℕ) → l + w + r ≤ stride → Room 0 stride (t + suc k + b) (l + w + r) len → Room (0 * stride + 0) stride (suc k) w (len - (l + t * stride))
+inside-room : (l t k b r w stride len : ℕ) → l + w + r ≤ stride → Room 0 stride (t + suc k + b) (l + w + r) len
+    → Room (0 * stride + 0) stride (suc k) w (len - (l + t * stride))
 inside-room l t k b r w stride len a x =
     let h = inside-in l t k b r w stride len x in
     record { fits = omega (arith, x .fits); small = omega (arith, x .small) }
@@ -83,16 +85,22 @@ module _ (s : Settings) (t : Tree) (len : ℕ) (large : tooLarge s t ≡ false) 
   some-inside = omega (arith, natural-height s t)
 
   pub start-in : insideAt (s .margin) (W s t + 1) ≤ len
-  start-in = inside-in (s .margin .left) (s .margin .top) (insideH s t - 1) (s .margin .bottom) (s .margin .right) (insideW s t) (W s t + 1) len (rw (← some-inside) whole-room)
+  start-in = inside-in (s .margin .left) (s .margin .top) (insideH s t - 1) (s .margin .bottom) (s .margin .right) (insideW s t) (W s t + 1) len
+      (rw (← some-inside) whole-room)
 
   part-room : Room (0 * (W s t + 1) + 0) (W s t + 1) (insideH s t) (insideW s t) (len - insideAt (s .margin) (W s t + 1))
   part-room =
-      rw some-inside (inside-room (s .margin .left) (s .margin .top) (insideH s t - 1) (s .margin .bottom) (s .margin .right) (insideW s t) (W s t + 1) len (wide-within s t) (rw (← some-inside) whole-room))
+      rw some-inside (inside-room (s .margin .left) (s .margin .top) (insideH s t - 1) (s .margin .bottom) (s .margin .right) (insideW s t) (W s t + 1) len
+      (wide-within s t) (rw (← some-inside) whole-room))
 
   leaves-ask : Every (Asks s (W s t + 1) (len - insideAt (s .margin) (W s t + 1))) (leaves s t)
   leaves-ask =
       every-map (λ l. LeafFits s l × Inside s 0 0 (insideH s t) (insideW s t) l) (Asks s (W s t + 1) (len - insideAt (s .margin) (W s t + 1)))
-      (λ l x. record { fits = x .0; apart = omega (arith, x .1 .right, wide-within s t); room = room-inside (W s t + 1) (len - insideAt (s .margin) (W s t + 1)) (x .1) part-room })
+      (λ l x. record {
+        fits = x .0;
+        apart = omega (arith, x .1 .right, wide-within s t);
+        room = room-inside (W s t + 1) (len - insideAt (s .margin) (W s t + 1)) (x .1) part-room;
+      })
       (leaves s t)
       (every-and (LeafFits s) (Inside s 0 0 (insideH s t) (insideW s t)) (leaves s t) (leaves-fit s t) (laid-inside (root-laid s t)))
 
@@ -210,14 +218,18 @@ module _ {bs ts : List ℕ} {m : Measured} {sizes : List ℕ} (k : Taken bs ts m
             sheet-shown o₁ o₂ part q o₃ o₄ e₁ e₂ l₂ ep eq e₃ e₄ =
                 let r = drop ((W s t + 1) * H s t - 1) o in
                 let z₁ : o₁ ≡ replicate ((W s t + 1) * H s t - 1) 10 ++ r = e₁ ∙ rw (filled o (f .bytes) within, bytes-is) in
-                let z₂ : o₂ ≡ pasted (pasted (replicate ((W s t + 1) * H s t - 1) 10 ++ r) 0 (W s t + 1) (leftSide (s .margin) (H s t))) (s .margin .left) (W s t + 1) (topSide (s .margin) (insideW s t)) =
+                let z₂ : o₂ ≡ pasted (pasted (replicate ((W s t + 1) * H s t - 1) 10 ++ r) 0 (W s t + 1) (leftSide (s .margin) (H s t))) (s .margin .left)
+                (W s t + 1) (topSide (s .margin) (insideW s t)) =
                 e₂ ∙ rw (lines-is, wide-is, stride-is, z₁) in
-                let zq : q ≡ paintedAll s (W s t + 1) (leaves s t) (drop (insideAt (s .margin) (W s t + 1)) o₂) = eq ∙ paint-painted s (f .stride) part (leaves s t) ∙ rw (ep, base-is, stride-is) in
-                let z₃ : o₃ ≡ take (insideAt (s .margin) (W s t + 1)) o₂ ++ paintedAll s (W s t + 1) (leaves s t) (drop (insideAt (s .margin) (W s t + 1)) o₂) = e₃ ∙ rw (zq, base-is) in
+                let zq : q ≡ paintedAll s (W s t + 1) (leaves s t) (drop (insideAt (s .margin) (W s t + 1)) o₂) = eq
+                ∙ paint-painted s (f .stride) part (leaves s t) ∙ rw (ep, base-is, stride-is) in
+                let z₃ : o₃ ≡ take (insideAt (s .margin) (W s t + 1)) o₂ ++ paintedAll s (W s t + 1) (leaves s t) (drop (insideAt (s .margin) (W s t + 1)) o₂) =
+                e₃ ∙ rw (zq, base-is) in
                 let i : insideAt (s .margin) (W s t + 1) ≤ length o₂ = rw l₂ (start-in s t (length o) large enough) in
                 e₄ ∙ rw (lines-is, wide-is, tall-is, stride-is, bytes-is) (sheet-painted s t r o₂ o₃ z₂ i z₃)
 
-            pub sheet-answers : (o₁ o₂ part q o₃ o₄ list es : List ℕ) (g : Listing s (f .stride) ts list (leaves s t) es) → o₁ ≡ sets o 0 (replicate (f .bytes) 10)
+            pub sheet-answers : (o₁ o₂ part q o₃ o₄ list es : List ℕ) (g : Listing s (f .stride) ts list (leaves s t) es)
+                → o₁ ≡ sets o 0 (replicate (f .bytes) 10)
                 → o₂ ≡ beforeOf (s .margin) f o₁ → length o₂ ≡ length o → part ≡ drop base o₂ → q ≡ paintAll s (f .stride) part (sheet-paints list es g .leaves)
                 → o₃ ≡ take base o₂ ++ q → o₄ ≡ afterOf (s .margin) f o₃
                 → PrinterAnswers (record { number = 0; count = f .bytes }) o₄ (sheetOf (inputOf bs ts) o)

@@ -1,4 +1,4 @@
--- What the sizes that were measured say of the input. Assumes nothing.
+-- What the sizes that were measured say of the input.
 use mathlib.Core.Path.{_≡_, refl, sym, ap, _∙_}
 use Prim.Native.Nat.{ℕ, _≤_}
 use native.Mathlib.Omega.{arith}
@@ -27,7 +27,8 @@ pub record Takes (ts : List ℕ) (s : Settings) (t : Tree) : Type 0 where
   pub ranges : Ranges s
   pub got : GotTree ts t size count
 
-takes-case : (bs ts : List ℕ) (s : Settings) (t : Tree) (p : Parsed) (r : ReadOne) → readSettings bs ≡ p → readTree ts ≡ r → settingsInput p r ≡ given s t → Takes ts s t
+takes-case : (bs ts : List ℕ) (s : Settings) (t : Tree) (p : Parsed) (r : ReadOne) → readSettings bs ≡ p → readTree ts ≡ r → settingsInput p r ≡ given s t
+    → Takes ts s t
 takes-case bs ts s t Parsed.refused r pe re e = let z : _≡_ {A = ℕ} 0 1 = cc in absurd (omega arith)
 takes-case bs ts s t (Parsed.read s₁) (ReadOne.refused k) pe re e = let z : _≡_ {A = ℕ} 0 1 = cc in absurd (omega arith)
 takes-case bs ts s t (Parsed.read s₁) (ReadOne.one t₁ size n) pe re e =

@@ -1,4 +1,4 @@
--- Lists that have the sizes of nodes. Assumes nothing.
+-- Lists that have the sizes of nodes.
 use mathlib.Core.Path.{_≡_, refl, sym, subst, _∙_}
 use Prim.Native.Nat.{ℕ, zero, suc, _+_, _*_, _≤_, _<_}
 use native.Mathlib.Omega.{arith}
@@ -40,7 +40,8 @@ put-second : (l : List ℕ) (at : ℕ) (z : Size) → at + 1 < length l → getD
 put-second l at z h = rw add-one (getD-set-same (set l at (z .width)) (suc at) (z .height) 0 (rw length-set (omega arith)))
 
 put-other : (l : List ℕ) (at j : ℕ) (z : Size) → (j ≡ at → ⊥) → (j ≡ at + 1 → ⊥) → getD (putSize l at z) j 0 ≡ getD l j 0
-put-other l at j z a b = getD-set-other (set l at (z .width)) (suc at) j (z .height) 0 (λ e. b (omega arith)) ∙ getD-set-other l at j (z .width) 0 (λ e. a (omega arith))
+put-other l at j z a b = getD-set-other (set l at (z .width)) (suc at) j (z .height) 0 (λ e. b (omega arith))
+    ∙ getD-set-other l at j (z .width) 0 (λ e. a (omega arith))
 
 -- what stands before pairs that are stored stays
 puts-below : (zs : List Size) (l : List ℕ) (at j : ℕ) → j < at → getD (putSizes l at zs) j 0 ≡ getD l j 0
@@ -61,7 +62,12 @@ stored-holds [] l node h = tt
 stored-holds (x ∷ xs) l node h =
     let e : 4 * node + 4 ≡ 4 * suc node = omega arith in
     let n = length-sets l (4 * node) (x .width ∷ x .height ∷ []) in (
-      rw (puts-below xs (putSize l (4 * node) x) (4 * node + 4) (4 * node) (omega arith), puts-below xs (putSize l (4 * node) x) (4 * node + 4) (4 * node + 1) (omega arith), put-first l (4 * node) x (omega arith), put-second l (4 * node) x (omega arith)),
+      rw (
+        puts-below xs (putSize l (4 * node) x) (4 * node + 4) (4 * node) (omega arith),
+        puts-below xs (putSize l (4 * node) x) (4 * node + 4) (4 * node + 1) (omega arith),
+        put-first l (4 * node) x (omega arith),
+        put-second l (4 * node) x (omega arith),
+      ),
       rw e (stored-holds xs (putSize l (4 * node) x) (suc node) (omega arith)),
     )
 
@@ -73,7 +79,11 @@ allotted-other (z ∷ zs) l at m j n r e d h =
     allotted-other zs (putSize l at z) (at + 4) (suc m) j n r (omega arith) d h ∙ put-other l at j z (λ b. omega arith) (λ b. omega arith)
 
 pub natural-kept : (zs : List Size) (l : List ℕ) (m n : ℕ) → naturalAt (putSizes l (4 * m + 2) zs) n ≡ naturalAt l n
-natural-kept zs l m n = rw (allotted-other zs l (4 * m + 2) m (4 * n) n 0 refl (omega arith) (omega arith), allotted-other zs l (4 * m + 2) m (4 * n + 1) n 1 refl refl (omega arith))
+natural-kept zs l m n =
+    rw (
+      allotted-other zs l (4 * m + 2) m (4 * n) n 0 refl (omega arith) (omega arith),
+      allotted-other zs l (4 * m + 2) m (4 * n + 1) n 1 refl refl (omega arith),
+    )
 
 pub holds-kept : (xs ys : List Size) (l l₁ : List ℕ) (m node : ℕ) → l₁ ≡ putSizes l (4 * m + 2) ys → Holds xs node l → Holds xs node l₁
 holds-kept xs ys l l₁ m node e h = each-with _ _ (λ z n k. rw e (natural-kept ys l m n ∙ k)) xs node h
@@ -107,8 +117,14 @@ stored-all (z ∷ zs) l node h =
     let e : suc (suc (suc (suc a))) ≡ 4 * suc node = omega arith in (
       record {
         inside = omega arith;
-        natural-is = rw (sets-first (z .natural .width) (z .natural .height ∷ z .allotted .width ∷ z .allotted .height ∷ flat zs) l a a refl (omega arith), sets-first (z .natural .height) (z .allotted .width ∷ z .allotted .height ∷ flat zs) l1 (suc a) (a + 1) (omega arith) (omega arith));
-        allotted-is = rw (sets-first (z .allotted .width) (z .allotted .height ∷ flat zs) l2 (suc (suc a)) (a + 2) (omega arith) (omega arith), sets-first (z .allotted .height) (flat zs) l3 (suc (suc (suc a))) (a + 3) (omega arith) (omega arith));
+        natural-is = rw (
+          sets-first (z .natural .width) (z .natural .height ∷ z .allotted .width ∷ z .allotted .height ∷ flat zs) l a a refl (omega arith),
+          sets-first (z .natural .height) (z .allotted .width ∷ z .allotted .height ∷ flat zs) l1 (suc a) (a + 1) (omega arith) (omega arith),
+        );
+        allotted-is = rw (
+          sets-first (z .allotted .width) (z .allotted .height ∷ flat zs) l2 (suc (suc a)) (a + 2) (omega arith) (omega arith),
+          sets-first (z .allotted .height) (flat zs) l3 (suc (suc (suc a))) (a + 3) (omega arith) (omega arith),
+        );
       },
       subst (λ (k : ℕ). HoldsAll zs (suc node) (sets l4 k (flat zs))) (sym e) (stored-all zs l4 (suc node) (omega arith)),
     )

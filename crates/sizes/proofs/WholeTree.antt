@@ -1,4 +1,4 @@
--- The sizes of a whole tree in the list. Assumes nothing.
+-- The sizes of a whole tree in the list.
 use mathlib.Core.Path.{_≡_, refl, ap, subst, _∙_}
 use Prim.Native.Nat.{ℕ, suc, _+_, _*_, _≤_}
 use native.Mathlib.Nat.{le-refl}
@@ -35,7 +35,11 @@ module _ (S : Settings) where
     sizes*-natural : (ts : Trees) (a : Axis) (z : Size) (spare n i : ℕ) → map naturalSize (sizes* S ts a z spare n i) ≡ naturalSizes* S ts
     sizes*-natural none a z spare n i = refl
     sizes*-natural (more t ts) a z spare n i =
-        rw (map-append naturalSize (sizes S t (childSize a z (allot S a spare n i t))) (sizes* S ts a z spare n (suc i)), sizes-natural t (childSize a z (allot S a spare n i t)), sizes*-natural ts a z spare n (suc i))
+        rw (
+          map-append naturalSize (sizes S t (childSize a z (allot S a spare n i t))) (sizes* S ts a z spare n (suc i)),
+          sizes-natural t (childSize a z (allot S a spare n i t)),
+          sizes*-natural ts a z spare n (suc i),
+        )
 
 -- ---- collected, then allotted
 
@@ -64,7 +68,11 @@ module _ (S : Settings) (b l : List ℕ) (q : ReadyTree S b l) (long : length l 
       let y = natural S T in
       let e : l₁ ≡ putSizes l 2 (map allottedSize (sizes S T y)) = a .list ∙ ap (λ (y : Size). putSizes l 2 (map allottedSize (sizes S T y))) size-is in
       let d : l ≡ putSizes (q .old) 0 (map naturalSize (sizes S T y)) = q .list ∙ rw (sizes-natural S T y) in
-      record { count = omega (arith, a .next); list = e ∙ ap (λ (k : List ℕ). putSizes k 2 (map allottedSize (sizes S T y))) d ∙ both-stored (sizes S T y) (q .old) 0 }
+      record {
+        count = omega (arith, a .next);
+        list = e ∙ ap (λ (k : List ℕ). putSizes k 2 (map allottedSize (sizes S T y))) d
+            ∙ both-stored (sizes S T y) (q .old) 0;
+      }
 
 -- ---- the list as the walks over it read it
 
@@ -80,8 +88,10 @@ module _ (S : Settings) (l : List ℕ) where
     allotted*-in none a z spare n i node h = tt
     allotted*-in (more t ts) a z spare n i node h =
         let y = childSize a z (allot S a spare n i t) in
-        let us = sizes* S ts a z spare n (suc i) in
-        (allotted-in t y node (each-front _ (sizes S t y) us node h), allotted*-in ts a z spare n (suc i) (node + nodes t) (each-back _ (sizes S t y) us node (nodes t) (sizes-length S t y) h))
+        let us = sizes* S ts a z spare n (suc i) in (
+          allotted-in t y node (each-front _ (sizes S t y) us node h),
+          allotted*-in ts a z spare n (suc i) (node + nodes t) (each-back _ (sizes S t y) us node (nodes t) (sizes-length S t y) h),
+        )
 
 -- after `measure_tree` the list holds the sizes of the tree's nodes
 pub sizes-listed : (s : Settings) (t : Tree) (l : List ℕ) → 4 * nodes t ≤ length l → Allotted s t (natural s t) 0 (sets l 0 (flat (treeSizes s t)))

@@ -1,4 +1,5 @@
-// Test cases are lines of files, which a program's arguments name. The first line of a file says whose lines follow, as `of splits` (libraries.rt). Each other line is a letter,
+// Test cases are lines of files, which a program's arguments name. The first line of a file says whose lines follow, as `of splits` (libraries.rt). Each other
+// line is a letter,
 // a space and its contents, in which `\` and two hex digits stand for a byte. These give something (`lines::given`):
 //   = the settings' bytes     : the tree's bytes     + N, bytes: these go on the tree N times
 //   @ the node                & N, bytes: what the next line wants begins with these, N times
@@ -14,7 +15,8 @@ use test_lines::tell;
 // A file has fewer bytes.
 const MOST: usize = 131072;
 
-// Room for settings or a store of drafts; for a tree, or a typed list of one byte more than there may be; for what a line wants, of which a sheet of 64,159 bytes is the longest.
+// Room for settings or a store of drafts; for a tree, or a typed list of one byte more than there may be; for what a line wants, of which a sheet of 64,159
+// bytes is the longest.
 const SETTINGS: usize = 300;
 
 const TREE: usize = 131100;

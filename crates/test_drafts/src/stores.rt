@@ -1,4 +1,5 @@
-// Drafts in a store, which each call leaves to the next. Saved and forgotten: NAME, NUMBER, and the store afterwards. Returned: NAME ROOM, NUMBER COUNT, and the bytes
+// Drafts in a store, which each call leaves to the next. Saved and forgotten: NAME, NUMBER, and the store afterwards. Returned: NAME ROOM, NUMBER COUNT, and
+// the bytes
 // copied.
 use drafts::Returned;
 use test_lines::compare;

@@ -1,4 +1,5 @@
-// Whole outputs of both programs, as `program::answer` gives them against document 01, and `typed_program::answer_typed` of a typed list. The lines give the input as a tree:
+// Whole outputs of both programs, as `program::answer` gives them against document 01, and `typed_program::answer_typed` of a typed list. The lines give the
+// input as a tree:
 //   a the whole output     y the whole output for a typed list
 use test_lines::compare;
 use test_lines::tell;

@@ -1,4 +1,5 @@
-// The size collector and the sharing helper against documents 01 and 02. After each call of the collector its whole list is shown, so that the program's `stdout` has the
+// The size collector and the sharing helper against documents 01 and 02. After each call of the collector its whole list is shown, so that the program's
+// `stdout` has the
 // numbers that they give:
 //   - how the numbers follow
 //   l N: the collector is called with the first N entries of a list lent

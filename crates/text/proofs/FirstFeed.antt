@@ -1,4 +1,4 @@
--- The first line feed from a place on. Assumes nothing.
+-- The first line feed from a place on.
 use mathlib.Core.Path.{_≡_, refl, sym, ap, _∙_}
 use Prim.Native.Nat.{ℕ, zero, suc, _+_, _-_, _*_, _/_, _≤_, _<_}
 use native.Mathlib.Omega.{arith}
@@ -22,7 +22,8 @@ word-none zero t h e = omega arith
 word-none (suc n) [] h e = absurd (omega arith)
 word-none (suc n) (b ∷ t) h e = go (isFeed b) e (λ k. word-none n t (omega arith) k)
   where
-    go : (c : Bool) → flags (map isFeed (take n t)) * 256 + pick c 128 0 ≡ 0 → (flags (map isFeed (take n t)) ≡ 0 → firstFeed t ≡ n + firstFeed (drop n t)) → pick c 0 (suc (firstFeed t)) ≡ suc n + firstFeed (drop n t)
+    go : (c : Bool) → flags (map isFeed (take n t)) * 256 + pick c 128 0 ≡ 0 → (flags (map isFeed (take n t)) ≡ 0 → firstFeed t ≡ n + firstFeed (drop n t))
+        → pick c 0 (suc (firstFeed t)) ≡ suc n + firstFeed (drop n t)
     go true e ih = absurd (omega arith)
     go false e ih = omega (arith, ih (omega arith))
 
@@ -32,7 +33,8 @@ word-some zero t h = absurd (omega arith)
 word-some (suc n) [] h = absurd (omega arith)
 word-some (suc n) (b ∷ t) h = go (isFeed b) h (λ k. word-some n t k)
   where
-    go : (c : Bool) → 0 < flags (map isFeed (take n t)) * 256 + pick c 128 0 → (0 < flags (map isFeed (take n t)) → firstFeed t ≡ first (map isFeed (take n t))) → pick c 0 (suc (firstFeed t)) ≡ first (c ∷ map isFeed (take n t))
+    go : (c : Bool) → 0 < flags (map isFeed (take n t)) * 256 + pick c 128 0 → (0 < flags (map isFeed (take n t)) → firstFeed t ≡ first (map isFeed (take n t)))
+        → pick c 0 (suc (firstFeed t)) ≡ first (c ∷ map isFeed (take n t))
     go true h ih = refl
     go false h ih = ap suc (ih (omega arith))
 
@@ -44,7 +46,8 @@ plain-first zero t h e = omega arith
 plain-first (suc n) [] h e = absurd (omega arith)
 plain-first (suc n) (b ∷ t) h e = go (isFeed b) e (λ k. plain-first n t (omega arith) k)
   where
-    go : (c : Bool) → pick c 1 0 + feedCount (take n t) ≡ 0 → (feedCount (take n t) ≡ 0 → firstFeed t ≡ n + firstFeed (drop n t)) → pick c 0 (suc (firstFeed t)) ≡ suc n + firstFeed (drop n t)
+    go : (c : Bool) → pick c 1 0 + feedCount (take n t) ≡ 0 → (feedCount (take n t) ≡ 0 → firstFeed t ≡ n + firstFeed (drop n t))
+        → pick c 0 (suc (firstFeed t)) ≡ suc n + firstFeed (drop n t)
     go true e ih = absurd (omega arith)
     go false e ih = omega (arith, ih (omega arith))
 

@@ -1,4 +1,4 @@
--- The flags raised in a word, the first one first. Assumes nothing.
+-- The flags raised in a word, the first one first.
 use mathlib.Core.Path.{_≡_, refl, sym, ap, ap₂, _∙_}
 use Prim.Native.Nat.{ℕ, suc, _+_, _*_, _-_, _/_, _%_, _≤_, _<_}
 use native.Mathlib.Omega.{arith}
@@ -74,10 +74,12 @@ unfolding flags less
 less-and [] h = absurd (omega arith)
 less-and (true ∷ t) h =
     let d : flags t * 256 + 128 - 1 ≡ flags t * 256 + 127 = omega arith in
-    ap (λ (x : ℕ). bitAnd (flags t * 256 + 128) x) d ∙ and-block 8 (flags t) (flags t) 128 127 (lit< tt) (lit< tt) ∙ ap (λ (x : ℕ). x * 256 + 0) (and-self (flags t))
+    ap (λ (x : ℕ). bitAnd (flags t * 256 + 128) x) d ∙ and-block 8 (flags t) (flags t) 128 127 (lit< tt) (lit< tt)
+    ∙ ap (λ (x : ℕ). x * 256 + 0) (and-self (flags t))
 less-and (false ∷ t) h =
     let d : flags t * 256 + 0 - 1 ≡ (flags t - 1) * 256 + 255 = omega arith in
-    ap (λ (x : ℕ). bitAnd (flags t * 256 + 0) x) d ∙ and-block 8 (flags t) (flags t - 1) 0 255 (lit< tt) (lit< tt) ∙ ap (λ (x : ℕ). x * 256 + 0) (less-and t (omega arith))
+    ap (λ (x : ℕ). bitAnd (flags t * 256 + 0) x) d ∙ and-block 8 (flags t) (flags t - 1) 0 255 (lit< tt) (lit< tt)
+    ∙ ap (λ (x : ℕ). x * 256 + 0) (less-and t (omega arith))
 
 -- ---- the zeros below the first flag
 
@@ -110,7 +112,8 @@ zeros-first [] = refl
 zeros-first (true ∷ t) = ap (λ (n : ℕ). n / 8) (seven-on (length t * 8) (suc (length t) * 8) (flags t) (omega arith))
 zeros-first (false ∷ t) =
     let e : flags t * 256 + 0 ≡ flags t * 256 = omega arith in
-    let z : trailingZeros (suc (length t) * 8) (flags t * 256 + 0) ≡ 8 + trailingZeros (length t * 8) (flags t) = rw e (eight-on (length t * 8) (suc (length t) * 8) (flags t) (omega arith)) in
+    let z : trailingZeros (suc (length t) * 8) (flags t * 256 + 0) ≡ 8 + trailingZeros (length t * 8) (flags t) =
+    rw e (eight-on (length t * 8) (suc (length t) * 8) (flags t) (omega arith)) in
     omega (arith, z, zeros-first t)
 
 -- ---- the flags that are left of a word's bytes, which start at `at`
@@ -124,7 +127,8 @@ pub record FlagsLeft (bs : List ℕ) (at : ℕ) (before r : Seen) (left : ℕ) :
   pub same : past fs at r ≡ after bs at before
 
 pub left-all : (bs : List ℕ) (at left : ℕ) (before : Seen) → length bs ≡ 8 → left ≡ flags (map isFeed bs) → Fine at before → FlagsLeft bs at before before left
-left-all bs at left before l e f = record { fs = map isFeed bs; eight = length-map bs isFeed ∙ l; is = e; few = f .few; start = omega (arith, f .before); same = past-after bs at before }
+left-all bs at left before l e f =
+    record { fs = map isFeed bs; eight = length-map bs isFeed ∙ l; is = e; few = f .few; start = omega (arith, f .before); same = past-after bs at before }
 
 module _ (bs : List ℕ) (at left : ℕ) (before r : Seen) (p : FlagsLeft bs at before r left) where
   pub flags-left-none : left ≡ 0 → r ≡ after bs at before

@@ -1,4 +1,4 @@
--- Word operations act on each byte of a word apart, as long as no sum of two bytes passes 255. Assumes nothing.
+-- Word operations act on each byte of a word apart, as long as no sum of two bytes passes 255.
 use mathlib.Core.Path.{_≡_, refl, sym, ap, ap₂, _∙_}
 use Prim.Native.Nat.{ℕ, zero, suc, _+_, _*_, _/_, _%_, _≤_, _<_}
 use native.Mathlib.Omega.{arith}
@@ -74,7 +74,8 @@ module _ (h l t w p : ℕ) (small : l < 256) where
   others-block : others (h * 256 + l) (t * 256 + 10) (w * 256 + 127) ≡ others h t w * 256 + others l 10 127
   others-block =
       let e₁ : bitXor (h * 256 + l) (t * 256 + 10) ≡ bitXor h t * 256 + bitXor l 10 = xor-block 8 h t l 10 small (lit< tt) in
-      let e₂ : bitAnd (bitXor h t * 256 + bitXor l 10) (w * 256 + 127) ≡ bitAnd (bitXor h t) w * 256 + bitAnd (bitXor l 10) 127 = and-block 8 (bitXor h t) w (bitXor l 10) 127 y-lt (lit< tt) in
+      let e₂ : bitAnd (bitXor h t * 256 + bitXor l 10) (w * 256 + 127) ≡ bitAnd (bitXor h t) w * 256 + bitAnd (bitXor l 10) 127 =
+      and-block 8 (bitXor h t) w (bitXor l 10) 127 y-lt (lit< tt) in
       ap₂ (λ (u v : ℕ). bitOr (u + (w * 256 + 127)) v) (ap (λ (u : ℕ). bitAnd u (w * 256 + 127)) e₁ ∙ e₂) e₁
       ∙ ap (λ (u : ℕ). bitOr u (bitXor h t * 256 + bitXor l 10)) (sum-block (bitAnd (bitXor h t) w) w (bitAnd (bitXor l 10) 127) 127)
       ∙ or-block 8 (bitAnd (bitXor h t) w + w) (bitXor h t) (bitAnd (bitXor l 10) 127 + 127) (bitXor l 10) a-lt y-lt
@@ -123,7 +124,8 @@ low-marks (suc n) t b e =
     (omega (arith, q .0), rw (d, m, q .1, ne-eqb (t % 256 + 11) 10 (omega arith)))
 
 -- the same of eight bytes, modulo 2^64
-pub low-word : (x t : ℕ) → t < 18446744073709551616 → (t + 0x0b0b_0b0b_0b0b_0b0b) % 18446744073709551616 ≡ x → bitAnd t 0x8080_8080_8080_8080 ≡ 0 → marked 8 x ≡ 0
+pub low-word : (x t : ℕ) → t < 18446744073709551616 → (t + 0x0b0b_0b0b_0b0b_0b0b) % 18446744073709551616 ≡ x → bitAnd t 0x8080_8080_8080_8080 ≡ 0
+    → marked 8 x ≡ 0
 unfolding rep
 low-word x t h e z =
     let q : (t + 0x0b0b_0b0b_0b0b_0b0b ≤ 18446744073709551615) × (marked 8 (t + 0x0b0b_0b0b_0b0b_0b0b) ≡ 0) = low-marks 8 t (omega arith) z in

@@ -1,4 +1,4 @@
--- Words of bytes, and the line feeds marked in them. Assumes nothing.
+-- Words of bytes, and the line feeds marked in them.
 use mathlib.Core.Path.{_≡_, refl, sym, _∙_}
 use Prim.Native.Nat.{ℕ, zero, suc, _+_, _*_, _/_, _%_, _≤_, _<_}
 use native.Mathlib.Omega.{arith}
@@ -50,7 +50,8 @@ join-four (b₀ ∷ b₁ ∷ []) b x y h p q = absurd (omega arith)
 join-four (b₀ ∷ b₁ ∷ b₂ ∷ []) b x y h p q = absurd (omega arith)
 join-four (b₀ ∷ b₁ ∷ b₂ ∷ b₃ ∷ b₄ ∷ a) b x y h p q = absurd (omega arith)
 
-pub load-eight : (s : List ℕ) (at x y r : ℕ) → at + 8 ≤ length s → Loaded (take 4 (drop at s)) x → Loaded (take 4 (drop (at + 4) s)) y → r ≡ x + y * 4294967296 → Loaded (take 8 (drop at s)) r
+pub load-eight : (s : List ℕ) (at x y r : ℕ) → at + 8 ≤ length s → Loaded (take 4 (drop at s)) x → Loaded (take 4 (drop (at + 4) s)) y → r ≡ x + y * 4294967296
+    → Loaded (take 8 (drop at s)) r
 load-eight s at x y r h p q e =
     let t : take 8 (drop at s) ≡ take 4 (drop at s) ++ take 4 (drop (at + 4) s) = take-add 4 4 (drop at s) ∙ rw drop-drop in
     rw (t, e) (join-four (take 4 (drop at s)) (take 4 (drop (at + 4) s)) x y (length-take-le 4 (drop at s) (rw length-drop (omega arith))) p q)

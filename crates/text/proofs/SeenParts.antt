@@ -1,4 +1,4 @@
--- What is seen of a text: part after part, and in the end. Assumes nothing.
+-- What is seen of a text: part after part, and in the end.
 use mathlib.Core.Path.{_≡_, refl, sym, ap, ap₂, _∙_}
 use Prim.Native.Nat.{ℕ, suc, _+_, _-_, _≤_, _<_, max}
 use native.Mathlib.Omega.{arith}
@@ -159,7 +159,8 @@ longest-after : (t : List ℕ) (i : ℕ) (r : Seen) → Fine i r
     → max (after t i r .longest) (i + length t + 1 - after t i r .start) ≡ max (r .longest) (suc (longestFrom (i - r .start) t))
 unfolding after longestFrom
 longest-after [] i r f = omega (arith, f .before)
-longest-after (b ∷ t) i r f = rw (along i (length t)) (longest-after t (suc i) (pick (isFeed b) (afterFeed i r) r) (fine-on i (suc i) r (isFeed b) (omega arith) f) ∙ go (isFeed b))
+longest-after (b ∷ t) i r f =
+    rw (along i (length t)) (longest-after t (suc i) (pick (isFeed b) (afterFeed i r) r) (fine-on i (suc i) r (isFeed b) (omega arith) f) ∙ go (isFeed b))
   where
     go : (c : Bool) → max (pick c (afterFeed i r) r .longest) (suc (longestFrom (suc i - pick c (afterFeed i r) r .start) t))
         ≡ max (r .longest) (suc (max (i - r .start) (longestFrom (pick c 0 (suc (i - r .start))) t)))
@@ -180,6 +181,8 @@ module _ (s : List ℕ) (r : Seen) (p : SeenBefore s (length s) r) where
   counted w e =
       let a : r .feeds ≡ feedCount s = ap (λ (x : Seen). x .feeds) ended ∙ feeds-after s 0 noneSeen ∙ omega arith in
       let m : max (r .longest) (length s + 1 - r .start) ≡ suc (longestFrom 0 s) =
-      ap (λ (x : Seen). max (x .longest) (length s + 1 - x .start)) ended ∙ ap (λ (n : ℕ). max (after s 0 noneSeen .longest) (n - after s 0 noneSeen .start)) (omega arith) ∙ longest-after s 0 noneSeen fine-none ∙ omega arith in
+      ap (λ (x : Seen). max (x .longest) (length s + 1 - x .start)) ended
+      ∙ ap (λ (n : ℕ). max (after s 0 noneSeen .longest) (n - after s 0 noneSeen .start)) (omega arith) ∙ longest-after s 0 noneSeen fine-none
+      ∙ omega arith in
       let l : max (r .longest - 1) (length s - r .start) ≡ longestFrom 0 s = omega (arith, m, p .fine .before) in
       rw (a, e, l)

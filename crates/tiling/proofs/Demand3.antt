@@ -1,4 +1,4 @@
--- `demand-3`, `demand-3-sizes`: demand 3 about what the calls answer and write. Assumes nothing.
+-- `demand-3`, `demand-3-sizes`: demand 3 about what the calls answer and write.
 use mathlib.Core.Path.{_≡_, refl, sym, ap, _∙_, subst}
 use mathlib.Core.Logic.{_↔_}
 use Prim.Native.Nat.{ℕ, zero, suc, _+_, _-_, _*_, _≤_, _<_}
@@ -112,7 +112,8 @@ leaf-text an-empty = refl
 listed : (l : List ℕ) → listOf (splitList l) ≡ l
 listed l = take-append-seam l (replicate (512 - length l) 0)
 
-room-case : (d : Bool) (bytes o : List ℕ) (p : Prints) → ltb (length o) (length bytes) ≡ d → pick d (noPrint 8 o) p .answer .number ≡ 0 → length bytes ≤ length o
+room-case : (d : Bool) (bytes o : List ℕ) (p : Prints) → ltb (length o) (length bytes) ≡ d → pick d (noPrint 8 o) p .answer .number ≡ 0
+    → length bytes ≤ length o
 room-case true bytes o p e h = absurd (omega arith)
 room-case false bytes o p e h = ltb-false (length o) (length bytes) e
 
@@ -158,7 +159,8 @@ module _ (bs ts : List ℕ) (s : Settings) (t : Tree) (i : inputOf bs ts ≡ giv
     room : (o : List ℕ) → leafPrintOf (inputOf bs ts) n o .answer .number ≡ 0 → length (joinLines (block s (leafOf f))) ≤ length o
     room o h = room-case (ltb (length o) (length (joinLines (block s (leafOf f))))) (joinLines (block s (leafOf f))) o _ refl (rw (prints p o) at h)
 
-    bytes-are : (o : List ℕ) → leafPrintOf (inputOf bs ts) n o .answer .number ≡ 0 → take (leafPrintOf (inputOf bs ts) n o .answer .count) (leafPrintOf (inputOf bs ts) n o .out) ≡ joinLines (block s (leafOf f))
+    bytes-are : (o : List ℕ) → leafPrintOf (inputOf bs ts) n o .answer .number ≡ 0
+        → take (leafPrintOf (inputOf bs ts) n o .answer .count) (leafPrintOf (inputOf bs ts) n o .out) ≡ joinLines (block s (leafOf f))
     bytes-are o h = rw i (leaf-written s t o g p (room o h) .bytes-are)
 
     lines-are : (o : List ℕ) → leafPrintOf (inputOf bs ts) n o .answer .number ≡ 0 → linesIn (leafPrintOf (inputOf bs ts) n o) ≡ block s (leafOf f)
@@ -182,11 +184,13 @@ module _ (bs ts : List ℕ) (s : Settings) (t : Tree) (i : inputOf bs ts ≡ giv
 
       tall-is : blockLines bs ts s t c n ≡ heightAt s (d .leaf .at)
       unfolding blockHeight
-      tall-is = ap (λ (k : Flags). blockHeight s (allottedWritten c n) k) flags-are ∙ ap (λ (y : Size). blockHeight s y (d .leaf .at .flags)) (leaf-sized s t c z (d .named))
+      tall-is = ap (λ (k : Flags). blockHeight s (allottedWritten c n) k) flags-are
+          ∙ ap (λ (y : Size). blockHeight s y (d .leaf .at .flags)) (leaf-sized s t c z (d .named))
 
       wide-is : blockColumns bs ts s t c n ≡ widthAt s (d .leaf .at)
       unfolding blockWidth
-      wide-is = ap (λ (k : Flags). blockWidth s (allottedWritten c n) k) flags-are ∙ ap (λ (y : Size). blockWidth s y (d .leaf .at .flags)) (leaf-sized s t c z (d .named))
+      wide-is = ap (λ (k : Flags). blockWidth s (allottedWritten c n) k) flags-are
+          ∙ ap (λ (y : Size). blockWidth s y (d .leaf .at .flags)) (leaf-sized s t c z (d .named))
 
       covers : {l k : ℕ} → BlockCovers bs ts s t c n l k → Covers s (d .leaf) l k
       covers v = record {
@@ -208,10 +212,13 @@ module _ (bs ts : List ℕ) (s : Settings) (t : Tree) (i : inputOf bs ts ≡ giv
       seen : leafSeen bs ts s t c n ≡ leafOf (d .leaf)
       seen =
           let node = leaf-node s t (d .named) in
-          let a : leafText (getD (subtrees t) n t) ≡ d .leaf .text = ap leafText (entry-at (subtrees t) n (node .tree) t (node .node-is)) ∙ leaf-text (node .leaf) in
+          let a : leafText (getD (subtrees t) n t) ≡ d .leaf .text = ap leafText (entry-at (subtrees t) n (node .tree) t (node .node-is))
+          ∙ leaf-text (node .leaf) in
           let b : allottedWritten c n ≡ d .leaf .at .size = leaf-sized s t c z (d .named) in
-          let h : listOf (leafRecordOf (inputOf bs ts) n .horizontal) ≡ d .leaf .at .horizontal = ap (λ (r : LeafRecord). listOf (r .horizontal)) (d .answer) ∙ listed (d .leaf .at .horizontal) in
-          let v : listOf (leafRecordOf (inputOf bs ts) n .vertical) ≡ d .leaf .at .vertical = ap (λ (r : LeafRecord). listOf (r .vertical)) (d .answer) ∙ listed (d .leaf .at .vertical) in
+          let h : listOf (leafRecordOf (inputOf bs ts) n .horizontal) ≡ d .leaf .at .horizontal = ap (λ (r : LeafRecord). listOf (r .horizontal)) (d .answer)
+          ∙ listed (d .leaf .at .horizontal) in
+          let v : listOf (leafRecordOf (inputOf bs ts) n .vertical) ≡ d .leaf .at .vertical = ap (λ (r : LeafRecord). listOf (r .vertical)) (d .answer)
+          ∙ listed (d .leaf .at .vertical) in
           rw (a, b, h, v, flags-are)
 
     lines-inside : insideLines bs ts s t c ≡ insideH s t
@@ -252,22 +259,26 @@ module _ (bs ts : List ℕ) (s : Settings) (t : Tree) (i : inputOf bs ts ≡ giv
           → Rectangle (leafPrintOf (inputOf bs ts) n o₁) (blockLines bs ts s t c n) (blockColumns bs ts s t c n)
       block-is n h o₁ e =
           let d = answered n h in
-          let y : Dims (linesIn (leafPrintOf (inputOf bs ts) n o₁)) (heightAt s (d .leaf .at)) (widthAt s (d .leaf .at)) = rw (lines-are r (d .named) o₁ e) (leaf-dims s t (d .named .index) (d .leaf) (d .named .stands)) in
+          let y : Dims (linesIn (leafPrintOf (inputOf bs ts) n o₁)) (heightAt s (d .leaf .at)) (widthAt s (d .leaf .at)) =
+          rw (lines-are r (d .named) o₁ e) (leaf-dims s t (d .named .index) (d .leaf) (d .named .stands)) in
           rectangle (sym (tall-is d)) (sym (wide-is d)) y
 
       enough : (n : ℕ) → leafRecordOf (inputOf bs ts) n .number ≡ 0 → (o₁ : List ℕ)
           → (leafPrintOf (inputOf bs ts) n o₁ .answer .number ≡ 0) ↔ (byteCount (blockColumns bs ts s t c n) (blockLines bs ts s t c n) ≤ length o₁)
       enough n h o₁ =
           let d = answered n h in
-          rw (tall-is d, wide-is d, ← needed r (d .named)) (λ e. room r (d .named) o₁ e, λ e. rw (prints (d .named) o₁, le-ltb (length o₁) (length (joinLines (block s (leafOf (d .leaf))))) e))
+          rw (tall-is d, wide-is d, ← needed r (d .named))
+          (λ e. room r (d .named) o₁ e, λ e. rw (prints (d .named) o₁, le-ltb (length o₁) (length (joinLines (block s (leafOf (d .leaf))))) e))
 
       module _ (o : List ℕ) (b : take (sheetOf (inputOf bs ts) o .answer .count) (sheetOf (inputOf bs ts) o .out) ≡ sheet s t) where
-        sheet-is : Rectangle (sheetOf (inputOf bs ts) o) (s .margin .top + insideLines bs ts s t c + s .margin .bottom) (s .margin .left + insideColumns bs ts s t c + s .margin .right)
+        sheet-is : Rectangle (sheetOf (inputOf bs ts) o) (s .margin .top + insideLines bs ts s t c + s .margin .bottom)
+            (s .margin .left + insideColumns bs ts s t c + s .margin .right)
         unfolding H W
         sheet-is = rw (lines-inside, columns-inside) (rectangle refl refl (rw b (sheet-rectangle s t r)))
 
         same-byte : (n l k : ℕ) → BlockCovers bs ts s t c n l k → (o₁ : List ℕ) → leafPrintOf (inputOf bs ts) n o₁ .answer .number ≡ 0
-            → byteIn (sheetOf (inputOf bs ts) o) (s .margin .top + l) (s .margin .left + k) ≡ byteIn (leafPrintOf (inputOf bs ts) n o₁) (l - startIn bs ts s t c n .line) (k - startIn bs ts s t c n .column)
+            → byteIn (sheetOf (inputOf bs ts) o) (s .margin .top + l) (s .margin .left + k)
+            ≡ byteIn (leafPrintOf (inputOf bs ts) n o₁) (l - startIn bs ts s t c n .line) (k - startIn bs ts s t c n .column)
         unfolding byteAt
         same-byte n l k w o₁ e =
             let d = answered n (w .leaf) in
@@ -277,18 +288,22 @@ module _ (bs ts : List ℕ) (s : Settings) (t : Tree) (i : inputOf bs ts ≡ giv
       module _ (counted : c .answer .count ≡ nodes t) (below : map belowIn (take (c .answer .count) (c .list)) ≡ belows t) where
         leaf-counted : (n : ℕ) → leafRecordOf (inputOf bs ts) n .number ≡ 0 → (n < c .answer .count) × (sizesWritten c n .below ≡ 0)
         leaf-counted n h =
-            let node = leaf-node s t (answered n h .named) in
-            (omega (arith, elem-in (subtrees t) n (node .tree) (node .node-is), subtrees-length t), omega (arith, below-is t c below n, below-at t n (node .tree) (node .node-is), leaf-nodes (node .leaf)))
+            let node = leaf-node s t (answered n h .named) in (
+              omega (arith, elem-in (subtrees t) n (node .tree) (node .node-is), subtrees-length t),
+              omega (arith, below-is t c below n, below-at t n (node .tree) (node .node-is), leaf-nodes (node .leaf)),
+            )
 
         counted-leaf : (n : ℕ) → (n < c .answer .count) × (sizesWritten c n .below ≡ 0) → leafRecordOf (inputOf bs ts) n .number ≡ 0
         counted-leaf n h =
             elem-at (subtrees t) n (omega (arith, subtrees-length t, h .0))
             (λ u e. childless u (omega (arith, h .1, below-is t c below n, below-at t n u e, nodes-low u))
-            (λ text k. let y = node-leaf s t n text (record { tree = u; node-is = e; leaf = k }) in leaf-answers (record { index = y .index; stands = y .stands; number = y .number })))
+            (λ text k. let y = node-leaf s t n text (record { tree = u; node-is = e; leaf = k }) in
+            leaf-answers (record { index = y .index; stands = y .stands; number = y .number })))
 
 -- ---- the sizes
 
-module _ (bs ts : List ℕ) (s : Settings) (t : Tree) (c : Outcome) (counted : c .answer .count ≡ nodes t) (z : map sizesOf (take (c .answer .count) (c .list)) ≡ treeSizes s t) where
+module _ (bs ts : List ℕ) (s : Settings) (t : Tree) (c : Outcome) (counted : c .answer .count ≡ nodes t)
+    (z : map sizesOf (take (c .answer .count) (c .list)) ≡ treeSizes s t) where
   widths-are : _≡_ {A = ℕ → ℕ} (λ m. sizesWritten c m .width) (λ m. sizesAt (treeSizes s t) m .allotted .width)
   widths-are = λ i m. ap (λ (y : Sizes). y .allotted .width) (record-sizes s t c z m) i
 
@@ -319,13 +334,15 @@ module _ (bs ts : List ℕ) (s : Settings) (t : Tree) (c : Outcome) (counted : c
       → sizesWritten c m .height ≡ sizesWritten c n .height
   unfolding childNodes count beside
   row-heights n Trees.none e i m d = elem-none i m d
-  row-heights n (more u us) e i m d = subst (λ (h : ℕ → ℕ). h m ≡ h n) (sym heights-are) (groups-filled s t n across (more u us) e (omega arith) .each i m d .same)
+  row-heights n (more u us) e i m d =
+      subst (λ (h : ℕ → ℕ). h m ≡ h n) (sym heights-are) (groups-filled s t n across (more u us) e (omega arith) .each i m d .same)
 
   column-widths : (n : ℕ) (us : Trees) → getElem? (subtrees t) n ≡ some (group down us) → (i m : ℕ) → getElem? (childNodes (suc n) us) i ≡ some m
       → sizesWritten c m .width ≡ sizesWritten c n .width
   unfolding childNodes count beside
   column-widths n Trees.none e i m d = elem-none i m d
-  column-widths n (more u us) e i m d = subst (λ (w : ℕ → ℕ). w m ≡ w n) (sym widths-are) (groups-filled s t n down (more u us) e (omega arith) .each i m d .same)
+  column-widths n (more u us) e i m d =
+      subst (λ (w : ℕ → ℕ). w m ≡ w n) (sym widths-are) (groups-filled s t n down (more u us) e (omega arith) .each i m d .same)
 
   natural-is : (n : ℕ) (u : Tree) → getElem? (subtrees t) n ≡ some u → sizesAt (treeSizes s t) n .natural ≡ natural s u
   unfolding sizesAt
@@ -342,7 +359,8 @@ module _ (bs ts : List ℕ) (s : Settings) (t : Tree) (c : Outcome) (counted : c
     children = children;
     row-heights = row-heights;
     column-widths = column-widths;
-    naturals = λ n u e. let x = ap (λ (y : Sizes). y .natural) (record-sizes s t c z n) ∙ natural-is n u e in (ap (λ (y : Size). y .width) x, ap (λ (y : Size). y .height) x);
+    naturals = λ n u e. let x = ap (λ (y : Sizes). y .natural) (record-sizes s t c z n)
+        ∙ natural-is n u e in (ap (λ (y : Size). y .width) x, ap (λ (y : Size). y .height) x);
   }
 
 -- ---- demand 3
@@ -353,7 +371,8 @@ demand-3-sizes bs ts l h =
     let w = collected bs ts l (collectOf (inputOf bs ts) l) refl h in
     record { settings = w .settings; tree = w .tree; input = w .input; sharing = sharing bs ts (w .settings) (w .tree) _ (w .count) (w .sizes) }
 
-tiles : (bs ts o : List ℕ) (l : List SizeRecord) (a : SheetOf bs ts o) (w : SizesCollected bs ts l (collectOf (inputOf bs ts) l)) → a .settings ≡ w .settings → a .tree ≡ w .tree
+tiles : (bs ts o : List ℕ) (l : List SizeRecord) (a : SheetOf bs ts o) (w : SizesCollected bs ts l (collectOf (inputOf bs ts) l)) → a .settings ≡ w .settings
+    → a .tree ≡ w .tree
     → Tiles bs ts (w .settings) (w .tree) (collectOf (inputOf bs ts) l) o
 tiles bs ts o l a w x y =
     let s = w .settings in
@@ -380,7 +399,8 @@ tiles bs ts o l a w x y =
     }
 
 -- where the sheet printer and the size collector answer 0
-pub demand-3 : (bs ts o : List ℕ) (l : List SizeRecord) → sheetOf (inputOf bs ts) o .answer .number ≡ 0 → collectOf (inputOf bs ts) l .answer .number ≡ 0 → Tiled bs ts o l
+pub demand-3 : (bs ts o : List ℕ) (l : List SizeRecord) → sheetOf (inputOf bs ts) o .answer .number ≡ 0 → collectOf (inputOf bs ts) l .answer .number ≡ 0
+    → Tiled bs ts o l
 demand-3 bs ts o l h k =
     let a = sheet-printed bs ts o h in
     let w = collected bs ts l (collectOf (inputOf bs ts) l) refl k in
@@ -388,7 +408,8 @@ demand-3 bs ts o l h k =
     record { settings = w .settings; tree = w .tree; input = w .input; tiling = tiles bs ts o l a w (cc) (cc) }
 
 -- where the sheet printer answers 0, so does the size collector, lent a list of 512
-pub sheet-collects : (bs ts o : List ℕ) (l : List SizeRecord) → sheetOf (inputOf bs ts) o .answer .number ≡ 0 → 512 ≤ length l → collectOf (inputOf bs ts) l .answer .number ≡ 0
+pub sheet-collects : (bs ts o : List ℕ) (l : List SizeRecord) → sheetOf (inputOf bs ts) o .answer .number ≡ 0 → 512 ≤ length l
+    → collectOf (inputOf bs ts) l .answer .number ≡ 0
 unfolding collectOf
 sheet-collects bs ts o l h k =
     let a = sheet-printed bs ts o h in

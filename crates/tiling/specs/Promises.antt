@@ -1,5 +1,7 @@
--- Demand 3 about what the calls answer and write: `Tiled`, `SharedOut`. Quotations are of demand 3, and of document 01 where marked so. The separator width `sep` stands for document 01's one column and one line: 1, or 0
--- without lines (document 02, 13). The rectangle is the one inside the margin: "its starts and places count from that rectangle's first line and column" (document 02, 1).
+-- Demand 3 about what the calls answer and write: `Tiled`, `SharedOut`. Quotations are of demand 3, and of document 01 where marked so. The separator width
+-- `sep` stands for document 01's one column and one line: 1, or 0
+-- without lines (document 02, 13). The rectangle is the one inside the margin: "its starts and places count from that rectangle's first line and column"
+-- (document 02, 1).
 use mathlib.Core.Path.{_≡_}
 use mathlib.Core.Logic.{_↔_}
 use Prim.Native.Nat.{ℕ, suc, _+_, _-_, _*_, _≤_, _<_}
@@ -61,7 +63,8 @@ abbrev pub leafText : Tree → List ℕ
 leafText (cell text) = text
 leafText (group a ts) = []
 
--- ---- the words, for the bytes of settings and tree that all calls are handed, the settings and the tree that these bytes are, and what the size collector answered and wrote
+-- ---- the words, for the bytes of settings and tree that all calls are handed, the settings and the tree that these bytes are, and what the size collector
+-- answered and wrote
 
 module _ (bs ts : List ℕ) (s : Settings) (t : Tree) (c : Outcome) where
   -- nodes are numbered from 0, parent before children, left to right: node n is the tree u
@@ -85,7 +88,8 @@ module _ (bs ts : List ℕ) (s : Settings) (t : Tree) (c : Outcome) where
   abbrev pub startIn : ℕ → Place
   startIn n = startAt s (allottedWritten c) t n
 
-  -- "a leaf's block has 1 + allotted height lines, one more under last_row, of 1 + allotted width columns, one more under last_col" (01): the size as written, the
+  -- "a leaf's block has 1 + allotted height lines, one more under last_row, of 1 + allotted width columns, one more under last_col" (01): the size as written,
+  -- the
   -- flags as answered
   abbrev pub blockLines : ℕ → ℕ
   blockLines n = sep s + sizesWritten c n .height + pick (leafAnswer n .flags .«last_row») (sep s) 0
@@ -141,19 +145,23 @@ module _ (bs ts : List ℕ) (s : Settings) (t : Tree) (c : Outcome) where
     -- "its H lines of W columns" (01), with the margin around them (02, 1)
     pub sheet-is : Rectangle (sheetOf (inputOf bs ts) o) (s .margin .top + insideLines + s .margin .bottom) (s .margin .left + insideColumns + s .margin .right)
     -- what the leaf printer writes has the lines and columns that the block covers
-    pub block-is : (n : ℕ) → leafAnswer n .number ≡ 0 → (o₁ : List ℕ) → leafPrint n o₁ .answer .number ≡ 0 → Rectangle (leafPrint n o₁) (blockLines n) (blockColumns n)
+    pub block-is : (n : ℕ) → leafAnswer n .number ≡ 0 → (o₁ : List ℕ) → leafPrint n o₁ .answer .number ≡ 0
+        → Rectangle (leafPrint n o₁) (blockLines n) (blockColumns n)
     -- "lent enough output" (01): for a leaf it answers 0 exactly where that many bytes and a 0A between lines have room
-    pub enough : (n : ℕ) → leafAnswer n .number ≡ 0 → (o₁ : List ℕ) → (leafPrint n o₁ .answer .number ≡ 0) ↔ (byteCount (blockColumns n) (blockLines n) ≤ length o₁)
+    pub enough : (n : ℕ) → leafAnswer n .number ≡ 0 → (o₁ : List ℕ)
+        → (leafPrint n o₁ .answer .number ≡ 0) ↔ (byteCount (blockColumns n) (blockLines n) ≤ length o₁)
     -- the leaves are the nodes of the list below which the collector counted none
     pub leaves : (n : ℕ) → (leafAnswer n .number ≡ 0) ↔ ((n < c .answer .count) × (sizesWritten c n .below ≡ 0))
     -- "The root starts at line 0, column 0." (01)
     pub root-starts : startIn 0 ≡ origin
     -- "A Row's child starts on the Row's line, at the Row's column plus, for each child before it, that child's allotted width and 1" (01)
     pub row-starts : (n : ℕ) (us : Trees) → NodeIs n (group across us) → (i m : ℕ) → ChildIs n us i m
-        → (startIn m .line ≡ startIn n .line) × (startIn m .column ≡ startIn n .column + total (map (λ j. sizesWritten c j .width + sep s) (take i (childNodes (suc n) us))))
+        → (startIn m .line ≡ startIn n .line)
+        × (startIn m .column ≡ startIn n .column + total (map (λ j. sizesWritten c j .width + sep s) (take i (childNodes (suc n) us))))
     -- "a Column's child likewise by lines" (01)
     pub column-starts : (n : ℕ) (us : Trees) → NodeIs n (group down us) → (i m : ℕ) → ChildIs n us i m
-        → (startIn m .line ≡ startIn n .line + total (map (λ j. sizesWritten c j .height + sep s) (take i (childNodes (suc n) us)))) × (startIn m .column ≡ startIn n .column)
+        → (startIn m .line ≡ startIn n .line + total (map (λ j. sizesWritten c j .height + sep s) (take i (childNodes (suc n) us))))
+        × (startIn m .column ≡ startIn n .column)
 
   -- ---- the sizes
 
@@ -168,13 +176,15 @@ module _ (bs ts : List ℕ) (s : Settings) (t : Tree) (c : Outcome) where
         → total (map (λ m. sizesWritten c m .height) (childNodes (suc n) us)) + (count us - 1) * sep s ≡ sizesWritten c n .height
     -- "no child is allotted less than its natural width or height"
     pub children : (n : ℕ) (a : Axis) (us : Trees) → NodeIs n (group a us) → (i m : ℕ) → ChildIs n us i m
-        → (m < c .answer .count) × (sizesWritten c m .«natural_width» ≤ sizesWritten c m .width) × (sizesWritten c m .«natural_height» ≤ sizesWritten c m .height)
+        → (m < c .answer .count) × (sizesWritten c m .«natural_width» ≤ sizesWritten c m .width)
+        × (sizesWritten c m .«natural_height» ≤ sizesWritten c m .height)
     -- "A Row's child has the Row's allotted height" (01)
     pub row-heights : (n : ℕ) (us : Trees) → NodeIs n (group across us) → (i m : ℕ) → ChildIs n us i m → sizesWritten c m .height ≡ sizesWritten c n .height
     -- "a Column's child the allotted width" (01)
     pub column-widths : (n : ℕ) (us : Trees) → NodeIs n (group down us) → (i m : ℕ) → ChildIs n us i m → sizesWritten c m .width ≡ sizesWritten c n .width
     -- the natural sizes written are those of document 01
-    pub naturals : (n : ℕ) (u : Tree) → NodeIs n u → (sizesWritten c n .«natural_width» ≡ natural s u .width) × (sizesWritten c n .«natural_height» ≡ natural s u .height)
+    pub naturals : (n : ℕ) (u : Tree) → NodeIs n u
+        → (sizesWritten c n .«natural_width» ≡ natural s u .width) × (sizesWritten c n .«natural_height» ≡ natural s u .height)
 
 -- ---- what is promised
 

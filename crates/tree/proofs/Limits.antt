@@ -1,4 +1,4 @@
--- What the reader answers for the bytes of any plan whose texts are allowed: the verdict of the limits, which looks at no text. Assumes nothing.
+-- What the reader answers for the bytes of any plan whose texts are allowed: the verdict of the limits, which looks at no text.
 use mathlib.Core.Path.{_≡_, refl, sym, _∙_, ap}
 use Prim.Native.Nat.{ℕ, zero, suc, _+_, _<_, _≤_}
 use native.Mathlib.Omega.{arith}
@@ -120,14 +120,17 @@ module _ (P : Bool) where
   tests-read f d n s false true e p z v q = refl
   tests-read f d n s false false e p z v q = q
 
-  module _ (f d n : ℕ) (s : List ℕ) (p : Plan) (v : Verdict) (low : 1 ≤ getD s 0 0) (high : getD s 0 0 ≤ lastTag P) (whole : 3 + lengthAt s ≤ length s) (even : oddRange s ≡ false) where
-    element-reads : opened f d n s (Element (getD s 0 0) (lengthAt s)) ≡ planByVerdict p (3 + lengthAt s) v → elementIn P (suc f) d n s ≡ planByVerdict p (3 + lengthAt s) (tested d n v)
+  module _ (f d n : ℕ) (s : List ℕ) (p : Plan) (v : Verdict) (low : 1 ≤ getD s 0 0) (high : getD s 0 0 ≤ lastTag P) (whole : 3 + lengthAt s ≤ length s)
+      (even : oddRange s ≡ false) where
+    element-reads : opened f d n s (Element (getD s 0 0) (lengthAt s)) ≡ planByVerdict p (3 + lengthAt s) v
+        → elementIn P (suc f) d n s ≡ planByVerdict p (3 + lengthAt s) (tested d n v)
     element-reads q =
         by-front f d n s ∙ ap (opened f d n s) (header-tests s d n low high whole even)
         ∙ tests-read f d n s (ltb 16 d) (leb 512 n) (Element (getD s 0 0) (lengthAt s)) p (3 + lengthAt s) v q
 
   abbrev Element-reads : Plan → Type 0
-  Element-reads p = (f d n : ℕ) (s : List ℕ) → length s < f → PlanEncodes p s → TextsIn P p → elementIn P f d n s ≡ planByVerdict p (3 + lengthAt s) (limits d n p)
+  Element-reads p = (f d n : ℕ) (s : List ℕ) → length s < f → PlanEncodes p s → TextsIn P p
+      → elementIn P f d n s ≡ planByVerdict p (3 + lengthAt s) (limits d n p)
 
   abbrev Sequence-reads : Plans → Type 0
   Sequence-reads ps = (f d n : ℕ) (s : List ℕ) → length s + 1 < f → PlanEncodesAll ps s → TextsIn* P ps → sequenceIn P f d n s ≡ outcomes ps (limits* d n ps)
@@ -140,7 +143,8 @@ module _ (P : Bool) where
       element-reads f d n s (Plan.cell x) (good (n + 1)) (omega (arith, k .1)) (omega (arith, k .1)) (k .0) (no-odd s (λ z. omega (arith, k .1)))
       (rw (eq-eqb (getD s 0 0) 1 (k .1), k .2, p, opened))
 
-  range-out : (a b c e z n : ℕ) (g : Bool) → pick g (PlanOne.one (Plan.range a b c e) z (n + 1)) (PlanOne.refused 17) ≡ planByVerdict (Plan.range a b c e) z (pick g (good (n + 1)) (bad 17))
+  range-out : (a b c e z n : ℕ) (g : Bool)
+      → pick g (PlanOne.one (Plan.range a b c e) z (n + 1)) (PlanOne.refused 17) ≡ planByVerdict (Plan.range a b c e) z (pick g (good (n + 1)) (bad 17))
   range-out a b c e z n true = refl
   range-out a b c e z n false = refl
 
@@ -149,8 +153,10 @@ module _ (P : Bool) where
   range-reads a b c e zero d n s h k p = absurd (omega arith)
   range-reads a b c e (suc f) d n s h k p =
       let long : lengthAt s ≡ 4 = sym (contents-length s (k .0)) ∙ ap length (k .2) in
-      element-reads f d n s (Plan.range a b c e) (pick (isRange (a ∷ b ∷ c ∷ e ∷ [])) (good (n + 1)) (bad 17)) (omega (arith, k .1)) (four-last P _ p (k .1)) (k .0) (four-even s long)
-      (rw (ne-eqb (getD s 0 0) 1 (λ z. omega (arith, k .1)), eq-eqb _ _ (k .1), k .2, opened) (range-out a b c e (3 + lengthAt s) n (isRange (a ∷ b ∷ c ∷ e ∷ []))))
+      element-reads f d n s (Plan.range a b c e) (pick (isRange (a ∷ b ∷ c ∷ e ∷ [])) (good (n + 1)) (bad 17)) (omega (arith, k .1)) (four-last P _ p (k .1))
+      (k .0) (four-even s long)
+      (rw (ne-eqb (getD s 0 0) 1 (λ z. omega (arith, k .1)), eq-eqb _ _ (k .1), k .2, opened)
+      (range-out a b c e (3 + lengthAt s) n (isRange (a ∷ b ∷ c ∷ e ∷ []))))
 
   group-out : (a : Axis) (ps : Plans) (tag z : ℕ) (v : Verdict) → axisOf (eqb tag 2) ≡ a → groupIn tag z (outcomes ps v) ≡ planByVerdict (Plan.group a ps) z v
   group-out a ps tag z (bad k) e = refl
@@ -164,8 +170,14 @@ module _ (P : Bool) where
       let high = tag-high a in
       let last = last-high P in
       let c = contents-length s (k .0) in
-      element-reads f d n s (Plan.group a ps) (limits* (d + 1) (n + 1) ps) (omega (arith, k .1)) (omega (arith, k .1)) (k .0) (no-odd s (λ z. omega (arith, k .1)))
-      (rw (ne-eqb (getD s 0 0) 1 (λ z. omega (arith, k .1)), ne-eqb (getD s 0 0) 4 (λ z. omega (arith, k .1)), ih f (d + 1) (n + 1) (contents s) (omega (arith, k .0)) (k .2) p, opened)
+      element-reads f d n s (Plan.group a ps) (limits* (d + 1) (n + 1) ps) (omega (arith, k .1)) (omega (arith, k .1)) (k .0)
+      (no-odd s (λ z. omega (arith, k .1)))
+      (rw (
+        ne-eqb (getD s 0 0) 1 (λ z. omega (arith, k .1)),
+        ne-eqb (getD s 0 0) 4 (λ z. omega (arith, k .1)),
+        ih f (d + 1) (n + 1) (contents s) (omega (arith, k .0)) (k .2) p,
+        opened,
+      )
       (group-out a ps (getD s 0 0) (3 + lengthAt s) (limits* (d + 1) (n + 1) ps) (sym (axis-of a (getD s 0 0) (k .1)))))
 
   none-reads : Sequence-reads Plans.none

@@ -1,4 +1,4 @@
--- The plans without ranges are the trees: the two descriptions of accepted bytes say the same of them. Assumes nothing.
+-- The plans without ranges are the trees: the two descriptions of accepted bytes say the same of them.
 use mathlib.Core.Path.{_≡_, refl, sym, ap, _∙_}
 use Prim.Native.Nat.{ℕ, suc, _+_}
 use native.Mathlib.Omega.{arith}

@@ -1,4 +1,4 @@
--- The bytes of every plan within the limits of 01 are accepted as that plan, with planning and, where it has no range, without. Assumes nothing.
+-- The bytes of every plan within the limits of 01 are accepted as that plan, with planning and, where it has no range, without.
 use mathlib.Core.Path.{_≡_, refl, sym, _∙_, ap}
 use Prim.Native.Nat.{ℕ, suc, _+_, _<_, _≤_}
 use native.Mathlib.Omega.{arith}
@@ -76,4 +76,13 @@ mutual
 pub read-wider : (s : List ℕ) (p : Plan) (size n : ℕ) → wholeIn false s ≡ PlanOne.one p size n → wholeIn true s ≡ PlanOne.one p size n
 read-wider s p size n e =
     let g = plan-sound false s p size n e in
-    plan-complete true s p size n (record { is = g .is; ends = g .ends; short = g .short; few = g .few; shallow = g .shallow; leaves = leaves-wider p (g .leaves); size-is = g .size-is; count-is = g .count-is })
+    plan-complete true s p size n (record {
+      is = g .is;
+      ends = g .ends;
+      short = g .short;
+      few = g .few;
+      shallow = g .shallow;
+      leaves = leaves-wider p (g .leaves);
+      size-is = g .size-is;
+      count-is = g .count-is;
+    })

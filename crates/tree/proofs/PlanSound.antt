@@ -1,4 +1,5 @@
--- What reading comes to, with planning and without: a plan that is what its bytes say and within the limits of 01, or one of the refusals 2 to 5, or 17 with planning. Assumes nothing.
+-- What reading comes to, with planning and without: a plan that is what its bytes say and within the limits of 01, or one of the refusals 2 to 5, or 17 with
+-- planning.
 use mathlib.Core.Path.{_≡_, refl, _∙_}
 use Prim.Native.Nat.{ℕ, zero, suc, _+_, _<_, _≤_}
 use native.Mathlib.Omega.{arith}
@@ -151,7 +152,14 @@ module _ (P : Bool) where
       unfolding PlanEncodes planNodes planDepth Allowed
       cell-case h =
           picked (One (suc f) d n s) (isText (take len (drop 3 s)))
-          (λ e. record { is = (omega (arith, k .whole, k .len-is), k .tag-is ∙ h, rw (k .len-is) refl); size-is = omega (arith, k .len-is); count-is = omega arith; few = omega (arith, k .before); shallow = omega (arith, k .deep); leaves = e })
+          (λ e. record {
+            is = (omega (arith, k .whole, k .len-is), k .tag-is ∙ h, rw (k .len-is) refl);
+            size-is = omega (arith, k .len-is);
+            count-is = omega arith;
+            few = omega (arith, k .before);
+            shallow = omega (arith, k .deep);
+            leaves = e;
+          })
           (λ e l. inl (omega arith))
 
       inside-short : length s < suc f → length (take len (drop 3 s)) + 1 < f
@@ -161,7 +169,12 @@ module _ (P : Bool) where
       unfolding PlanEncodes planNodes planDepth Allowed
       group-case h h₄ (PlanAll.refused j) g = λ l. g (inside-short l)
       group-case h h₄ (PlanAll.all ts m) g = record {
-        is = (omega (arith, k .whole, k .len-is), k .tag-is ∙ tag-of tag (eqb tag 2) refl (k .tag-low) (omega (arith, k .tag-high, last-low P)) h h₄, rw (k .len-is) (g .are));
+        is = (
+          omega (arith, k .whole, k .len-is),
+          k .tag-is
+              ∙ tag-of tag (eqb tag 2) refl (k .tag-low) (omega (arith, k .tag-high, last-low P)) h h₄,
+          rw (k .len-is) (g .are),
+        );
         size-is = omega (arith, k .len-is);
         count-is = omega (arith, g .count-is);
         few = g .few (omega (arith, k .before));
@@ -176,21 +189,49 @@ module _ (P : Bool) where
           let l : length r ≡ 4 = length-take-le len (drop 3 s) (rw length-drop (omega (arith, k .whole))) ∙ k .four h in
           let planned : P ≡ true = four-planned P tag (k .tag-high) h in
           picked (One (suc f) d n s) (isRange r)
-          (λ e. record { is = (omega (arith, k .whole, k .len-is), k .tag-is ∙ h, rw (k .len-is) (four-list r l)); size-is = omega (arith, k .len-is); count-is = omega arith; few = omega (arith, k .before); shallow = omega (arith, k .deep); leaves = (planned, good r e) })
+          (λ e. record {
+            is = (omega (arith, k .whole, k .len-is), k .tag-is ∙ h, rw (k .len-is) (four-list r l));
+            size-is = omega (arith, k .len-is);
+            count-is = omega arith;
+            few = omega (arith, k .before);
+            shallow = omega (arith, k .deep);
+            leaves = (planned, good r e);
+          })
           (λ e j. inr (planned, refl))
 
       four-or : Sequences f → (tag ≡ 1 → ⊥) → (b : Bool) → eqb tag 4 ≡ b
-          → One (suc f) d n s (elim b [ true ↦ rangeIn (take len (drop 3 s)) (3 + len) n | false ↦ groupIn tag (3 + len) (sequenceIn P f (d + 1) (n + 1) (take len (drop 3 s))) ])
+          → One (suc f) d n s (elim b
+          [ true ↦ rangeIn (take len (drop 3 s)) (3 + len) n | false ↦ groupIn tag (3 + len) (sequenceIn P f (d + 1) (n + 1) (take len (drop 3 s))) ])
       four-or ih h true q = range-case (eqb-true _ _ q)
       four-or ih h false q = group-case h (eqb-false _ _ q) (sequenceIn P f (d + 1) (n + 1) (take len (drop 3 s))) (ih (d + 1) (n + 1) (take len (drop 3 s)))
 
       tag-case : Sequences f → (b : Bool) → eqb tag 1 ≡ b
-          → One (suc f) d n s (elim b [ true ↦ cellIn (take len (drop 3 s)) (3 + len) n | false ↦ elim (eqb tag 4) [ true ↦ rangeIn (take len (drop 3 s)) (3 + len) n | false ↦ groupIn tag (3 + len) (sequenceIn P f (d + 1) (n + 1) (take len (drop 3 s))) ] ])
+          → One (suc f) d n s (elim b [
+            | true ↦ cellIn (take len (drop 3 s)) (3 + len) n
+            | false ↦ elim
+                (eqb tag 4) [
+                  | true ↦ rangeIn (take len (drop 3 s)) (3 + len) n
+                  | false ↦ groupIn tag (3 + len)
+                      (sequenceIn P f (d + 1) (n + 1) (take len (drop 3 s)))
+                ]
+          ])
       tag-case ih true q = cell-case (eqb-true _ _ q)
       tag-case ih false q = four-or ih (eqb-false _ _ q) (eqb tag 4) refl
 
     header-case : Sequences f → (h : Header) → Headed s d n h
-        → One (suc f) d n s (elim h [ Fault k ↦ PlanOne.refused k | Element tag len ↦ elim (eqb tag 1) [ true ↦ cellIn (take len (drop 3 s)) (3 + len) n | false ↦ elim (eqb tag 4) [ true ↦ rangeIn (take len (drop 3 s)) (3 + len) n | false ↦ groupIn tag (3 + len) (sequenceIn P f (d + 1) (n + 1) (take len (drop 3 s))) ] ] ])
+        → One (suc f) d n s (elim h [
+          | Fault k ↦ PlanOne.refused k
+          | Element tag len ↦ elim
+              (eqb tag 1) [
+                | true ↦ cellIn (take len (drop 3 s)) (3 + len) n
+                | false ↦ elim
+                    (eqb tag 4) [
+                      | true ↦ rangeIn (take len (drop 3 s)) (3 + len) n
+                      | false ↦ groupIn tag (3 + len)
+                          (sequenceIn P f (d + 1) (n + 1) (take len (drop 3 s)))
+                    ]
+              ]
+        ])
     header-case ih (Fault k) h = λ l. h
     header-case ih (Element tag len) h = tag-case tag len h ih (eqb tag 1) refl
 
@@ -249,7 +290,8 @@ module _ (P : Bool) where
   unfolding wholeIn
   whole s =
       picked (Whole s) (ltb 32768 (length s)) (λ e. inl (omega arith)) (λ e₁.
-      picked (Whole s) (eqb (3 + lengthAt s) (length s)) (λ e₂. root-case s (ltb-false _ _ e₁) (eqb-true _ _ e₂) (elementIn P (length s + 1) 1 0 s) (elements (length s + 1) 1 0 s)) (λ e. inl (omega arith)))
+      picked (Whole s) (eqb (3 + lengthAt s) (length s))
+      (λ e₂. root-case s (ltb-false _ _ e₁) (eqb-true _ _ e₂) (elementIn P (length s + 1) 1 0 s) (elements (length s + 1) 1 0 s)) (λ e. inl (omega arith)))
 
   -- an accepted tree, or planning tree
   pub plan-sound : (s : List ℕ) (t : Plan) (size n : ℕ) → wholeIn P s ≡ PlanOne.one t size n → GotPlan P s t size n

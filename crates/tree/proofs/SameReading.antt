@@ -1,4 +1,4 @@
--- Without planning the general reading is document 01's: `readTree` as it stands in specs/Reading. Assumes nothing.
+-- Without planning the general reading is document 01's: `readTree` as it stands in specs/Reading.
 use mathlib.Core.Path.{_≡_, refl, ap, _∙_}
 use Prim.Native.Nat.{ℕ, zero, suc, _+_, _≤_}
 use native.Mathlib.Omega.{arith}
@@ -31,7 +31,9 @@ picked P false p q = q refl
 odd-no : (s : List ℕ) → getD s 0 0 ≤ 3 → oddRange s ≡ false
 odd-no s h = rw (ne-eqb (getD s 0 0) 4 (λ e. omega arith))
 
-tail-case : (s : List ℕ) (x : Header) (b : Bool) → ltb 3 (getD s 0 0) ≡ b → pick b (Fault 2) (pick (ltb (length s) (3 + lengthAt s)) (Fault 2) (pick (oddRange s) (Fault 2) x)) ≡ pick b (Fault 2) (pick (ltb (length s) (3 + lengthAt s)) (Fault 2) x)
+tail-case : (s : List ℕ) (x : Header) (b : Bool) → ltb 3 (getD s 0 0) ≡ b
+    → pick b (Fault 2) (pick (ltb (length s) (3 + lengthAt s)) (Fault 2) (pick (oddRange s) (Fault 2) x))
+    ≡ pick b (Fault 2) (pick (ltb (length s) (3 + lengthAt s)) (Fault 2) x)
 tail-case s x true e = refl
 tail-case s x false e = rw (odd-no s (ltb-false 3 (getD s 0 0) e))
 
@@ -57,7 +59,8 @@ low-tag s d n =
 
 -- ---- elements and sequences
 
-cell-same : (text : List ℕ) (size n : ℕ) (b : Bool) → treeRead (pick b (PlanOne.one (Plan.cell text) size (n + 1)) (PlanOne.refused 3)) ≡ pick b (ReadOne.one (tree.cell text) size (n + 1)) (ReadOne.refused 3)
+cell-same : (text : List ℕ) (size n : ℕ) (b : Bool)
+    → treeRead (pick b (PlanOne.one (Plan.cell text) size (n + 1)) (PlanOne.refused 3)) ≡ pick b (ReadOne.one (tree.cell text) size (n + 1)) (ReadOne.refused 3)
 unfolding treeOf
 cell-same text size n true = refl
 cell-same text size n false = refl
@@ -80,20 +83,53 @@ Sequences f = (d n : ℕ) (s : List ℕ) → treesRead (sequenceIn false f d n s
 
 module _ (f d n : ℕ) (s : List ℕ) (ih : Sequences f) where
   four-case : (tag len : ℕ) (b : Bool) → eqb tag 4 ≡ b → tag ≤ 3
-      → treeRead (elim b [ true ↦ rangeIn (take len (drop 3 s)) (3 + len) n | false ↦ groupIn tag (3 + len) (sequenceIn false f (d + 1) (n + 1) (take len (drop 3 s))) ])
+      → treeRead (elim b [
+        | true ↦ rangeIn (take len (drop 3 s)) (3 + len) n
+        | false ↦ groupIn tag (3 + len)
+            (sequenceIn false f (d + 1) (n + 1) (take len (drop 3 s)))
+      ])
       ≡ groupRead tag (3 + len) (readSequence f (d + 1) (n + 1) (take len (drop 3 s)))
   four-case tag len true e h = absurd (omega (arith, eqb-true tag 4 e))
-  four-case tag len false e h = group-same tag (3 + len) (sequenceIn false f (d + 1) (n + 1) (take len (drop 3 s))) ∙ ap (groupRead tag (3 + len)) (ih (d + 1) (n + 1) (take len (drop 3 s)))
+  four-case tag len false e h = group-same tag (3 + len) (sequenceIn false f (d + 1) (n + 1) (take len (drop 3 s)))
+      ∙ ap (groupRead tag (3 + len)) (ih (d + 1) (n + 1) (take len (drop 3 s)))
 
   tag-case : (tag len : ℕ) (b : Bool) → tag ≤ 3
-      → treeRead (elim b [ true ↦ cellIn (take len (drop 3 s)) (3 + len) n | false ↦ elim (eqb tag 4) [ true ↦ rangeIn (take len (drop 3 s)) (3 + len) n | false ↦ groupIn tag (3 + len) (sequenceIn false f (d + 1) (n + 1) (take len (drop 3 s))) ] ])
+      → treeRead (elim b [
+        | true ↦ cellIn (take len (drop 3 s)) (3 + len) n
+        | false ↦ elim
+            (eqb tag 4) [
+              | true ↦ rangeIn (take len (drop 3 s)) (3 + len) n
+              | false ↦ groupIn tag (3 + len)
+                  (sequenceIn false f (d + 1) (n + 1) (take len (drop 3 s)))
+            ]
+      ])
       ≡ elim b [ true ↦ cellRead (take len (drop 3 s)) (3 + len) n | false ↦ groupRead tag (3 + len) (readSequence f (d + 1) (n + 1) (take len (drop 3 s))) ]
   tag-case tag len true h = cell-same (take len (drop 3 s)) (3 + len) n (isText (take len (drop 3 s)))
   tag-case tag len false h = four-case tag len (eqb tag 4) refl h
 
   header-case : (h g : Header) → h ≡ g → Low h
-      → treeRead (elim h [ Fault k ↦ PlanOne.refused k | Element tag len ↦ elim (eqb tag 1) [ true ↦ cellIn (take len (drop 3 s)) (3 + len) n | false ↦ elim (eqb tag 4) [ true ↦ rangeIn (take len (drop 3 s)) (3 + len) n | false ↦ groupIn tag (3 + len) (sequenceIn false f (d + 1) (n + 1) (take len (drop 3 s))) ] ] ])
-      ≡ elim g [ Fault k ↦ ReadOne.refused k | Element tag len ↦ elim (eqb tag 1) [ true ↦ cellRead (take len (drop 3 s)) (3 + len) n | false ↦ groupRead tag (3 + len) (readSequence f (d + 1) (n + 1) (take len (drop 3 s))) ] ]
+      → treeRead (elim h [
+        | Fault k ↦ PlanOne.refused k
+        | Element tag len ↦ elim
+            (eqb tag 1) [
+              | true ↦ cellIn (take len (drop 3 s)) (3 + len) n
+              | false ↦ elim
+                  (eqb tag 4) [
+                    | true ↦ rangeIn (take len (drop 3 s)) (3 + len) n
+                    | false ↦ groupIn tag (3 + len)
+                        (sequenceIn false f (d + 1) (n + 1) (take len (drop 3 s)))
+                  ]
+            ]
+      ])
+      ≡ elim g [
+        | Fault k ↦ ReadOne.refused k
+        | Element tag len ↦ elim
+            (eqb tag 1) [
+              | true ↦ cellRead (take len (drop 3 s)) (3 + len) n
+              | false ↦ groupRead tag (3 + len)
+                  (readSequence f (d + 1) (n + 1) (take len (drop 3 s)))
+            ]
+      ]
   header-case (Fault k) g e h = rw (← e)
   header-case (Element tag len) g e h = rw (← e) (tag-case tag len (eqb tag 1) h)
 
@@ -129,7 +165,9 @@ answer-same : (x : PlanOne) → planAnswer x ≡ treeAnswer (treeRead x)
 answer-same (PlanOne.refused k) = refl
 answer-same (PlanOne.one p size n) = refl
 
-whole-case : (s : List ℕ) (a b : Bool) → treeRead (pick a (PlanOne.refused 2) (pick b (elementIn false (length s + 1) 1 0 s) (PlanOne.refused 2))) ≡ pick a (ReadOne.refused 2) (pick b (readElement (length s + 1) 1 0 s) (ReadOne.refused 2))
+whole-case : (s : List ℕ) (a b : Bool)
+    → treeRead (pick a (PlanOne.refused 2) (pick b (elementIn false (length s + 1) 1 0 s) (PlanOne.refused 2)))
+    ≡ pick a (ReadOne.refused 2) (pick b (readElement (length s + 1) 1 0 s) (ReadOne.refused 2))
 whole-case s true b = refl
 whole-case s false true = elements (length s + 1) 1 0 s
 whole-case s false false = refl

@@ -36,7 +36,8 @@ stepIn (PlanOne.one p size count) = Step.Whole size count
 -- what `read_cell` has read is what the element comes to
 abbrev pub begunFits : Bool → ℕ → ℕ → List ℕ → ElementBegun → Type 0
 begunFits planning depth count s (ElementBegun.Fault k) = (f : ℕ) → length s < f → Step.Fault k ≡ stepIn (elementIn planning f depth count s)
-begunFits planning depth count s (ElementBegun.Cell size) = ((f : ℕ) → length s < f → Step.Whole size (count + 1) ≡ stepIn (elementIn planning f depth count s)) × ((3 ≤ size) × (size ≤ length s)) × (count < 512)
+begunFits planning depth count s (ElementBegun.Cell size) =
+    ((f : ℕ) → length s < f → Step.Whole size (count + 1) ≡ stepIn (elementIn planning f depth count s)) × ((3 ≤ size) × (size ≤ length s)) × (count < 512)
 begunFits planning depth count s ElementBegun.Other = Unit
 
 abbrev pub sequenceFor : PlanAll → Sequence

@@ -1,4 +1,4 @@
--- An accepted typed list is a tree that the tree reader accepts: its nodes with their levels are the lines. Assumes nothing.
+-- An accepted typed list is a tree that the tree reader accepts: its nodes with their levels are the lines.
 use mathlib.Core.Path.{_≡_, refl, sym, ap, _∙_}
 use Prim.Native.Nat.{ℕ, zero, suc, _+_, _≤_, _<_, _/_, _%_}
 use native.Mathlib.Omega.{arith}
@@ -41,7 +41,8 @@ unfolding nodesBelow typedNodes
 below-none d [] h = refl
 below-none d (q ∷ r) h = rw (below-none (suc d) r (λ e. h (suc e)), h 0) refl
 
-parent-listed : (d : ℕ) (item : Item) (ks ts : Trees) → Suits item ks → typedNodes d (parent item ks) ++ typedNodes* d ts ≡ record { level = d; item = item } ∷ (typedNodes* (suc d) ks ++ typedNodes* d ts)
+parent-listed : (d : ℕ) (item : Item) (ks ts : Trees) → Suits item ks → typedNodes d (parent item ks) ++ typedNodes* d ts ≡ record { level = d; item = item }
+    ∷ (typedNodes* (suc d) ks ++ typedNodes* d ts)
 unfolding typedNodes
 parent-listed d (cell t) ks ts s = rw s refl
 parent-listed d (group a) ks ts s = refl
@@ -62,7 +63,8 @@ nodes-below : (ns : List TypedNode) → Chained ns → nodesBelow 0 (treesAt ns)
 unfolding treesAt Chained
 nodes-below [] c = below-none 0 (replicate 17 none) (none-replicate 17)
 nodes-below (n ∷ ns) c =
-    below-push 0 (n .level) (n .item) (treesAt ns) (omega (arith, levels-17 ns (c .2), c .0)) (suits (n .level) (n .item) ns (c .2) (c .1)) (far-none (n .level) (n .item) ns (c .2) (c .1))
+    below-push 0 (n .level) (n .item) (treesAt ns) (omega (arith, levels-17 ns (c .2), c .0)) (suits (n .level) (n .item) ns (c .2) (c .1))
+    (far-none (n .level) (n .item) ns (c .2) (c .1))
     ∙ ap (λ (j : ℕ). record { level = j; item = n .item } ∷ nodesBelow 0 (treesAt ns)) (zero-add (n .level))
     ∙ ap (λ (l : List TypedNode). n ∷ l) (nodes-below ns (c .2))
 
@@ -111,7 +113,12 @@ mutual
 
   depth-listed* : (ts : Trees) (d : ℕ) → d ≤ 16 → Every LowNode (typedNodes* d ts) → d + depth* ts ≤ 16
   depth-listed* none = λ d b h. omega arith
-  depth-listed* (more t ts) = λ d b h. omega (arith, depth-listed t d (every-front LowNode (typedNodes d t) (typedNodes* d ts) h), depth-listed* ts d b (every-back LowNode (typedNodes d t) (typedNodes* d ts) h))
+  depth-listed* (more t ts) = λ d b h.
+      omega (
+        arith,
+        depth-listed t d (every-front LowNode (typedNodes d t) (typedNodes* d ts) h),
+        depth-listed* ts d b (every-back LowNode (typedNodes d t) (typedNodes* d ts) h),
+      )
 
 mutual
   unfolding typedNodes Texts
@@ -122,7 +129,10 @@ mutual
 
   texts-listed* : (ts : Trees) (d : ℕ) → Every FairNode (typedNodes* d ts) → Texts* ts
   texts-listed* none = λ d h. tt
-  texts-listed* (more t ts) = λ d h. (texts-listed t d (every-front FairNode (typedNodes d t) (typedNodes* d ts) h), texts-listed* ts d (every-back FairNode (typedNodes d t) (typedNodes* d ts) h))
+  texts-listed* (more t ts) = λ d h. (
+    texts-listed t d (every-front FairNode (typedNodes d t) (typedNodes* d ts) h),
+    texts-listed* ts d (every-back FairNode (typedNodes d t) (typedNodes* d ts) h),
+  )
 
 -- ---- the texts of a line
 
@@ -153,7 +163,8 @@ plain-fair x n (b ∷ s) =
     fair-pick (eqb b 35) skip _ tt
     (fair-pick (isRow (b ∷ s)) _ _ (group-fair n across)
     (fair-pick (isColumn (b ∷ s)) _ _ (group-fair n down)
-    (fair-pick (eqb b 39) _ _ (cell-fair n (n + 1) (typedText (drop (n + 1) x)) (texts-fair false (drop (n + 1) x))) (cell-fair n n (typedText (drop n x)) (texts-fair false (drop n x))))))
+    (fair-pick (eqb b 39) _ _ (cell-fair n (n + 1) (typedText (drop (n + 1) x)) (texts-fair false (drop (n + 1) x)))
+    (cell-fair n n (typedText (drop n x)) (texts-fair false (drop n x))))))
 
 line-fair : (x : List ℕ) (d : ℕ) (item : Item) → oneLineOf x ≡ node d item → isText (ownText item) ≡ true
 unfolding oneLineOf
@@ -207,6 +218,7 @@ typed-meant t ns e =
     record {
       lines-are = r;
       read =
-          tree-bytes (rootOf ns) (omega (arith, i .short)) (omega (arith, i .few)) (omega (arith, depth-listed (rootOf ns) 0 (rw r (chained-low ns (i .chained))))) (texts-listed (rootOf ns) 0 (rw r f))
+          tree-bytes (rootOf ns) (omega (arith, i .short)) (omega (arith, i .few))
+          (omega (arith, depth-listed (rootOf ns) 0 (rw r (chained-low ns (i .chained))))) (texts-listed (rootOf ns) 0 (rw r f))
           ∙ ap (λ (k : ℕ). one (rootOf ns) (length (bytesOf (rootOf ns))) k) few;
     }

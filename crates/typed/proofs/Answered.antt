@@ -1,4 +1,4 @@
--- What `read_typed` answers. Assumes nothing.
+-- What `read_typed` answers.
 use mathlib.Core.Path.{_≡_, refl, sym, ap, _∙_}
 use Prim.Native.Nat.{ℕ, _≤_, _<_}
 use native.Mathlib.Omega.{arith}
@@ -22,7 +22,8 @@ use Rattle.typed.proofs.Listing.{Following, following-of, rooted}
 abbrev outcomeWith : Typed → List ℕ → TypedOutcome
 outcomeWith a o = record { answer = a; out = o }
 
-pub typed-long : (t o : List ℕ) (a : Typed) → 131072 < length t → a ≡ record { number = 30; count = 0; line = 0; column = 0 } → record { answer = a; out = o } ≡ typedOf t o
+pub typed-long : (t o : List ℕ) (a : Typed) → 131072 < length t → a ≡ record { number = 30; count = 0; line = 0; column = 0 }
+    → record { answer = a; out = o } ≡ typedOf t o
 unfolding typedOf
 typed-long t o a h e = rw (lt-ltb _ _ h) (ap (λ (y : Typed). outcomeWith y o) e)
 
@@ -31,7 +32,8 @@ unfolding typedOf
 typed-scan t o h = rw (le-ltb _ _ h)
 
 -- what is answered: 30, a fault of the scan, 8, or the tree's bytes
-pub typed-cases : (t o : List ℕ) (P : TypedOutcome → Type 0) → P (typedRefusal 30 0 0 o) → ((k l c : ℕ) → scanLines t ≡ stopped k l c → P (typedRefusal k l c o)) → P (typedRefusal 8 0 0 o)
+pub typed-cases : (t o : List ℕ) (P : TypedOutcome → Type 0) → P (typedRefusal 30 0 0 o)
+    → ((k l c : ℕ) → scanLines t ≡ stopped k l c → P (typedRefusal k l c o)) → P (typedRefusal 8 0 0 o)
     → ((ns : List TypedNode) → scanLines t ≡ found ns → P (typedAccepted (bytesOf (rootOf ns)) o)) → P (typedOf t o)
 unfolding typedOf
 typed-cases t o P long stop short done = whole (ltb 131072 (length t))
@@ -55,7 +57,8 @@ pub record GotNodes (t : List ℕ) (r : Scanned) : Type 0 where
   pub found-is : NodesFound t of r
 
 module _ (t o : List ℕ) (small : length t ≤ 131072) (r : Scanned) (told : ScanTold t (scanLines t) r) where
-  pub typed-stop : (r .number ≡ 0 → ⊥) → (a : Typed) → a ≡ record { number = r .number; count = 0; line = r .line; column = r .column } → record { answer = a; out = o } ≡ typedOf t o
+  pub typed-stop : (r .number ≡ 0 → ⊥) → (a : Typed) → a ≡ record { number = r .number; count = 0; line = r .line; column = r .column }
+      → record { answer = a; out = o } ≡ typedOf t o
   typed-stop bad a e = ap (λ (y : Typed). outcomeWith y o) e ∙ go (scanLines t) told ∙ sym (typed-scan t o small)
     where
       go : (s : TypedScan) → ScanTold t s r → outcomeWith (record { number = r .number; count = 0; line = r .line; column = r .column }) o ≡ outcomeOf s o
@@ -79,10 +82,12 @@ module _ (t o : List ℕ) (small : length t ≤ 131072) (r : Scanned) (told : Sc
     root-long : length (bytesOf (rootOf (g .of))) ≡ r .total
     root-long = ap length (sym root-bytes) ∙ flatOf-length (g .of) ∙ sym (g .found-is .total-is)
 
-    pub typed-short : length o < r .total → (a : Typed) → a ≡ record { number = 8; count = 0; line = 0; column = 0 } → record { answer = a; out = o } ≡ typedOf t o
+    pub typed-short : length o < r .total → (a : Typed) → a ≡ record { number = 8; count = 0; line = 0; column = 0 }
+        → record { answer = a; out = o } ≡ typedOf t o
     typed-short h a e =
         ap (λ (y : Typed). outcomeWith y o) e
-        ∙ sym (typed-scan t o small ∙ ap (λ (s : TypedScan). outcomeOf s o) (g .is) ∙ (rw (lt-ltb (length o) (length (bytesOf (rootOf (g .of)))) (omega (arith, root-long)))))
+        ∙ sym (typed-scan t o small ∙ ap (λ (s : TypedScan). outcomeOf s o) (g .is)
+        ∙ (rw (lt-ltb (length o) (length (bytesOf (rootOf (g .of)))) (omega (arith, root-long)))))
 
     pub nodes-ready : (room : ℕ) → r .total ≤ room → ReadyNodes t (r .spots) (r .count) (r .total) room (g .of)
     nodes-ready room h = record {
@@ -95,7 +100,11 @@ module _ (t o : List ℕ) (small : length t ≤ 131072) (r : Scanned) (told : Sc
       held = g .found-is .held;
     }
 
-    pub typed-done : r .total ≤ length o → (o′ : List ℕ) → o′ ≡ sets o 0 (flatOf (g .of)) → record { answer = record { number = 0; count = r .total; line = 0; column = 0 }; out = o′ } ≡ typedOf t o
+    pub typed-done : r .total ≤ length o → (o′ : List ℕ) → o′ ≡ sets o 0 (flatOf (g .of)) → record {
+      answer =
+          record { number = 0; count = r .total; line = 0; column = 0 };
+      out = o′;
+    } ≡ typedOf t o
     typed-done h o′ e =
         let b : List ℕ = bytesOf (rootOf (g .of)) in
         let n : length (flatOf (g .of)) ≡ r .total = flatOf-length (g .of) ∙ sym (g .found-is .total-is) in
@@ -103,4 +112,5 @@ module _ (t o : List ℕ) (small : length t ≤ 131072) (r : Scanned) (told : Sc
         e ∙ sets-eq (flatOf (g .of)) o 0 (omega arith) ∙ (rw (zero-add (length (flatOf (g .of))), root-bytes)) in
         ap (λ (m : ℕ). outcomeWith (record { number = 0; count = m; line = 0; column = 0 }) o′) (sym root-long)
         ∙ ap (outcomeWith (record { number = 0; count = length b; line = 0; column = 0 })) w
-        ∙ sym (typed-scan t o small ∙ ap (λ (s : TypedScan). outcomeOf s o) (g .is) ∙ (rw (le-ltb (length o) (length (bytesOf (rootOf (g .of)))) (omega (arith, root-long)))))
+        ∙ sym (typed-scan t o small ∙ ap (λ (s : TypedScan). outcomeOf s o) (g .is)
+        ∙ (rw (le-ltb (length o) (length (bytesOf (rootOf (g .of)))) (omega (arith, root-long)))))

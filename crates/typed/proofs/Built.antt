@@ -1,4 +1,4 @@
--- The trees that the nodes make, level by level, and their bytes. Assumes nothing.
+-- The trees that the nodes make, level by level, and their bytes.
 use mathlib.Core.Path.{_≡_, refl, sym, ap, _∙_}
 use Prim.Native.Nat.{ℕ, zero, suc, _+_, _≤_, _<_, _/_, _%_}
 use native.Mathlib.Omega.{arith}
@@ -65,7 +65,8 @@ none-below [] m c s e h = none-replicate 17 e
 none-below (n ∷ ns) m c s e h =
     either e (suc (n .level))
     (λ a. let q : e ≡ suc (n .level) = omega arith in rw q (push-next (n .level) (n .item) (treesAt ns)))
-    (λ a. push-far (n .level) (n .item) (treesAt ns) e a ∙ none-below ns (levelUnder (n .level) (n .item)) (c .2) (c .1) e (omega (arith, under-low (n .level) (n .item))))
+    (λ a. push-far (n .level) (n .item) (treesAt ns) e a
+    ∙ none-below ns (levelUnder (n .level) (n .item)) (c .2) (c .1) e (omega (arith, under-low (n .level) (n .item))))
 
 -- the children that wait for a node suit it
 pub suits : (d : ℕ) (item : Item) (ns : List TypedNode) → Chained ns → Starts (levelUnder d item) ns → Suits item (getD (treesAt ns) (suc d) none)
@@ -104,7 +105,8 @@ sizes-push (suc d) item [] h s = absurd (omega arith)
 sizes-push (suc d) item (q ∷ r) h s = ap (λ (l : List ℕ). treesSize q ∷ l) (sizes-push d item r (omega arith) s)
 
 -- what waits at all levels
-sum-push : (d : ℕ) (item : Item) (p : List Trees) → suc d < length p → Suits item (getD p (suc d) none) → total (map treesSize (push d item p)) ≡ total (map treesSize p) + 3 + length (ownText item)
+sum-push : (d : ℕ) (item : Item) (p : List Trees) → suc d < length p → Suits item (getD p (suc d) none)
+    → total (map treesSize (push d item p)) ≡ total (map treesSize p) + 3 + length (ownText item)
 unfolding push total
 sum-push zero item [] h s = absurd (omega arith)
 sum-push zero item (q ∷ []) h s = absurd (omega arith)
@@ -120,7 +122,11 @@ sum-none (suc n) = omega (arith, size-none, sum-none n)
 sum-is : (ns : List TypedNode) → Chained ns → total (map treesSize (treesAt ns)) ≡ totalOf ns
 unfolding treesAt Chained totalOf
 sum-is [] c = sum-none 17
-sum-is (n ∷ ns) c = omega (arith, sum-push (n .level) (n .item) (treesAt ns) (omega (arith, levels-17 ns (c .2))) (suits (n .level) (n .item) ns (c .2) (c .1)), sum-is ns (c .2))
+sum-is (n ∷ ns) c = omega (
+  arith,
+  sum-push (n .level) (n .item) (treesAt ns) (omega (arith, levels-17 ns (c .2))) (suits (n .level) (n .item) ns (c .2) (c .1)),
+  sum-is ns (c .2),
+)
 
 part-of-sum : (p : List Trees) (e : ℕ) → treesSize (getD p e none) ≤ total (map treesSize p)
 unfolding total
@@ -171,7 +177,8 @@ unfolding flatOf treesAt Chained
 flat-deep [] c = sym (deep-none (replicate 17 none) (none-replicate 17))
 flat-deep (n ∷ ns) c =
     ap (λ (l : List ℕ). itemFront (n .item) (getD (treesAt ns) (suc (n .level)) none) ++ l) (flat-deep ns (c .2))
-    ∙ sym (deep-push (n .level) (n .item) (treesAt ns) (omega (arith, levels-17 ns (c .2))) (suits (n .level) (n .item) ns (c .2) (c .1)) (far-none (n .level) (n .item) ns (c .2) (c .1)))
+    ∙ sym (deep-push (n .level) (n .item) (treesAt ns) (omega (arith, levels-17 ns (c .2))) (suits (n .level) (n .item) ns (c .2) (c .1))
+    (far-none (n .level) (n .item) ns (c .2) (c .1)))
 
 pub flatOf-length : (ns : List TypedNode) → length (flatOf ns) ≡ totalOf ns
 unfolding flatOf totalOf
@@ -209,7 +216,8 @@ pub record OneRoot (p : List Trees) : Type 0 where
   pub is : p ≡ more root none ∷ rest
   pub empty : (e : ℕ) → getD rest e none ≡ none
 
-one-root : (item : Item) (p : List Trees) → suc zero < length p → getD p 0 none ≡ none → ((e : ℕ) → suc zero < e → getD p e none ≡ none) → OneRoot (push zero item p)
+one-root : (item : Item) (p : List Trees) → suc zero < length p → getD p 0 none ≡ none → ((e : ℕ) → suc zero < e → getD p e none ≡ none)
+    → OneRoot (push zero item p)
 unfolding push
 one-root item [] h z f = absurd (omega arith)
 one-root item (q ∷ []) h z f = absurd (omega arith)
@@ -234,4 +242,5 @@ pub flat-is : (ns : List TypedNode) → Rooted ns → Chained ns → flatOf ns �
 unfolding deep bytesOf
 flat-is ns q c =
     let a = one-root-of ns q c in
-    flat-deep ns c ∙ ap deep (a .is) ∙ ap (λ (l : List ℕ). l ++ (bytesOf (a .root) ++ [])) (deep-none (a .rest) (a .empty)) ∙ append-nil (bytesOf (a .root)) ∙ ap bytesOf (sym (root-found ns a))
+    flat-deep ns c ∙ ap deep (a .is) ∙ ap (λ (l : List ℕ). l ++ (bytesOf (a .root) ++ [])) (deep-none (a .rest) (a .empty)) ∙ append-nil (bytesOf (a .root))
+    ∙ ap bytesOf (sym (root-found ns a))

@@ -1,4 +1,4 @@
--- The theorems about the call: what is accepted is the tree meant, where a fault is told, and every tree that the tree reader accepts can be typed. Assumes nothing.
+-- The theorems about the call: what is accepted is the tree meant, where a fault is told, and every tree that the tree reader accepts can be typed.
 use mathlib.Core.Path.{_≡_, refl, sym, ap, _∙_}
 use mathlib.Core.Logic.{inl, inr}
 use Prim.Native.Nat.{ℕ, _<_}
@@ -27,7 +27,8 @@ use Rattle.typed.proofs.RoundTrip.{round-trip}
 
 -- ---- an accepted call
 
-typed-written : (t o b : List ℕ) (root : Tree) → b ≡ bytesOf root → scanLines t ≡ found (typedNodes 0 root) → readTree b ≡ one root (length b) (nodes root) → TypedTree t o (typedAccepted b o)
+typed-written : (t o b : List ℕ) (root : Tree) → b ≡ bytesOf root → scanLines t ≡ found (typedNodes 0 root) → readTree b ≡ one root (length b) (nodes root)
+    → TypedTree t o (typedAccepted b o)
 typed-written t o b root i l r =
     let w : take (length b) (b ++ drop (length b) o) ≡ b = take-at b (drop (length b) o) (length b) refl in
     record { root = root; lines-are = l; bytes-are = w ∙ i; read = ap readTree w ∙ r; kept = drop-at b (drop (length b) o) (length b) refl }
@@ -36,7 +37,8 @@ typed-found : (t o : List ℕ) (ns : List TypedNode) → scanLines t ≡ found n
 typed-found t o ns e =
     let m = typed-meant t ns e in
     let n : length ns ≡ nodes (rootOf ns) = ap length (sym (m .lines-are)) ∙ nodes-listed (rootOf ns) 0 in
-    typed-written t o (bytesOf (rootOf ns)) (rootOf ns) refl (e ∙ ap found (sym (m .lines-are))) (m .read ∙ ap (λ (j : ℕ). one (rootOf ns) (length (bytesOf (rootOf ns))) j) n)
+    typed-written t o (bytesOf (rootOf ns)) (rootOf ns) refl (e ∙ ap found (sym (m .lines-are)))
+    (m .read ∙ ap (λ (j : ℕ). one (rootOf ns) (length (bytesOf (rootOf ns))) j) n)
 
 -- what is written is the bytes of the tree that the lines list, and the tree reader accepts them
 pub typed-accepted : (t o : List ℕ) → typedOf t o .answer .number ≡ 0 → TypedTree t o (typedOf t o)

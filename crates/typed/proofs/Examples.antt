@@ -1,4 +1,4 @@
--- Some typed lists, computed on the definition. Assumes nothing.
+-- Some typed lists, computed on the definition.
 use mathlib.Core.Path.{_≡_, refl}
 use mathlib.Core.List.{[], _∷_}
 use Rattle.tree.specs.Accepted.{bytesOf}
@@ -14,7 +14,8 @@ unfolding typedOf scanFrom placeFault oneLineOf plainLine withoutReturn spaces s
 cell-ab = refl
 
 -- `row`, and below it a Cell whose text is a line feed, with a carriage return at each line's end
-row-feed : typedOf (114 ∷ 111 ∷ 119 ∷ 13 ∷ 10 ∷ 32 ∷ 32 ∷ 92 ∷ 110 ∷ 13 ∷ 10 ∷ []) (9 ∷ 9 ∷ 9 ∷ 9 ∷ 9 ∷ 9 ∷ 9 ∷ []) ≡ typedAccepted (2 ∷ 0 ∷ 4 ∷ 1 ∷ 0 ∷ 1 ∷ 10 ∷ []) (9 ∷ 9 ∷ 9 ∷ 9 ∷ 9 ∷ 9 ∷ 9 ∷ [])
+row-feed : typedOf (114 ∷ 111 ∷ 119 ∷ 13 ∷ 10 ∷ 32 ∷ 32 ∷ 92 ∷ 110 ∷ 13 ∷ 10 ∷ []) (9 ∷ 9 ∷ 9 ∷ 9 ∷ 9 ∷ 9 ∷ 9 ∷ [])
+    ≡ typedAccepted (2 ∷ 0 ∷ 4 ∷ 1 ∷ 0 ∷ 1 ∷ 10 ∷ []) (9 ∷ 9 ∷ 9 ∷ 9 ∷ 9 ∷ 9 ∷ 9 ∷ [])
 unfolding typedOf scanFrom placeFault oneLineOf plainLine withoutReturn spaces sameBytes textFrom byteOf lines onto treesAt push bytesOf
 row-feed = refl
 

@@ -1,4 +1,4 @@
--- A fault's line and column are small: a list that is read has 131,072 bytes at the most. Assumes nothing.
+-- A fault's line and column are small: a list that is read has 131,072 bytes at the most.
 use mathlib.Core.Path.{_≡_, refl}
 use Prim.Native.Nat.{ℕ, zero, suc, _+_, _-_, _≤_}
 use native.Mathlib.Omega.{arith}

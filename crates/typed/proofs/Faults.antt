@@ -1,4 +1,4 @@
--- Where a fault is told: in a line of the list, or at its end. Assumes nothing.
+-- Where a fault is told: in a line of the list, or at its end.
 use mathlib.Core.Path.{_≡_, refl}
 use mathlib.Core.Logic.{_⊎_, inl, inr}
 use Prim.Native.Nat.{ℕ, suc, _+_, _*_, _-_, _≤_, _<_}
@@ -85,11 +85,13 @@ stop-end l z = go (eqb (z .count) 0)
 stop-more : (x : List ℕ) (xs : List (List ℕ)) → StopClaim xs → StopClaim (x ∷ xs)
 stop-more x xs ih l z = go (oneLineOf x) refl (line-in-bytes x)
   where
-    at-node : (d : ℕ) (item : Item) → oneLineOf x ≡ node d item → 2 * d < length (withoutReturn x) → (b : Bool) → eqb (placeFault z d (length (ownText item))) 0 ≡ b → StopIn l (x ∷ xs) (scanFrom l z (x ∷ xs))
+    at-node : (d : ℕ) (item : Item) → oneLineOf x ≡ node d item → 2 * d < length (withoutReturn x) → (b : Bool)
+        → eqb (placeFault z d (length (ownText item))) 0 ≡ b → StopIn l (x ∷ xs) (scanFrom l z (x ∷ xs))
     at-node d item q u true b =
         let n : TypedNode = record { level = d; item = item } in
         rw (scan-node l z x xs d item q (eqb-true (placeFault z d (length (ownText item))) 0 b))
-        (stop-adding l (x ∷ xs) n (scanFrom (suc l) (nextOf z d item) xs) (stop-later l x xs (scanFrom (suc l) (nextOf z d item) xs) (ih (suc l) (nextOf z d item))))
+        (stop-adding l (x ∷ xs) n (scanFrom (suc l) (nextOf z d item) xs)
+        (stop-later l x xs (scanFrom (suc l) (nextOf z d item) xs) (ih (suc l) (nextOf z d item))))
     at-node d item q u false b =
         let e = eqb-false (placeFault z d (length (ownText item))) 0 b in
         let p = place-number z d (length (ownText item)) e in

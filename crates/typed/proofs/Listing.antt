@@ -1,4 +1,4 @@
--- What the nodes of an accepted typed list are like. Assumes nothing.
+-- What the nodes of an accepted typed list are like.
 use mathlib.Core.Path.{_≡_, refl, sym, _∙_}
 use Prim.Native.Nat.{ℕ, suc, _+_, _≤_, _<_}
 use native.Mathlib.Omega.{arith}
@@ -53,9 +53,18 @@ claim-end l z ns a b e = go (eqb (z .count) 0) refl e
     go true c e = absurd (never 39 l 1 ns e)
     go false c e =
         let z₀ : ns ≡ [] = cc in
-        rw z₀ (record { starts = tt; chained = tt; deeper = λ h. tt; later = tt; short = omega arith; few = omega arith; some = λ h. absurd (eqb-false (z .count) 0 c h) })
+        rw z₀ (record {
+          starts = tt;
+          chained = tt;
+          deeper = λ h. tt;
+          later = tt;
+          short = omega arith;
+          few = omega arith;
+          some = λ h. absurd (eqb-false (z .count) 0 c h);
+        })
 
-node-more : (z : ScanState) (d : ℕ) (item : Item) (ms : List TypedNode) → NodeFits z d (length (ownText item)) → Following (nextOf z d item) ms → Following z (record { level = d; item = item } ∷ ms)
+node-more : (z : ScanState) (d : ℕ) (item : Item) (ms :
+    List TypedNode) → NodeFits z d (length (ownText item)) → Following (nextOf z d item) ms → Following z (record { level = d; item = item } ∷ ms)
 unfolding Chained totalOf
 node-more z d item ms f i = record {
   starts = f .allowed;

@@ -1,4 +1,4 @@
--- One line as it is read. Assumes nothing.
+-- One line as it is read.
 use mathlib.Core.Path.{_≡_, refl, sym, ap, _∙_}
 use Prim.Native.Nat.{ℕ, zero, suc, _+_, _*_, _-_, _≤_, _<_, _/_, _%_}
 use native.Mathlib.Omega.{arith}
@@ -84,7 +84,8 @@ both-only : (p : Bool) → both true p ≡ p
 both-only true = refl
 both-only false = refl
 
-pub word-three : (s : List ℕ) (w : ℕ) → length s ≡ 3 → w ≡ pick (both (both (eqb (getD s 2 0) 119) (eqb (getD s 1 0) 111)) (eqb (getD s 0 0) 114)) 2 1 → w ≡ wordKind s
+pub word-three : (s : List ℕ) (w : ℕ) → length s ≡ 3 → w ≡ pick (both (both (eqb (getD s 2 0) 119) (eqb (getD s 1 0) 111)) (eqb (getD s 0 0) 114)) 2 1
+    → w ≡ wordKind s
 unfolding wordKind sameBytes
 word-three [] w h e = absurd (omega arith)
 word-three (a ∷ []) w h e = absurd (omega arith)
@@ -93,7 +94,8 @@ word-three (a ∷ b ∷ c ∷ []) w h e = e ∙ (rw (not-same (a ∷ b ∷ c ∷
 word-three (a ∷ b ∷ c ∷ d ∷ s) w h e = absurd (omega arith)
 
 pub word-six : (s : List ℕ) (w : ℕ) → length s ≡ 6
-    → w ≡ pick (both (both (both (both (both (eqb (getD s 5 0) 110) (eqb (getD s 4 0) 109)) (eqb (getD s 3 0) 117)) (eqb (getD s 2 0) 108)) (eqb (getD s 1 0) 111)) (eqb (getD s 0 0) 99)) 3 1
+    → w ≡ pick (both (both (both (both (both (eqb (getD s 5 0) 110) (eqb (getD s 4 0) 109)) (eqb (getD s 3 0) 117)) (eqb (getD s 2 0) 108))
+    (eqb (getD s 1 0) 111)) (eqb (getD s 0 0) 99)) 3 1
     → w ≡ wordKind s
 unfolding wordKind sameBytes
 word-six [] w h e = absurd (omega arith)
@@ -111,10 +113,12 @@ word-else s h k = rw (not-same s (114 ∷ 111 ∷ 119 ∷ []) h, not-same s (99 
 
 -- ---- levels
 
-level-told : (x : List ℕ) (item : Item) (n kind start end len : ℕ) (r : Line) → n ≤ start → TextAt x item kind start end len → r ≡ levelLine n kind start end len → LineTold x (levelOf n item) r
+level-told : (x : List ℕ) (item : Item) (n kind start end len : ℕ) (r : Line) → n ≤ start → TextAt x item kind start end len
+    → r ≡ levelLine n kind start end len → LineTold x (levelOf n item) r
 level-told x item n kind start end len r a t e = go (eqb (n % 2) 0) refl e
   where
-    go : (b : Bool) → eqb (n % 2) 0 ≡ b → r ≡ pick b (record { number = 0; column = n + 1; kind = kind; level = n / 2; start = start; end = end; len = len }) (noLine 33 (n + 1)) → LineTold x (pick b (node (n / 2) item) (fault 33 (n + 1))) r
+    go : (b : Bool) → eqb (n % 2) 0 ≡ b → r ≡ pick b (record { number = 0; column = n + 1; kind = kind; level = n / 2; start = start; end = end; len = len })
+        (noLine 33 (n + 1)) → LineTold x (pick b (node (n / 2) item) (fault 33 (n + 1))) r
     go true b e =
         let z = eqb-true (n % 2) 0 b in
         rw e (refl, omega arith, refl, omega arith, t)
@@ -122,7 +126,8 @@ level-told x item n kind start end len r a t e = go (eqb (n % 2) 0) refl e
 
 -- ---- a Cell
 
-module _ (x : List ℕ) (n start : ℕ) (a : n ≤ start) (h : start ≤ length x) (k : TextCheck) (e : k ≡ checkedText (typedText (take (length x - start) (drop start x)))) (r : Line) where
+module _ (x : List ℕ) (n start : ℕ) (a : n ≤ start) (h : start ≤ length x) (k : TextCheck)
+    (e : k ≡ checkedText (typedText (take (length x - start) (drop start x)))) (r : Line) where
   to-end : k ≡ checkedText (typedText (drop start x))
   to-end = e ∙ ap (λ (y : List ℕ). checkedText (typedText y)) (part-to-end x start)
 
@@ -140,7 +145,14 @@ module _ (x : List ℕ) (n start : ℕ) (a : n ≤ start) (h : start ≤ length 
       go (wrong j i) d f = absurd (omega (arith, text-fault (drop start x) j i d .low, ap (λ (y : TextCheck). y .number) f))
       go (text u) d f =
           level-told x (cell u) n 1 start (length x) (k .count) r a
-          (record { kind-is = refl; len-is = ap (λ (y : TextCheck). y .count) f; on = h; within = omega arith; text-is = ap typedText (part-to-end x start) ∙ d })
+          (record {
+            kind-is = refl;
+            len-is = ap (λ (y : TextCheck). y .count) f;
+            on = h;
+            within = omega arith;
+            text-is = ap typedText (part-to-end x start)
+                ∙ d;
+          })
           q
 
 -- ---- what stands after the spaces
@@ -182,10 +194,12 @@ module _ (x : List ℕ) (n : ℕ) (e : n ≡ spaces x) (r : Line) where
           go : (p s : Bool) → isRow (getD x n 0 ∷ drop (suc n) x) ≡ p → isColumn (getD x n 0 ∷ drop (suc n) x) ≡ s → PlainThere (getD x n 0 ∷ drop (suc n) x)
           go true s i j =
               let v : w ≡ 2 = word-is ∙ (rw i) in
-              rw (ne-eqb _ 35 c, i) (level-told x (group across) n 2 n n 0 r (omega arith) (empty-text x across n (omega arith)) (q ∙ ap (λ (m : ℕ). levelLine n m n n 0) v))
+              rw (ne-eqb _ 35 c, i)
+              (level-told x (group across) n 2 n n 0 r (omega arith) (empty-text x across n (omega arith)) (q ∙ ap (λ (m : ℕ). levelLine n m n n 0) v))
           go false true i j =
               let v : w ≡ 3 = word-is ∙ (rw (i, j)) in
-              rw (ne-eqb _ 35 c, i, j) (level-told x (group down) n 3 n n 0 r (omega arith) (empty-text x down n (omega arith)) (q ∙ ap (λ (m : ℕ). levelLine n m n n 0) v))
+              rw (ne-eqb _ 35 c, i, j)
+              (level-told x (group down) n 3 n n 0 r (omega arith) (empty-text x down n (omega arith)) (q ∙ ap (λ (m : ℕ). levelLine n m n n 0) v))
           go false false i j = absurd (z (word-is ∙ (rw (i, j))))
 
       module _ (z : w ≡ 1) where
@@ -223,7 +237,8 @@ take-drop-take n zero m (b ∷ t) h = take-take n m (b ∷ t) (omega arith)
 take-drop-take n (suc a) zero (b ∷ t) h = absurd (omega arith)
 take-drop-take n (suc a) (suc m) (b ∷ t) h = take-drop-take n a m t (omega arith)
 
-pub text-in : (t : List ℕ) (item : Item) (from m kind start end len : ℕ) → from + m ≤ length t → TextAt (take m (drop from t)) item kind start end len → TextAt t item kind (from + start) (from + end) len
+pub text-in : (t : List ℕ) (item : Item) (from m kind start end len : ℕ) → from + m ≤ length t → TextAt (take m (drop from t)) item kind start end len
+    → TextAt t item kind (from + start) (from + end) len
 text-in t item from m kind start end len h k =
     let l : length (take m (drop from t)) ≡ m = length-take-le m (drop from t) (rw length-drop (omega arith)) in
     let w : end ≤ m = omega (arith, k .within) in
@@ -239,9 +254,11 @@ text-in t item from m kind start end len h k =
 front-told : (x : List ℕ) (m : ℕ) (o : OneLine) (r : Line) → m ≤ length x → LineTold (take m x) o r → LineTold x o r
 front-told x m skip r h t = t
 front-told x m (fault k c) r h t = t
-front-told x m (node d item) r h t = (t .0, t .1, t .2, t .3, rw (zero-add (r .start), zero-add (r .end)) at (text-in x item 0 m (r .kind) (r .start) (r .end) (r .len) (omega arith) (t .4)))
+front-told x m (node d item) r h t =
+    (t .0, t .1, t .2, t .3, rw (zero-add (r .start), zero-add (r .end)) at (text-in x item 0 m (r .kind) (r .start) (r .end) (r .len) (omega arith) (t .4)))
 
-pub line-told : (x : List ℕ) (m : ℕ) (r : Line) → take m x ≡ withoutReturn x → m ≤ length x → LineTold (take m x) (plainOf (take m x)) r → LineTold x (oneLineOf x) r
+pub line-told : (x : List ℕ) (m : ℕ) (r : Line) → take m x ≡ withoutReturn x → m ≤ length x → LineTold (take m x) (plainOf (take m x)) r
+    → LineTold x (oneLineOf x) r
 unfolding oneLineOf
 line-told x m r e h t = front-told x m (plainOf (withoutReturn x)) r h (rw (sym e) t)
 
@@ -280,7 +297,13 @@ cell-in n start x h l = go (typedText (drop start x)) refl
     go (wrong k i) e =
         let w = text-fault (drop start x) k i e in
         let d = length-drop start x in
-        record { low = w .low; high = omega (arith, w .high); from-1 = omega arith; within = omega (arith, w .within); on-byte = λ z. omega (arith, w .on-byte z) }
+        record {
+          low = w .low;
+          high = omega (arith, w .high);
+          from-1 = omega arith;
+          within = omega (arith, w .within);
+          on-byte = λ z. omega (arith, w .on-byte z);
+        }
     go (text t) e = level-in (length x) n (cell t) h
 
 plain-in : (x : List ℕ) (n : ℕ) (y : List ℕ) → length y ≡ length x - n → LineIn (length x) (plainLine x n y)

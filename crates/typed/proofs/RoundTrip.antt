@@ -1,4 +1,4 @@
--- Every tree within the limits of 01 can be typed: its text is read as that tree. Assumes nothing.
+-- Every tree within the limits of 01 can be typed: its text is read as that tree.
 use mathlib.Core.Path.{_≡_, refl, sym, ap, _∙_}
 use mathlib.Core.Logic.{_≢_}
 use Prim.Native.Nat.{ℕ, zero, suc, _+_, _*_, _-_, _≤_, _<_, _/_, _%_}
@@ -65,13 +65,16 @@ unfolding escaped textFrom byteOf
 text-typed [] h = refl
 text-typed (b ∷ t) h = go (eqb b 10) (eqb b 92) refl refl (text-typed t (text-first b t h .1))
   where
-    go : (p q : Bool) → eqb b 10 ≡ p → eqb b 92 ≡ q → typedText (escaped t) ≡ text t → typedText (pick p (92 ∷ 110 ∷ escaped t) (pick q (92 ∷ 92 ∷ escaped t) (b ∷ escaped t))) ≡ text (b ∷ t)
+    go : (p q : Bool) → eqb b 10 ≡ p → eqb b 92 ≡ q → typedText (escaped t) ≡ text t
+        → typedText (pick p (92 ∷ 110 ∷ escaped t) (pick q (92 ∷ 92 ∷ escaped t) (b ∷ escaped t))) ≡ text (b ∷ t)
     go true q x y ih =
         let e = eqb-true b 10 x in
-        text-escape false 92 (110 ∷ escaped t) refl ∙ ap laterText (text-put true 110 10 (escaped t) refl ∙ ap (putting 10) ih) ∙ ap (λ (c : ℕ). text (c ∷ t)) (sym e)
+        text-escape false 92 (110 ∷ escaped t) refl ∙ ap laterText (text-put true 110 10 (escaped t) refl ∙ ap (putting 10) ih)
+        ∙ ap (λ (c : ℕ). text (c ∷ t)) (sym e)
     go false true x y ih =
         let e = eqb-true b 92 y in
-        text-escape false 92 (92 ∷ escaped t) refl ∙ ap laterText (text-put true 92 92 (escaped t) refl ∙ ap (putting 92) ih) ∙ ap (λ (c : ℕ). text (c ∷ t)) (sym e)
+        text-escape false 92 (92 ∷ escaped t) refl ∙ ap laterText (text-put true 92 92 (escaped t) refl ∙ ap (putting 92) ih)
+        ∙ ap (λ (c : ℕ). text (c ∷ t)) (sym e)
     go false false x y ih =
         let l = byte-low b (text-first b t h .0) x in
         text-put false b b (escaped t) (plain-put b y (l .0) (l .1)) ∙ ap (putting b) ih
@@ -86,7 +89,8 @@ unfolding escaped
 shown-escaped [] h = tt
 shown-escaped (b ∷ t) h = go (eqb b 10) (eqb b 92) refl (shown-escaped t (text-first b t h .1))
   where
-    go : (p q : Bool) → eqb b 10 ≡ p → Every ShownByte (escaped t) → Every ShownByte (pick p (92 ∷ 110 ∷ escaped t) (pick q (92 ∷ 92 ∷ escaped t) (b ∷ escaped t)))
+    go : (p q : Bool) → eqb b 10 ≡ p → Every ShownByte (escaped t)
+        → Every ShownByte (pick p (92 ∷ 110 ∷ escaped t) (pick q (92 ∷ 92 ∷ escaped t) (b ∷ escaped t)))
     go true q x k = (omega arith, (omega arith, k))
     go false true x k = (omega arith, (omega arith, k))
     go false false x k = (ltb-false b 32 (byte-low b (text-first b t h .0) x .0), k)
@@ -101,7 +105,8 @@ shown-body (group a) h = shown-word a
 
 shown-line : (n : TypedNode) → isText (ownText (n .item)) ≡ true → Every ShownByte (typedLine n)
 unfolding typedLine
-shown-line n h = every-append ShownByte (replicate (2 * n .level) 32) (typedBody (n .item)) (every-replicate ShownByte (2 * n .level) 32 (omega arith)) (shown-body (n .item) h)
+shown-line n h = every-append ShownByte (replicate (2 * n .level) 32) (typedBody (n .item)) (every-replicate ShownByte (2 * n .level) 32
+    (omega arith)) (shown-body (n .item) h)
 
 not-feed : (b : ℕ) → 32 ≤ b → b ≢ 10
 not-feed b h e = omega arith
@@ -141,9 +146,12 @@ after-one k b s = rw (add-one k) (go k)
 plain-typed : (d : ℕ) (item : Item) → isText (ownText item) ≡ true → plainOf (replicate (2 * d) 32 ++ typedBody item) ≡ node d item
 unfolding plainLine sameBytes
 plain-typed d (cell t) h =
-    rw (spaces-typed (2 * d) 39 (escaped t) (λ e. omega arith), after-spaces (2 * d) (39 ∷ escaped t), after-one (2 * d) 39 (escaped t), text-typed t h) (level-typed d (cell t))
-plain-typed d (group across) h = rw (spaces-typed (2 * d) 114 (111 ∷ 119 ∷ []) (λ e. omega arith), after-spaces (2 * d) (axisWord across)) (level-typed d (group across))
-plain-typed d (group down) h = rw (spaces-typed (2 * d) 99 (111 ∷ 108 ∷ 117 ∷ 109 ∷ 110 ∷ []) (λ e. omega arith), after-spaces (2 * d) (axisWord down)) (level-typed d (group down))
+    rw (spaces-typed (2 * d) 39 (escaped t) (λ e. omega arith), after-spaces (2 * d) (39 ∷ escaped t), after-one (2 * d) 39 (escaped t), text-typed t h)
+    (level-typed d (cell t))
+plain-typed d (group across) h =
+    rw (spaces-typed (2 * d) 114 (111 ∷ 119 ∷ []) (λ e. omega arith), after-spaces (2 * d) (axisWord across)) (level-typed d (group across))
+plain-typed d (group down) h =
+    rw (spaces-typed (2 * d) 99 (111 ∷ 108 ∷ 117 ∷ 109 ∷ 110 ∷ []) (λ e. omega arith), after-spaces (2 * d) (axisWord down)) (level-typed d (group down))
 
 whole-line : (x : List ℕ) → Every ShownByte x → withoutReturn x ≡ x
 unfolding withoutReturn
@@ -157,7 +165,8 @@ line-typed n h = rw (whole-line (replicate (2 * n .level) 32 ++ typedBody (n .it
 
 unfoldable PlacedNodes : ScanState → List TypedNode → Type 0
 PlacedNodes z [] = 0 < z .count
-PlacedNodes z (n ∷ ns) = (isText (ownText (n .item)) ≡ true) × (placeFault z (n .level) (length (ownText (n .item))) ≡ 0) × PlacedNodes (nextOf z (n .level) (n .item)) ns
+PlacedNodes z (n ∷ ns) =
+    (isText (ownText (n .item)) ≡ true) × (placeFault z (n .level) (length (ownText (n .item))) ≡ 0) × PlacedNodes (nextOf z (n .level) (n .item)) ns
 
 scan-end : (l : ℕ) (z : ScanState) → 0 < z .count → scanFrom l z [] ≡ found []
 unfolding scanFrom
@@ -196,10 +205,12 @@ record TreeRoom (z : ScanState) (d n k g : ℕ) : Type 0 where
   short : z .total + k ≤ 32768
 
 abbrev TreePlaced : Tree → Type 0
-TreePlaced t = (d : ℕ) (z : ScanState) (ms : List TypedNode) → Texts t → TreeRoom z d (nodes t) (length (bytesOf t)) (depth t) → ((z′ : ScanState) → After z z′ d (nodes t) (length (bytesOf t)) → PlacedNodes z′ ms) → PlacedNodes z (typedNodes d t ++ ms)
+TreePlaced t = (d : ℕ) (z : ScanState) (ms : List TypedNode) → Texts t → TreeRoom z d (nodes t) (length (bytesOf t)) (depth t)
+    → ((z′ : ScanState) → After z z′ d (nodes t) (length (bytesOf t)) → PlacedNodes z′ ms) → PlacedNodes z (typedNodes d t ++ ms)
 
 abbrev TreesPlaced : Trees → Type 0
-TreesPlaced ts = (d : ℕ) (z : ScanState) (ms : List TypedNode) → 0 < d → Texts* ts → TreeRoom z d (nodes* ts) (length (bytesOf* ts)) (depth* ts) → ((z′ : ScanState) → After z z′ d (nodes* ts) (length (bytesOf* ts)) → PlacedNodes z′ ms) → PlacedNodes z (typedNodes* d ts ++ ms)
+TreesPlaced ts = (d : ℕ) (z : ScanState) (ms : List TypedNode) → 0 < d → Texts* ts → TreeRoom z d (nodes* ts) (length (bytesOf* ts)) (depth* ts)
+    → ((z′ : ScanState) → After z z′ d (nodes* ts) (length (bytesOf* ts)) → PlacedNodes z′ ms) → PlacedNodes z (typedNodes* d ts ++ ms)
 
 cell-placed : (t : List ℕ) → TreePlaced (tree.cell t)
 unfolding typedNodes PlacedNodes Texts nodes depth bytesOf
@@ -215,7 +226,13 @@ group-placed a ts ih d z ms x r k = (
   refl,
   place-zero z d 0 (r .root) (r .allowed) (omega (arith, r .shallow)) (omega (arith, r .few)) (omega (arith, r .short)),
   ih (suc d) (nextOf z d (group a)) ms (omega arith) x
-      (record { root = λ e. absurd (omega arith); allowed = omega arith; shallow = omega (arith, r .shallow); few = omega (arith, r .few); short = omega (arith, r .short) })
+      (record {
+        root = λ e. absurd (omega arith);
+        allowed = omega arith;
+        shallow = omega (arith, r .shallow);
+        few = omega (arith, r .few);
+        short = omega (arith, r .short);
+      })
       (λ z′ q. k z′ (record { count-is = omega (arith, q .count-is); total-is = omega (arith, q .total-is); allowed = omega (arith, q .allowed) })),
 )
 
@@ -231,7 +248,13 @@ more-placed t ts ih₁ ih₂ d z ms b x r k =
     (ih₁ d z (typedNodes* d ts ++ ms) (x .0)
     (record { root = r .root; allowed = r .allowed; shallow = omega (arith, r .shallow); few = omega (arith, r .few); short = omega (arith, r .short) })
     (λ z′ q. ih₂ d z′ ms b (x .1)
-    (record { root = λ v. absurd (omega arith); allowed = q .allowed; shallow = omega (arith, r .shallow); few = omega (arith, r .few, q .count-is); short = omega (arith, r .short, q .total-is) })
+    (record {
+      root = λ v. absurd (omega arith);
+      allowed = q .allowed;
+      shallow = omega (arith, r .shallow);
+      few = omega (arith, r .few, q .count-is);
+      short = omega (arith, r .short, q .total-is);
+    })
     (λ z″ u. k z″ (record { count-is = omega (arith, q .count-is, u .count-is); total-is = omega (arith, q .total-is, u .total-is); allowed = u .allowed }))))
 
 mutual
@@ -296,7 +319,8 @@ push-cell zero u (q ∷ []) h e = absurd (omega arith)
 push-cell zero u (q ∷ k ∷ r) h e = rw e
 push-cell (suc d) u (q ∷ r) h e = ap (λ (l : List Trees). q ∷ l) (push-cell d u r (omega arith) e)
 
-push-group : (d : ℕ) (a : Axis) (ts : Trees) (p : List Trees) → suc d < length p → getD p (suc d) none ≡ none → push d (group a) (addAll (suc d) ts p) ≡ add d (tree.group a ts) p
+push-group : (d : ℕ) (a : Axis) (ts : Trees) (p : List Trees) → suc d < length p → getD p (suc d) none ≡ none
+    → push d (group a) (addAll (suc d) ts p) ≡ add d (tree.group a ts) p
 unfolding add push
 push-group d a ts [] h e = absurd (omega arith)
 push-group zero a ts (q ∷ []) h e = absurd (omega arith)
@@ -304,10 +328,12 @@ push-group zero a ts (q ∷ k ∷ r) h e = rw (all-under 0 ts q (k ∷ r), e, al
 push-group (suc d) a ts (q ∷ r) h e = rw (all-under (suc d) ts q r) (ap (λ (l : List Trees). q ∷ l) (push-group d a ts r (omega arith) e))
 
 abbrev TreeBuilt : Tree → Type 0
-TreeBuilt t = (d : ℕ) (ms : List TypedNode) → d + depth t ≤ 16 → length (treesAt ms) ≡ 17 → ((e : ℕ) → d < e → getD (treesAt ms) e none ≡ none) → treesAt (typedNodes d t ++ ms) ≡ add d t (treesAt ms)
+TreeBuilt t = (d : ℕ) (ms : List TypedNode) → d + depth t ≤ 16 → length (treesAt ms) ≡ 17 → ((e : ℕ) → d < e → getD (treesAt ms) e none ≡ none)
+    → treesAt (typedNodes d t ++ ms) ≡ add d t (treesAt ms)
 
 abbrev TreesBuilt : Trees → Type 0
-TreesBuilt ts = (d : ℕ) (ms : List TypedNode) → d + depth* ts ≤ 16 → length (treesAt ms) ≡ 17 → ((e : ℕ) → d < e → getD (treesAt ms) e none ≡ none) → treesAt (typedNodes* d ts ++ ms) ≡ addAll d ts (treesAt ms)
+TreesBuilt ts = (d : ℕ) (ms : List TypedNode) → d + depth* ts ≤ 16 → length (treesAt ms) ≡ 17 → ((e : ℕ) → d < e → getD (treesAt ms) e none ≡ none)
+    → treesAt (typedNodes* d ts ++ ms) ≡ addAll d ts (treesAt ms)
 
 cell-built : (u : List ℕ) → TreeBuilt (tree.cell u)
 unfolding typedNodes depth treesAt
@@ -328,7 +354,8 @@ unfolding typedNodes depth addAll
 more-built t ts ih₁ ih₂ d ms b l f =
     let q = ih₂ d ms (omega arith) l f in
     ap treesAt (append-assoc (typedNodes d t) (typedNodes* d ts) ms)
-    ∙ ih₁ d (typedNodes* d ts ++ ms) (omega arith) (ap length q ∙ length-add-all d ts (treesAt ms) ∙ l) (λ e h. ap (λ (p : List Trees). getD p e none) q ∙ add-all-far d ts (treesAt ms) e h ∙ f e h)
+    ∙ ih₁ d (typedNodes* d ts ++ ms) (omega arith) (ap length q ∙ length-add-all d ts (treesAt ms) ∙ l)
+    (λ e h. ap (λ (p : List Trees). getD p e none) q ∙ add-all-far d ts (treesAt ms) e h ∙ f e h)
     ∙ ap (add d t) q
 
 mutual
@@ -353,7 +380,8 @@ unfolding escaped
 escaped-short [] = omega arith
 escaped-short (b ∷ t) = go (eqb b 10) (eqb b 92) (escaped-short t)
   where
-    go : (p q : Bool) → length (escaped t) ≤ 2 * length t → length (pick p (92 ∷ 110 ∷ escaped t) (pick q (92 ∷ 92 ∷ escaped t) (b ∷ escaped t))) ≤ 2 * suc (length t)
+    go : (p q : Bool) → length (escaped t) ≤ 2 * length t
+        → length (pick p (92 ∷ 110 ∷ escaped t) (pick q (92 ∷ 92 ∷ escaped t) (b ∷ escaped t))) ≤ 2 * suc (length t)
     go true q h = omega arith
     go false true h = omega arith
     go false false h = omega arith
@@ -365,13 +393,19 @@ body-short (group down) = omega arith
 
 line-short : (n : TypedNode) → n .level < 16 → length (typedLine n) ≤ 36 + 2 * length (ownText (n .item))
 unfolding typedLine
-line-short n h = omega (arith, length-append (replicate (2 * n .level) 32) (typedBody (n .item)), length-replicate {A = ℕ} (2 * n .level) 32, body-short (n .item))
+line-short n h = omega (
+  arith,
+  length-append (replicate (2 * n .level) 32) (typedBody (n .item)),
+  length-replicate {A = ℕ} (2 * n .level) 32,
+  body-short (n .item),
+)
 
 feeds-short : (ns : List TypedNode) → Every LowNode ns → length (joinLines (map typedLine ns)) ≤ 2 * totalOf ns + 31 * length ns
 unfolding joinLines totalOf
 feeds-short [] h = omega arith
 feeds-short (n ∷ []) h = omega (arith, line-short n (h .0))
-feeds-short (n ∷ m ∷ ns) h = omega (arith, line-short n (h .0), length-append (typedLine n) (10 ∷ joinLines (map typedLine (m ∷ ns))), feeds-short (m ∷ ns) (h .1))
+feeds-short (n ∷ m ∷ ns) h =
+    omega (arith, line-short n (h .0), length-append (typedLine n) (10 ∷ joinLines (map typedLine (m ∷ ns))), feeds-short (m ∷ ns) (h .1))
 
 -- ---- the theorem
 

@@ -1,4 +1,4 @@
--- The lines of a typed list, one after the other. Assumes nothing.
+-- The lines of a typed list, one after the other.
 use mathlib.Core.Path.{_≡_, refl, sym, ap, _∙_}
 use Prim.Native.Nat.{ℕ, suc, _+_, _*_, _-_, _≤_, _<_}
 use native.Mathlib.Omega.{arith}
@@ -71,7 +71,8 @@ total-more (m ∷ ns) n = omega (arith, total-more ns n)
 held-none : (t : List ℕ) (spots : List NodeSpot) → SpotsHeld t [] spots
 held-none t spots i h = absurd (omega arith)
 
-held-more : (t : List ℕ) (ns : List TypedNode) (spots : List NodeSpot) (n : TypedNode) (s : NodeSpot) → length ns < length spots → SpotsHeld t ns spots → Spotted t n s → SpotsHeld t (ns ++ (n ∷ [])) (set spots (length ns) s)
+held-more : (t : List ℕ) (ns : List TypedNode) (spots : List NodeSpot) (n : TypedNode) (s : NodeSpot) → length ns < length spots → SpotsHeld t ns spots
+    → Spotted t n s → SpotsHeld t (ns ++ (n ∷ [])) (set spots (length ns) s)
 held-more t ns spots n s h k q i b =
     let few : length (ns ++ (n ∷ [])) ≡ length ns + 1 = length-append ns (n ∷ []) in
     either (length ns) i
@@ -149,7 +150,8 @@ place-fits z d n h =
     }
 
 module _ (t : List ℕ) (small : length t ≤ 131072) (spots : List NodeSpot) (z : ScanState) (l from : ℕ) (R : Reading t spots z l from) (h : from ≤ length t)
-    (e : ℕ) (is : e ≡ from + firstFeed (drop from t)) (r : Line) (told : LineTold (take (e - from) (drop from t)) (oneLineOf (take (e - from) (drop from t))) r) where
+    (e : ℕ) (is : e ≡ from + firstFeed (drop from t)) (r : Line)
+    (told : LineTold (take (e - from) (drop from t)) (oneLineOf (take (e - from) (drop from t))) r) where
   abbrev x : List ℕ
   x = take (e - from) (drop from t)
 
@@ -168,8 +170,17 @@ module _ (t : List ℕ) (small : length t ≤ 131072) (spots : List NodeSpot) (z
       go (node d item) k =
           let a = k .4 in
           let b = text-short (take (r .end - r .start) (drop (r .start) x)) (ownText item) (a .text-is) in
-          let f : length (take (r .end - r .start) (drop (r .start) x)) ≤ length x = omega (arith, length-take (r .end - r .start) (drop (r .start) x), length-drop (r .start) x) in
-          (record { count = R .count; total = R .total; level = omega (arith, k .2, k .3, a .on, a .within, line-small); len = omega (arith, a .len-is, line-small) }, omega (arith, a .on, a .within, line-small), omega (arith, a .within, line-small))
+          let f : length (take (r .end - r .start) (drop (r .start) x)) ≤ length x =
+          omega (arith, length-take (r .end - r .start) (drop (r .start) x), length-drop (r .start) x) in (
+            record {
+              count = R .count;
+              total = R .total;
+              level = omega (arith, k .2, k .3, a .on, a .within, line-small);
+              len = omega (arith, a .len-is, line-small);
+            },
+            omega (arith, a .on, a .within, line-small),
+            omega (arith, a .within, line-small),
+          )
 
   module _ (k : ℕ) (ke : k ≡ lineFault z r) where
     node-fault : (d : ℕ) (item : Item) → LineTold x (node d item) r → k ≡ placeFault z d (length (ownText item))
@@ -190,7 +201,8 @@ module _ (t : List ℕ) (small : length t ≤ 131072) (spots : List NodeSpot) (z
             stop j c (scan-fault l z x (linesFrom (e + 1) t) j c q) (u .0) v (ap (λ (y : Line). y .column) (u .1))
         go (node d item) q u =
             let v = node-fault d item u in
-            stop (placeFault z d (length (ownText item))) (2 * d + 1) (scan-refused l z x (linesFrom (e + 1) t) d item q (λ w. bad (v ∙ w))) (omega (arith, bad)) v (u .1)
+            stop (placeFault z d (length (ownText item))) (2 * d + 1) (scan-refused l z x (linesFrom (e + 1) t) d item q (λ w. bad (v ∙ w)))
+            (omega (arith, bad)) v (u .1)
 
     reading-skip : k ≡ 0 → r .kind ≡ 0 → Reading t spots z (l + 1) (e + 1)
     reading-skip good none = go (oneLineOf x) refl told
@@ -206,7 +218,8 @@ module _ (t : List ℕ) (small : length t ≤ 131072) (spots : List NodeSpot) (z
           count-is = R .count-is;
           total-is = R .total-is;
           held = R .held;
-          all = R .all ∙ ap (nodesBefore (R .done)) (here ∙ scan-skip l z x (linesFrom (e + 1) t) q ∙ ap (λ (m : ℕ). scanFrom m z (linesFrom (e + 1) t)) (sym (add-one l)));
+          all = R .all ∙ ap (nodesBefore (R .done))
+              (here ∙ scan-skip l z x (linesFrom (e + 1) t) q ∙ ap (λ (m : ℕ). scanFrom m z (linesFrom (e + 1) t)) (sym (add-one l)));
         }
         go (fault j c) q u =
             let v : k ≡ j = ke ∙ (rw (u .1, ne-eqb j 0 (λ w. omega (arith, u .0)))) in
@@ -227,7 +240,8 @@ module _ (t : List ℕ) (small : length t ≤ 131072) (spots : List NodeSpot) (z
             let f = place-fits z d (length (ownText item)) v in
             let n : TypedNode = record { level = d; item = item } in
             let w : nextLine z r ≡ nextOf z d item = rw (u .2, under-is d item (r .kind) (a .kind-is), a .len-is) in
-            let i : TextAt t item (r .kind) (from + r .start) (from + r .end) (r .len) = text-in t item from (e - from) (r .kind) (r .start) (r .end) (r .len) (omega (arith, line-in t from h e is, line-from t from h e is)) a in
+            let i : TextAt t item (r .kind) (from + r .start) (from + r .end) (r .len) =
+            text-in t item from (e - from) (r .kind) (r .start) (r .end) (r .len) (omega (arith, line-in t from h e is, line-from t from h e is)) a in
             record {
               within = omega (arith, line-in t from h e is);
               few = omega (arith, R .few, line-from t from h e is);
@@ -237,7 +251,9 @@ module _ (t : List ℕ) (small : length t ≤ 131072) (spots : List NodeSpot) (z
               done = R .done ++ (n ∷ []);
               count-is = omega (arith, R .count-is, length-append (R .done) (n ∷ []));
               total-is = omega (arith, R .total-is, total-more (R .done) n, a .len-is);
-              held = rw (R .count-is) (held-more t (R .done) spots n (spotFor r from) (omega (arith, f .few, R .count-is, R .long)) (R .held) (record { level-is = u .2; text-at = i }));
+              held = rw (R .count-is)
+                  (held-more t (R .done) spots n (spotFor r from) (omega (arith, f .few, R .count-is, R .long)) (R .held)
+                  (record { level-is = u .2; text-at = i }));
               all =
                   R .all
                   ∙ ap (nodesBefore (R .done)) (here ∙ scan-node l z x (linesFrom (e + 1) t) d item q v)
@@ -247,7 +263,8 @@ module _ (t : List ℕ) (small : length t ≤ 131072) (spots : List NodeSpot) (z
             }
 
     -- as the code has it, after the store
-    pub reading-next : (spots′ : List NodeSpot) (z′ : ScanState) (s : NodeSpot) → spots′ ≡ set spots (z .count) s → s ≡ spotFor r from → z′ ≡ nextLine z r → k ≡ 0 → (r .kind ≡ 0 → ⊥) → Reading t spots′ z′ (l + 1) (e + 1)
+    pub reading-next : (spots′ : List NodeSpot) (z′ : ScanState) (s : NodeSpot) → spots′ ≡ set spots (z .count) s → s ≡ spotFor r from → z′ ≡ nextLine z r
+        → k ≡ 0 → (r .kind ≡ 0 → ⊥) → Reading t spots′ z′ (l + 1) (e + 1)
     reading-next spots′ z′ s a b d good some = rw (a, b, d) (reading-node good some)
 
     pub reading-same : (spots′ : List NodeSpot) (z′ : ScanState) → spots′ ≡ spots → z′ ≡ z → k ≡ 0 → r .kind ≡ 0 → Reading t spots′ z′ (l + 1) (e + 1)

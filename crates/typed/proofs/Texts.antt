@@ -1,4 +1,4 @@
--- Texts as they are typed, byte by byte. Assumes nothing.
+-- Texts as they are typed, byte by byte.
 use mathlib.Core.Path.{_≡_, refl, sym, ap, _∙_}
 use Prim.Native.Nat.{ℕ, suc, _+_, _≤_, _<_}
 use native.Mathlib.Omega.{arith}
@@ -98,8 +98,20 @@ module _ (s : List ℕ) (e : Bool) (n i : ℕ) (k : CountedText s e n i) (h : i 
 
   next-count : (x : Byte) → byteOf e (getD s i 0) ≡ x → NextCount x
   unfolding NextCount
-  next-count (Put c) b z = record { within = omega arith; few = omega (arith, k .few); all = k .all ∙ ap (countAll i n) (from-cons s e i h ∙ text-put e (getD s i 0) c (drop (i + 1) s) b) ∙ all-put i n c (textFrom false (drop (i + 1) s)) }
-  next-count Escape b z = record { within = omega arith; few = omega (arith, k .few); all = k .all ∙ ap (countAll i n) (from-cons s e i h ∙ text-escape e (getD s i 0) (drop (i + 1) s) b) ∙ all-later i n (textFrom true (drop (i + 1) s)) }
+  next-count (Put c) b z =
+      record {
+        within = omega arith;
+        few = omega (arith, k .few);
+        all = k .all
+            ∙ ap (countAll i n) (from-cons s e i h ∙ text-put e (getD s i 0) c (drop (i + 1) s) b) ∙ all-put i n c (textFrom false (drop (i + 1) s));
+      }
+  next-count Escape b z =
+      record {
+        within = omega arith;
+        few = omega (arith, k .few);
+        all = k .all
+            ∙ ap (countAll i n) (from-cons s e i h ∙ text-escape e (getD s i 0) (drop (i + 1) s) b) ∙ all-later i n (textFrom true (drop (i + 1) s));
+      }
   next-count (Wrong j) b z = absurd (omega (arith, byte-wrong e (getD s i 0) j b .0))
 
   pub counted-on : (r : Count) → r ≡ countedByte (byteOf e (getD s i 0)) n → r .number ≡ 0 → CountedText s (r .escaped) (r .n) (i + 1)
@@ -113,7 +125,8 @@ module _ (s : List ℕ) (e : Bool) (n i : ℕ) (k : CountedText s e n i) (h : i 
       let q : i ≡ i + 0 = omega arith in
       ap (checkedAt j) q ∙ sym (k .all ∙ ap (countAll i n) (from-cons s e i h ∙ text-wrong e (getD s i 0) j (drop (i + 1) s) b))
 
-  pub counted-stop : (r : Count) → r ≡ countedByte (byteOf e (getD s i 0)) n → (r .number ≡ 0 → ⊥) → record { number = r .number; count = i } ≡ checkedText (typedText s)
+  pub counted-stop : (r : Count) → r ≡ countedByte (byteOf e (getD s i 0)) n → (r .number ≡ 0 → ⊥) → record { number = r .number; count = i }
+      ≡ checkedText (typedText s)
   counted-stop r q z = rw q (stop (byteOf e (getD s i 0)) refl (rw q at z))
 
 module _ (s : List ℕ) (e : Bool) (n i : ℕ) (k : CountedText s e n i) (h : length s ≤ i) where
@@ -201,7 +214,8 @@ module _ (s o₀ o : List ℕ) (at : ℕ) (e : Bool) (p i : ℕ) (k : TextLeft s
   pub text-left-on : (w : ByteWritten) → w ≡ writtenOf (byteOf e (getD s i 0)) p o → TextLeft s o₀ (w .out) at (w .pen .escaped) (w .pen .at) (i + 1)
   text-left-on w q = rw q (pen-step (byteOf e (getD s i 0)) refl)
 
-pub text-left-none : (s o₀ o : List ℕ) (at : ℕ) (e : Bool) (p i : ℕ) → TextLeft s o₀ o at e p i → length s ≤ i → (t : List ℕ) → typedText s ≡ text t → o ≡ sets o₀ at t
+pub text-left-none : (s o₀ o : List ℕ) (at : ℕ) (e : Bool) (p i : ℕ) → TextLeft s o₀ o at e p i → length s ≤ i → (t : List ℕ) → typedText s ≡ text t
+    → o ≡ sets o₀ at t
 text-left-none s o₀ o at e p i k h t q = go e (text-end e s i h) (k .is)
   where
     go : (e : Bool) → textFrom e (drop i s) ≡ endedText e → textFrom e (drop i s) ≡ text (k .left) → o ≡ sets o₀ at t

@@ -1,4 +1,4 @@
--- The nodes' bytes as they are written, from the last node to the first. Assumes nothing.
+-- The nodes' bytes as they are written, from the last node to the first.
 use mathlib.Core.Path.{_≡_, refl, sym, ap, _∙_}
 use Prim.Native.Nat.{ℕ, zero, suc, _+_, _-_, _≤_, _<_, _/_, _%_}
 use native.Mathlib.Omega.{arith}
@@ -20,7 +20,8 @@ pub good-room : (s : List ℕ) (at room room′ : ℕ) → room′ ≡ room → 
 good-room s at room room′ e g = record { of = g .of; is = g .is; fits = omega (arith, g .fits) }
 
 -- an element's front with the text behind it
-pub front-text : (o o′ : List ℕ) (p tag n : ℕ) (t : List ℕ) → n < 65536 → o′ ≡ set (set (set o p tag) (p + 1) (n / 256 % 256)) (p + 2) (n % 256) → sets o′ (p + 3) t ≡ sets o p (tag ∷ (n / 256) ∷ (n % 256) ∷ t)
+pub front-text : (o o′ : List ℕ) (p tag n : ℕ) (t : List ℕ) → n < 65536 → o′ ≡ set (set (set o p tag) (p + 1) (n / 256 % 256)) (p + 2) (n % 256)
+    → sets o′ (p + 3) t ≡ sets o p (tag ∷ (n / 256) ∷ (n % 256) ∷ t)
 front-text o o′ p tag n t h q =
     let a : p + 2 ≡ suc (suc p) = omega arith in
     let b : p + 3 ≡ suc (suc (suc p)) = omega arith in
@@ -51,7 +52,8 @@ size-nones : (n : ℕ) → map treesSize (replicate n none) ≡ replicate n 0
 size-nones zero = refl
 size-nones (suc n) = rw (size-nones n, sym (size-at [] 0))
 
-pub writing-none : (t : List ℕ) (spots : List NodeSpot) (count total room : ℕ) (ns : List TypedNode) → ReadyNodes t spots count total room ns → (o : List ℕ) → NodesWriting ns o o (replicate 17 0) count total
+pub writing-none : (t : List ℕ) (spots : List NodeSpot) (count total room : ℕ) (ns : List TypedNode) → ReadyNodes t spots count total room ns → (o : List ℕ)
+    → NodesWriting ns o o (replicate 17 0) count total
 unfolding treesAt totalOf flatOf
 writing-none t spots count total room ns r o =
     let e : drop count ns ≡ [] = drop-of-length-le ns {i = count} (omega (arith, r .count-is)) in
@@ -62,7 +64,8 @@ writing-none t spots count total room ns r o =
       out-is = rw e refl;
     }
 
-module _ (t : List ℕ) (spots : List NodeSpot) (count total room : ℕ) (ns : List TypedNode) (r : ReadyNodes t spots count total room ns) (o₀ o sizes : List ℕ) (i p : ℕ) (w : NodesWriting ns o₀ o sizes i p) (h : 0 < i) where
+module _ (t : List ℕ) (spots : List NodeSpot) (count total room : ℕ) (ns : List TypedNode) (r : ReadyNodes t spots count total room ns) (o₀ o sizes : List ℕ)
+    (i p : ℕ) (w : NodesWriting ns o₀ o sizes i p) (h : 0 < i) where
   abbrev n : TypedNode
   n = getD ns (i - 1) noNode
 
@@ -101,7 +104,8 @@ module _ (t : List ℕ) (spots : List NodeSpot) (count total room : ℕ) (ns : L
   module _ (inside : ℕ) (ie : inside ≡ s .len + getD sizes (s .level + 1) 0) where
     pub grown-small : getD sizes (s .level) 0 + 3 + inside < 131072
     grown-small =
-        let e : getD sizes (s .level) 0 ≡ treesSize (getD (treesAt (drop i ns)) (s .level) none) = rw (w .sizes-are) (size-at (treesAt (drop i ns)) (s .level)) in
+        let e : getD sizes (s .level) 0 ≡ treesSize (getD (treesAt (drop i ns)) (s .level) none) =
+        rw (w .sizes-are) (size-at (treesAt (drop i ns)) (s .level)) in
         omega (arith, inside-small, trees-size-low (drop i ns) (chain .2) (s .level), whole, r .small, r .total-is)
 
     inside-has : inside ≡ insideOf (n .item) (getD (treesAt (drop i ns)) (suc (n .level)) none)
@@ -112,7 +116,11 @@ module _ (t : List ℕ) (spots : List NodeSpot) (count total room : ℕ) (ns : L
       on = spotted .text-at .on;
       within = spotted .text-at .within;
       small = omega (arith, inside-small);
-      good = record { of = ownText (n .item); is = spotted .text-at .text-is; fits = omega (arith, room-before, spotted .text-at .len-is, w .place, r .total-is, r .fits) };
+      good = record {
+        of = ownText (n .item);
+        is = spotted .text-at .text-is;
+        fits = omega (arith, room-before, spotted .text-at .len-is, w .place, r .total-is, r .fits);
+      };
     }
 
     flat-more : flatOf (drop (i - 1) ns) ≡ (s .kind ∷ (inside / 256) ∷ (inside % 256) ∷ ownText (n .item)) ++ flatOf (drop i ns)
@@ -128,7 +136,8 @@ module _ (t : List ℕ) (spots : List NodeSpot) (count total room : ℕ) (ns : L
     placed-at e = rw e (omega (arith, room-before, w .place, spotted .text-at .len-is))
 
     pub writing-more : (o′ sizes′ : List ℕ)
-        → ((u : List ℕ) → typedText (take (s .end - s .start) (drop (s .start) t)) ≡ text u → o′ ≡ sets o (p - 3 - s .len) (s .kind ∷ (inside / 256) ∷ (inside % 256) ∷ u))
+        → ((u : List ℕ) → typedText (take (s .end - s .start) (drop (s .start) t)) ≡ text u
+        → o′ ≡ sets o (p - 3 - s .len) (s .kind ∷ (inside / 256) ∷ (inside % 256) ∷ u))
         → sizes′ ≡ set (set sizes (s .level) (getD sizes (s .level) 0 + 3 + inside)) (s .level + 1) 0 → NodesWriting ns o₀ o′ sizes′ (i - 1) (p - 3 - s .len)
     writing-more o′ sizes′ oe se =
         let us : List ℕ = s .kind ∷ (inside / 256) ∷ (inside % 256) ∷ ownText (n .item) in
@@ -138,7 +147,8 @@ module _ (t : List ℕ) (spots : List NodeSpot) (count total room : ℕ) (ns : L
           sizes-are =
               se
               ∙ (rw (w .sizes-are, spotted .level-is, add-one (n .level), inside-has))
-              ∙ sym (sizes-push (n .level) (n .item) (treesAt (drop i ns)) (omega (arith, chain .0, levels-17 (drop i ns) (chain .2))) (suits (n .level) (n .item) (drop i ns) (chain .2) (chain .1)))
+              ∙ sym (sizes-push (n .level) (n .item) (treesAt (drop i ns)) (omega (arith, chain .0, levels-17 (drop i ns) (chain .2)))
+              (suits (n .level) (n .item) (drop i ns) (chain .2) (chain .1)))
               ∙ sizes-more split;
           place = placed-at split;
           out-is =

@@ -35,7 +35,8 @@ abbrev pub noLine : ℕ → ℕ → Line
 noLine k c = record { number = k; column = c; kind = 0; level = 0; start = 0; end = 0; len = 0 }
 
 abbrev pub levelLine : ℕ → ℕ → ℕ → ℕ → ℕ → Line
-levelLine n kind start end len = pick (eqb (n % 2) 0) (record { number = 0; column = n + 1; kind = kind; level = n / 2; start = start; end = end; len = len }) (noLine 33 (n + 1))
+levelLine n kind start end len =
+    pick (eqb (n % 2) 0) (record { number = 0; column = n + 1; kind = kind; level = n / 2; start = start; end = end; len = len }) (noLine 33 (n + 1))
 
 -- the text of the item stands in x from `start` up to `end`
 pub record TextAt (x : List ℕ) (item : Item) (kind start end len : ℕ) : Type 0 where
@@ -49,7 +50,8 @@ pub record TextAt (x : List ℕ) (item : Item) (kind start end len : ℕ) : Type
 abbrev pub LineTold : List ℕ → OneLine → Line → Type 0
 LineTold x skip l = l ≡ noLine 0 0
 LineTold x (fault k c) l = (0 < k) × (l ≡ noLine k c)
-LineTold x (node d item) l = (l .number ≡ 0) × (l .column ≡ 2 * d + 1) × (l .level ≡ d) × (2 * d ≤ l .start) × TextAt x item (l .kind) (l .start) (l .end) (l .len)
+LineTold x (node d item) l =
+    (l .number ≡ 0) × (l .column ≡ 2 * d + 1) × (l .level ≡ d) × (2 * d ≤ l .start) × TextAt x item (l .kind) (l .start) (l .end) (l .len)
 
 abbrev pub lineFault : ScanState → Line → ℕ
 lineFault z l = pick (eqb (l .number) 0) (pick (eqb (l .kind) 0) 0 (placeFault z (l .level) (l .len))) (l .number)

@@ -142,7 +142,8 @@ fn write_byte(escaped: bool, b: u8, out: &mut [u8], at: usize) -> WriteCursor
 // A text that was checked goes to `at`.
 pub fn write_text(raw: &[u8], out: &mut [u8], at: usize)
     requires { ⌜ Good (now raw) at (length (now out)) ⌝ }
-    ensures { λ _. ⌜ ((t : List ℕ) → typedText (now (raw .entry)) ≡ Rattle.typed.specs.Text.Text.text t → now (out .exit) ≡ sets (now (out .entry)) at t) ⌝ }
+    ensures { λ _. ⌜ ((t : List ℕ) → typedText (now (raw .entry)) ≡ Rattle.typed.specs.Text.Text.text t
+        → now (out .exit) ≡ sets (now (out .entry)) at t) ⌝ }
 {
     let mut escaped = false;
     let mut p = at;

@@ -14,7 +14,8 @@ ghost use Rattle.typed.specs.Contracts.{flatOf, SpotReady, ReadyNodes, S
 // The front and the text of one node, at `p`.
 fn write_spot(text: &[u8], s: NodeSpot, inside: usize, out: &mut [u8], p: usize)
     requires { ⌜ SpotReady (now text) s inside p (length (now out)) ⌝ }
-    ensures { λ _. ⌜ ((t : List ℕ) → typedText (take (s .end - s .start) (drop (s .start) (now (text .entry)))) ≡ Rattle.typed.specs.Text.Text.text t → now (out .exit) ≡ sets (now (out .entry)) p (s .kind ∷ (inside / 256) ∷ (inside % 256) ∷ t)) ⌝ }
+    ensures { λ _. ⌜ ((t : List ℕ) → typedText (take (s .end - s .start) (drop (s .start) (now (text .entry)))) ≡ Rattle.typed.specs.Text.Text.text t
+        → now (out .exit) ≡ sets (now (out .entry)) p (s .kind ∷ (inside / 256) ∷ (inside % 256) ∷ t)) ⌝ }
 {
     put_front(out, p, s.kind, inside);
     let start = s.start;
@@ -45,7 +46,8 @@ fn grown(sizes: [usize; 17], level: usize, inside: usize) -> [usize; 17]
 // `sizes` has for each level the bytes of the elements there that are written and wait for their parent.
 pub fn write_spots(text: &[u8], spots: [NodeSpot; 512], count: usize, total: usize, out: &mut [u8])
     requires { ⌜ SomeReady (now text) spots count total (length (now out)) ⌝ }
-    ensures { λ _. ⌜ ((ns : List TypedNode) → ReadyNodes (now (text .entry)) spots count total (length (now (out .entry))) ns → now (out .exit) ≡ sets (now (out .entry)) 0 (flatOf ns)) ⌝ }
+    ensures { λ _. ⌜ ((ns : List TypedNode) → ReadyNodes (now (text .entry)) spots count total (length (now (out .entry))) ns
+        → now (out .exit) ≡ sets (now (out .entry)) 0 (flatOf ns)) ⌝ }
 {
     let mut sizes = [0usize; 17];
     let mut i = count;

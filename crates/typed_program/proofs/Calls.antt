@@ -1,4 +1,4 @@
--- `prints-typed`: what the program prints of a list without a fault. Assumes nothing.
+-- `prints-typed`: what the program prints of a list without a fault.
 use mathlib.Core.Path.{_≡_, refl, ap, _∙_}
 use Prim.Native.Nat.{ℕ}
 use mathlib.Core.List.{List}

@@ -1,4 +1,4 @@
--- Words, numbers and places of faults, put one after the other. Assumes nothing.
+-- Words, numbers and places of faults, put one after the other.
 use mathlib.Core.Path.{_≡_, refl, sym, _∙_}
 use Prim.Native.Nat.{ℕ, zero, suc, _+_, _-_, _/_, _%_, _≤_, _<_, min}
 use native.Mathlib.Omega.{arith}
@@ -34,7 +34,8 @@ module _ (o : List ℕ) (at : ℕ) where
   one-digit zero n z h = absurd (z refl)
   one-digit (suc places) n z h = rw (lt-ltb n 10 h) (record { end-is = omega arith; out-is = refl })
 
-  pub more-digits : (places n : ℕ) → (places ≡ 0 → ⊥) → 10 ≤ n → (r : ℕ) (o₁ : List ℕ) → Wrote r (at + length (digits (places - 1) (n / 10))) o₁ (sets o at (digits (places - 1) (n / 10)))
+  pub more-digits : (places n : ℕ) → (places ≡ 0 → ⊥) → 10 ≤ n → (r : ℕ) (o₁ : List ℕ)
+      → Wrote r (at + length (digits (places - 1) (n / 10))) o₁ (sets o at (digits (places - 1) (n / 10)))
       → Wrote (r + 1) (at + length (digits places n)) (set o₁ r (48 + n % 10)) (sets o at (digits places n))
   unfolding digits
   more-digits zero n z h r o₁ w = absurd (z refl)
@@ -92,7 +93,18 @@ words-left : (k : ℕ) → ((i : ℕ) → i < 10 → k ≡ 30 + i → ⊥) → f
 unfolding faultWords
 words-left k other =
     let f : (i : ℕ) → i < 10 → eqb k (30 + i) ≡ false = λ i h. ne-eqb k (30 + i) (other i h) in
-    rw (f 0 (omega arith), f 1 (omega arith), f 2 (omega arith), f 3 (omega arith), f 4 (omega arith), f 5 (omega arith), f 6 (omega arith), f 7 (omega arith), f 8 (omega arith), f 9 (omega arith))
+    rw (
+      f 0 (omega arith),
+      f 1 (omega arith),
+      f 2 (omega arith),
+      f 3 (omega arith),
+      f 4 (omega arith),
+      f 5 (omega arith),
+      f 6 (omega arith),
+      f 7 (omega arith),
+      f 8 (omega arith),
+      f 9 (omega arith),
+    )
 
 pub words-below : (k : ℕ) → k < 30 → faultWords k ≡ wordsLarge
 words-below k h = words-left k (λ i b e. omega arith)
@@ -102,7 +114,8 @@ words-above k h = words-left k (λ i b e. omega arith)
 
 -- ---- one text after another
 
-pub then-wrote : (o o₁ o₂ x y : List ℕ) (at r q : ℕ) → Wrote r (at + length x) o₁ (sets o at x) → Wrote q (r + length y) o₂ (sets o₁ r y) → Wrote q (at + length (x ++ y)) o₂ (sets o at (x ++ y))
+pub then-wrote : (o o₁ o₂ x y : List ℕ) (at r q : ℕ) → Wrote r (at + length x) o₁ (sets o at x) → Wrote q (r + length y) o₂ (sets o₁ r y)
+    → Wrote q (at + length (x ++ y)) o₂ (sets o at (x ++ y))
 then-wrote o o₁ o₂ x y at r q a b =
     record { end-is = omega (arith, a .end-is, b .end-is, length-append x y); out-is = b .out-is ∙ rw (a .out-is, a .end-is) (sym (sets-append x y o at)) }
 
@@ -123,8 +136,10 @@ module _ (l c : ℕ) (z : l ≡ 0 → ⊥) where
   place-is = rw (ne-eqb l 0 z) (five lineText (decimal l) columnText (decimal c) colonText)
 
   -- `line `, the line, `, column `, the column, `: `
-  pub place-put : (o o₁ o₂ o₃ o₄ o₅ : List ℕ) (r₁ r₂ r₃ r₄ r₅ : ℕ) → Wrote r₁ (0 + 5) o₁ (sets o 0 lineText) → Wrote r₂ (r₁ + length (decimal l)) o₂ (sets o₁ r₁ (decimal l))
-      → Wrote r₃ (r₂ + 9) o₃ (sets o₂ r₂ columnText) → Wrote r₄ (r₃ + length (decimal c)) o₄ (sets o₃ r₃ (decimal c)) → Wrote r₅ (r₄ + 2) o₅ (sets o₄ r₄ colonText)
+  pub place-put : (o o₁ o₂ o₃ o₄ o₅ : List ℕ) (r₁ r₂ r₃ r₄ r₅ : ℕ) → Wrote r₁ (0 + 5) o₁ (sets o 0 lineText)
+      → Wrote r₂ (r₁ + length (decimal l)) o₂ (sets o₁ r₁ (decimal l))
+      → Wrote r₃ (r₂ + 9) o₃ (sets o₂ r₂ columnText) → Wrote r₄ (r₃ + length (decimal c)) o₄ (sets o₃ r₃ (decimal c))
+      → Wrote r₅ (r₄ + 2) o₅ (sets o₄ r₄ colonText)
       → Wrote r₅ (length (placeText l c)) o₅ (sets o 0 (placeText l c)) × (r₅ ≤ 30)
   place-put o o₁ o₂ o₃ o₄ o₅ r₁ r₂ r₃ r₄ r₅ w₁ w₂ w₃ w₄ w₅ =
       let a = then-wrote o o₁ o₂ lineText (decimal l) 0 r₁ r₂ w₁ w₂ in
@@ -134,7 +149,8 @@ module _ (l c : ℕ) (z : l ≡ 0 → ⊥) where
       (from-front r₅ o₅ o _ _ place-is e, omega (arith, w₁ .end-is, w₂ .end-is, w₃ .end-is, w₄ .end-is, w₅ .end-is, digits-few 6 l, digits-few 6 c))
 
 -- the place, the words and 0A
-pub fault-put : (k l c : ℕ) (o o₁ o₂ : List ℕ) (r q : ℕ) → Wrote r (length (placeText l c)) o₁ (sets o 0 (placeText l c)) → Wrote q (r + length (faultWords k)) o₂ (sets o₁ r (faultWords k))
+pub fault-put : (k l c : ℕ) (o o₁ o₂ : List ℕ) (r q : ℕ) → Wrote r (length (placeText l c)) o₁ (sets o 0 (placeText l c))
+    → Wrote q (r + length (faultWords k)) o₂ (sets o₁ r (faultWords k))
     → Wrote (q + 1) (length (faultText k l c)) (set o₂ q 10) (sets o 0 (faultText k l c))
 unfolding faultText
 fault-put k l c o o₁ o₂ r q a b =

@@ -1,4 +1,4 @@
--- What the sheet printer's answer says of what is printed of a tree, and what the reader's says of a typed list. Assumes nothing.
+-- What the sheet printer's answer says of what is printed of a tree, and what the reader's says of a typed list.
 use mathlib.Core.Path.{_≡_, refl, sym, ap, _∙_}
 use Prim.Native.Nat.{ℕ, _+_, _≤_, _<_}
 use native.Mathlib.Omega.{arith}
@@ -44,14 +44,19 @@ module _ (o : List ℕ) (long : 64160 ≤ length o) where
   refused-told : (i : Input) (k : ℕ) → 1 ≤ k → treeText i ≡ faultText k 0 0 → TreeTold (treeText i) o (noPrint k o .answer) (noPrint k o .out)
   refused-told i k low e = record { no = λ z. (refl, e); yes = λ z. absurd (omega (arith, z)) }
 
-  sheet-there : (s : Settings) (t : Tree) → tooLarge s t ≡ false → TreeTold (treeText (given s t)) o (printTo (sheet s t) o .answer) (printTo (sheet s t) o .out)
+  sheet-there : (s : Settings) (t : Tree) → tooLarge s t ≡ false
+      → TreeTold (treeText (given s t)) o (printTo (sheet s t) o .answer) (printTo (sheet s t) o .out)
   unfolding treeText
   sheet-there s t large =
       let fits : length (sheet s t) < 64160 = largest s t large in
       let e : ltb (length o) (length (sheet s t)) ≡ false = le-ltb (length o) (length (sheet s t)) (omega arith) in
-      rw e (record { no = λ z. absurd (z refl); yes = λ z. record { bytes = sheet s t; is = rw large; count = refl; room = fits; out = sym (sets-front (sheet s t) o (omega arith)) } })
+      rw e (record {
+        no = λ z. absurd (z refl);
+        yes = λ z. record { bytes = sheet s t; is = rw large; count = refl; room = fits; out = sym (sets-front (sheet s t) o (omega arith)) };
+      })
 
-  large-case : (s : Settings) (t : Tree) (b : Bool) → tooLarge s t ≡ b → TreeTold (treeText (given s t)) o (pick b (noPrint 6 o) (printTo (sheet s t) o) .answer) (pick b (noPrint 6 o) (printTo (sheet s t) o) .out)
+  large-case : (s : Settings) (t : Tree) (b : Bool) → tooLarge s t ≡ b
+      → TreeTold (treeText (given s t)) o (pick b (noPrint 6 o) (printTo (sheet s t) o) .answer) (pick b (noPrint 6 o) (printTo (sheet s t) o) .out)
   unfolding treeText
   large-case s t true e = refused-told (given s t) 6 (omega arith) (rw e)
   large-case s t false e = sheet-there s t e
@@ -61,7 +66,8 @@ module _ (o : List ℕ) (long : 64160 ≤ length o) where
   input-case bs ts (refused k) e = refused-told (refused k) k (input-refusal bs ts k e .0) refl
   input-case bs ts (given s t) e = large-case s t (tooLarge s t) refl
 
-  pub tree-told : (bs ts : List ℕ) (w : Written) (o₁ : List ℕ) → w ≡ sheetOf (inputOf bs ts) o .answer → o₁ ≡ sheetOf (inputOf bs ts) o .out → TreeTold (treeText (inputOf bs ts)) o w o₁
+  pub tree-told : (bs ts : List ℕ) (w : Written) (o₁ : List ℕ) → w ≡ sheetOf (inputOf bs ts) o .answer → o₁ ≡ sheetOf (inputOf bs ts) o .out
+      → TreeTold (treeText (inputOf bs ts)) o w o₁
   tree-told bs ts w o₁ ew eo = rw (ew, eo) (input-case bs ts (inputOf bs ts) refl)
 
 -- what the program promises of its output: these bytes at its front, and its length
@@ -77,11 +83,15 @@ module _ (text o : List ℕ) (long : 64160 ≡ length o) where
   sheet-put w o₁ k =
       let c : 0 + length (k .bytes) ≡ w .count = omega (arith, k .count) in
       all-written (w .count + 1) (set o₁ (w .count) 10)
-      (rw (k .is) (record { end-is = omega (arith, k .count, length-append (k .bytes) (10 ∷ [])); out-is = rw (k .out, ← c) (sym (sets-append (k .bytes) (10 ∷ []) o 0)) }))
+      (rw (k .is) (record {
+        end-is = omega (arith, k .count, length-append (k .bytes) (10 ∷ []));
+        out-is = rw (k .out, ← c) (sym (sets-append (k .bytes) (10 ∷ []) o 0));
+      }))
       (omega (arith, k .room))
 
   -- the words of a fault
-  pub fault-said : (k l c r : ℕ) (o₁ o₂ : List ℕ) → o₁ ≡ o → text ≡ faultText k l c → Wrote r (length (faultText k l c)) o₂ (sets o₁ 0 (faultText k l c)) → r ≤ 200 → AllWritten r o₂ o text
+  pub fault-said : (k l c r : ℕ) (o₁ o₂ : List ℕ) → o₁ ≡ o → text ≡ faultText k l c → Wrote r (length (faultText k l c)) o₂ (sets o₁ 0 (faultText k l c))
+      → r ≤ 200 → AllWritten r o₂ o text
   fault-said k l c r o₁ o₂ e d x h = all-written r o₂ (rw d (record { end-is = x .end-is; out-is = x .out-is ∙ rw e })) (omega arith)
 
 -- ---- what the reader answered

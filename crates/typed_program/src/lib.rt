@@ -29,7 +29,8 @@ pub fn input_buffer() -> [u8; INPUT_BYTES]
 
 // The sheet of a tree under the default settings and 0A, or why there is none.
 fn print_tree(tree: &[u8], out: &mut [u8; ANSWER_BYTES]) -> usize
-    ensures { λ r. ⌜ Wrote r (length (treeText (inputOf (settingsBytes defaults) (now (tree .entry))))) (now (out .exit)) (sets (now (out .entry)) 0 (treeText (inputOf (settingsBytes defaults) (now (tree .entry))))) ⌝ }
+    ensures { λ r. ⌜ Wrote r (length (treeText (inputOf (settingsBytes defaults) (now (tree .entry))))) (now (out .exit))
+        (sets (now (out .entry)) 0 (treeText (inputOf (settingsBytes defaults) (now (tree .entry))))) ⌝ }
     ensures within { λ r. ⌜ (r ≤ 64160) × (length (now (out .exit)) ≡ 64160) ⌝ }
 {
     let w = sheet::print_sheet(
@@ -47,7 +48,8 @@ fn print_tree(tree: &[u8], out: &mut [u8; ANSWER_BYTES]) -> usize
 
 // The program's whole output stands at the front of `out`, and its length is answered; the bytes past it stay.
 pub fn answer_typed(text: &[u8], out: &mut [u8; ANSWER_BYTES]) -> usize
-    ensures { λ r. ⌜ Wrote r (length (typedProgramOf (now (text .entry)))) (now (out .exit)) (sets (now (out .entry)) 0 (typedProgramOf (now (text .entry)))) ⌝ }
+    ensures { λ r. ⌜ Wrote r (length (typedProgramOf (now (text .entry)))) (now (out .exit))
+        (sets (now (out .entry)) 0 (typedProgramOf (now (text .entry)))) ⌝ }
     ensures within { λ r. ⌜ (r ≤ 64160) × (length (now (out .exit)) ≡ 64160) ⌝ }
 {
     let mut tree = [0u8; TREE_BYTES];

@@ -19,7 +19,8 @@ refuse-requires c κs = search needs
 returns : tie.Need-returns
 returns c =
     let k = refused-blank _ _ (c .before .before .read-tree .ensures) (c .before .if1 .taken) _ _ in
-    all-told _ _ _ _ _ (c .before .before .before .before .before .shared-slice-known .given) (c .refuse .ensures ∙ sym (ap (λ (y : Blanks). y .answer) k)) (sym (ap (λ (y : Blanks). y .out) k))
+    all-told _ _ _ _ _ (c .before .before .before .before .before .shared-slice-known .given) (c .refuse .ensures ∙ sym (ap (λ (y : Blanks). y .answer) k))
+    (sym (ap (λ (y : Blanks). y .out) k))
 
 find-cells-requires : tie.Need-find-cells-requires
 find-cells-requires c κs = here-at c .elements
@@ -34,8 +35,10 @@ returns-2 : tie.Need-returns-2
 returns-2 c =
     let d = c .before .before .before in
     let q = here-at (d .before .before) in
-    let k = blank-no-room _ _ q _ _ _ (d .before .find-cells .ensures (q .elements)) (d .name-cells .ensures .0) (c .before .before .if2 .taken) (c .before .if3 .taken) in
-    all-told _ _ _ _ _ (c .before .before .before .before .before .before .before .before .before .shared-slice-known .given) (c .refuse2 .ensures ∙ sym (ap (λ (y : Blanks). y .answer) k)) (sym (ap (λ (y : Blanks). y .out) k))
+    let k = blank-no-room _ _ q _ _ _ (d .before .find-cells .ensures (q .elements)) (d .name-cells .ensures .0) (c .before .before .if2 .taken)
+    (c .before .if3 .taken) in
+    all-told _ _ _ _ _ (c .before .before .before .before .before .before .before .before .before .shared-slice-known .given)
+    (c .refuse2 .ensures ∙ sym (ap (λ (y : Blanks). y .answer) k)) (sym (ap (λ (y : Blanks). y .out) k))
 
 put-elements-requires : tie.Need-put-elements-requires
 put-elements-requires c κs = (here-at (c .before .before .before .before .before .before) .elements, c .before .before .if3 .left)
@@ -49,8 +52,10 @@ returns-3 c =
     let d = u .before .before in
     let n = d .name-cells in
     let q = here-at (d .before .before) in
-    let k = blanks _ _ q _ _ _ (d .before .find-cells .ensures (q .elements)) (n .ensures .0) (u .before .if2 .taken) (u .if3 .left) (n .result .dots) _ (n .ensures .1) (c .before .before .put-elements .ensures (q .elements)) in
-    all-told _ _ _ _ _ (c .before .before .before .before .before .before .before .before .before .before .before .before .before .shared-slice-known .given) (sym (ap (λ (y : Blanks). y .answer) k)) (sym (ap (λ (y : Blanks). y .out) k))
+    let k = blanks _ _ q _ _ _ (d .before .find-cells .ensures (q .elements)) (n .ensures .0) (u .before .if2 .taken) (u .if3 .left) (n .result .dots) _
+    (n .ensures .1) (c .before .before .put-elements .ensures (q .elements)) in
+    all-told _ _ _ _ _ (c .before .before .before .before .before .before .before .before .before .before .before .before .before .shared-slice-known .given)
+    (sym (ap (λ (y : Blanks). y .answer) k)) (sym (ap (λ (y : Blanks). y .out) k))
 
 refuse-requires-3 : tie.Need-refuse-requires-3
 refuse-requires-3 c κs = search needs
@@ -60,7 +65,8 @@ returns-4 c =
     let d = c .before .before in
     let q = here-at (d .before .before) in
     let k = no-cell _ _ q _ _ _ (d .before .find-cells .ensures (q .elements)) (d .name-cells .ensures .0) (c .before .if2 .left) in
-    all-told _ _ _ _ _ (c .before .before .before .before .before .before .before .before .shared-slice-known .given) (c .refuse3 .ensures ∙ sym (ap (λ (y : Blanks). y .answer) k)) (sym (ap (λ (y : Blanks). y .out) k))
+    all-told _ _ _ _ _ (c .before .before .before .before .before .before .before .before .shared-slice-known .given)
+    (c .refuse3 .ensures ∙ sym (ap (λ (y : Blanks). y .answer) k)) (sym (ap (λ (y : Blanks). y .out) k))
 
 pub blank-texts-spec : {M : Type 1} → statement M
 blank-texts-spec =

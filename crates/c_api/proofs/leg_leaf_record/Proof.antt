@@ -57,7 +57,8 @@ returns-3 : tie.Need-returns-3
 returns-3 c =
     let at = c .before .before .before .before .before .before .before .before in
     let e = at .leaf-record in
-    record-written _ _ _ (e .ensures) (c .before .before .before .before .before .before .if1 .left) (across-long at) (down-long at) _ _ (c .before .before .before .before .before .if2 .left) (c .pack3 .ensures) (c .before .before .before .put-record .ensures)
+    record-written _ _ _ (e .ensures) (c .before .before .before .before .before .before .if1 .left) (across-long at) (down-long at) _ _
+    (c .before .before .before .before .before .if2 .left) (c .pack3 .ensures) (c .before .before .before .put-record .ensures)
 
 pub leg-leaf-record-spec : {M : Type 1} → statement M
 leg-leaf-record-spec =

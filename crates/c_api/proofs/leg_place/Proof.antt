@@ -33,7 +33,9 @@ same-length c = search needs
 
 returns-3 : tie.Need-returns-3
 returns-3 c =
-    place-written _ _ _ (c .before .before .before .before .before .before .before .before .leaf-at .ensures) (c .before .before .before .before .before .before .if1 .left) _ _ (c .before .before .before .before .before .if2 .left) (c .pack3 .ensures) (c .before .before .before .put-place .ensures)
+    place-written _ _ _ (c .before .before .before .before .before .before .before .before .leaf-at .ensures)
+    (c .before .before .before .before .before .before .if1 .left) _ _ (c .before .before .before .before .before .if2 .left) (c .pack3 .ensures)
+    (c .before .before .before .put-place .ensures)
 
 pub leg-place-spec : {M : Type 1} → statement M
 leg-place-spec =

@@ -20,7 +20,8 @@ returns-2 : tie.Need-returns-2
 returns-2 c = read-short 28 settingsNumbers settings-many _ _ _ (c .before .before .before .before .read-settings .ensures) (c .before .before .if1 .left) _ (c .before .if2 .taken) (c .pack2 .ensures)
 
 put-settings-requires : tie.Need-put-settings-requires
-put-settings-requires c κs = (read-ranges _ _ (c .before .before .before .before .before .read-settings .ensures) (c .before .before .before .if1 .left), c .before .before .if2 .left)
+put-settings-requires c κs =
+    (read-ranges _ _ (c .before .before .before .before .before .read-settings .ensures) (c .before .before .before .if1 .left), c .before .before .if2 .left)
 
 pack-requires-3 : tie.Need-pack-requires-3
 pack-requires-3 c κs = search needs

@@ -19,7 +19,8 @@ pack-requires c κs = search needs
 returns : tie.Need-returns
 returns c =
     let a = c .before .before .before .before .before .before .before .args in
-    two-refusal _ (splits-refused _ _ (a .w) _ _ _ (rw (c .before .before .before .min .ensures) at (c .before .before .refused-by .ensures)) (c .before .if1 .taken)) (c .pack .ensures)
+    two-refusal _ (splits-refused _ _ (a .w) _ _ _ (rw (c .before .before .before .min .ensures) at (c .before .before .refused-by .ensures))
+    (c .before .if1 .taken)) (c .pack .ensures)
 
 list-at-requires : tie.Need-list-at-requires
 list-at-requires c κs = let h = not-refused _ _ _ _ (c .before .refused-by .ensures) (c .if1 .left) in (omega arith, omega arith)
@@ -40,8 +41,12 @@ put-list-requires c κs =
     let k = c .before .before .before .before .before .before .before .short-splits in
     let h : length (k .result .positions .entries) ≡ 512 = search needs in
     let g : length (k .result .left .pieces) ≡ 512 = search needs in
-    let p = not-refused _ _ _ _ (c .before .before .before .before .before .before .before .before .before .before .refused-by .ensures) (c .before .before .before .before .before .before .before .before .before .if1 .left) in
-    (omega arith, short-few _ _ _ (k .ensures) h g .1, omega (arith, c .before .before .before .before .before .before .before .before .before .before .before .min .ensures))
+    let p = not-refused _ _ _ _ (c .before .before .before .before .before .before .before .before .before .before .refused-by .ensures)
+    (c .before .before .before .before .before .before .before .before .before .if1 .left) in (
+      omega arith,
+      short-few _ _ _ (k .ensures) h g .1,
+      omega (arith, c .before .before .before .before .before .before .before .before .before .before .before .min .ensures),
+    )
 
 pack-requires-2 : tie.Need-pack-requires-2
 pack-requires-2 c κs = search needs
@@ -57,7 +62,9 @@ returns-2 c =
     let k = c .before .before .before .before .before .before .before .before .before .before .before .short-splits in
     let h : length (k .result .positions .entries) ≡ 512 = search needs in
     let g : length (k .result .left .pieces) ≡ 512 = search needs in
-    splits-written _ _ _ _ _ _ (rw (c .before .before .before .before .before .before .before .before .before .before .before .before .before .before .before .min .ensures) at (c .before .before .before .before .before .before .before .before .before .before .before .before .before .before .refused-by .ensures)) (c .before .before .before .before .before .before .before .before .before .before .before .before .before .if1 .left) _ (c .before .before .before .before .before .before .before .before .before .before .before .before .list-at .ensures) _ (k .ensures) _ _ _ h g (c .pack2 .ensures) (c .before .before .before .before .before .before .before .before .put-positions .ensures) (c .before .before .before .put-list .ensures)
+    splits-written _ _ _ _ _ _
+    (rw (c .before .before .before .before .before .before .before .before .before .before .before .before .before .before .before .min .ensures) at
+    (c .before .before .before .before .before .before .before .before .before .before .before .before .before .before .refused-by .ensures)) (c .before .before .before .before .before .before .before .before .before .before .before .before .before .if1 .left) _ (c .before .before .before .before .before .before .before .before .before .before .before .before .list-at .ensures) _ (k .ensures) _ _ _ h g (c .pack2 .ensures) (c .before .before .before .before .before .before .before .before .put-positions .ensures) (c .before .before .before .put-list .ensures)
 
 pub leg-short-splits-spec : {M : Type 1} → statement M
 leg-short-splits-spec =

@@ -17,8 +17,18 @@ use Rattle.splits.proofs.short_splits3.Reads as short-splits3-reads
 
 abbrev At : Type 0
 At =
-    lts.After-short-splits3
-    (refused-by-reads.Asked, refused-by-reads.Learnt, pack-reads.Asked, pack-reads.Learnt, list-at-reads.Asked, list-at-reads.Learnt, short-splits3-reads.Asked, short-splits3-reads.Learnt, put-cut-reads.Asked, put-cut-reads.Learnt)
+    lts.After-short-splits3 (
+      refused-by-reads.Asked,
+      refused-by-reads.Learnt,
+      pack-reads.Asked,
+      pack-reads.Learnt,
+      list-at-reads.Asked,
+      list-at-reads.Learnt,
+      short-splits3-reads.Asked,
+      short-splits3-reads.Learnt,
+      put-cut-reads.Asked,
+      put-cut-reads.Learnt,
+    )
     reads.Pre reads.Post
 
 -- the arrays of the cut have 512 entries
@@ -35,7 +45,8 @@ pack-requires : tie.Need-pack-requires
 pack-requires c κs = search needs
 
 returns : tie.Need-returns
-returns c = let a = c .before .before .before .before .before .args in same-refusal _ (splits3-refused _ _ (a .w) _ _ (c .before .before .refused-by .ensures) (c .before .if1 .taken)) (c .pack .ensures)
+returns c = let a = c .before .before .before .before .before .args in
+    same-refusal _ (splits3-refused _ _ (a .w) _ _ (c .before .before .refused-by .ensures) (c .before .if1 .taken)) (c .pack .ensures)
 
 list-at-requires : tie.Need-list-at-requires
 list-at-requires c κs = let h = not-refused _ _ _ _ (c .before .refused-by .ensures) (c .if1 .left) in (omega arith, omega arith)
@@ -58,7 +69,9 @@ same-length c = search needs
 returns-2 : tie.Need-returns-2
 returns-2 c =
     let at = c .before .before .before .before .before in
-    splits3-written _ _ _ _ _ (c .before .before .before .before .before .before .before .before .refused-by .ensures) (c .before .before .before .before .before .before .before .if1 .left) _ (c .before .before .before .before .before .before .list-at .ensures) _ (at .short-splits3 .ensures) _ _ (taken-long at) (left-long at) (c .pack2 .ensures) (c .before .before .before .put-cut .ensures)
+    splits3-written _ _ _ _ _ (c .before .before .before .before .before .before .before .before .refused-by .ensures)
+    (c .before .before .before .before .before .before .before .if1 .left) _ (c .before .before .before .before .before .before .list-at .ensures) _
+    (at .short-splits3 .ensures) _ _ (taken-long at) (left-long at) (c .pack2 .ensures) (c .before .before .before .put-cut .ensures)
 
 pub leg-short-splits3-spec : {M : Type 1} → statement M
 leg-short-splits3-spec =

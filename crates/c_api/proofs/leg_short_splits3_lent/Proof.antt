@@ -24,7 +24,8 @@ pack-requires : tie.Need-pack-requires
 pack-requires c κs = search needs
 
 returns : tie.Need-returns
-returns c = let a = c .before .before .before .before .before .args in two-refusal _ (lent-refused _ _ (a .w) _ _ (c .before .before .refused-by .ensures) (c .before .if1 .taken)) (c .pack .ensures)
+returns c = let a = c .before .before .before .before .before .args in
+    two-refusal _ (lent-refused _ _ (a .w) _ _ (c .before .before .refused-by .ensures) (c .before .if1 .taken)) (c .pack .ensures)
 
 list-at-requires : tie.Need-list-at-requires
 list-at-requires c κs = let h = not-refused _ _ _ _ (c .before .before .refused-by .ensures) (c .before .if1 .left) in (omega arith, omega arith)
@@ -39,8 +40,14 @@ put-kept-requires : tie.Need-put-kept-requires
 put-kept-requires c κs =
     let at = c .before .before .before .before .before .before in
     let a = c .before .before .before .before .before .before .before .before .before .before .before .before .before .args in
-    let few = kept-few _ _ _ (at .cut-here .ensures) (list-few _ (take (a .count) (a .pieces .now)) (at .before .list-at .ensures) (list-long at)) (taken-long at) (left-long at) in
-    (few .0, few .1, few .2, not-refused _ _ _ _ (c .before .before .before .before .before .before .before .before .before .before .refused-by .ensures) (c .before .before .before .before .before .before .before .before .before .if1 .left) .fits)
+    let few = kept-few _ _ _ (at .cut-here .ensures) (list-few _ (take (a .count) (a .pieces .now)) (at .before .list-at .ensures) (list-long at))
+    (taken-long at) (left-long at) in (
+      few .0,
+      few .1,
+      few .2,
+      not-refused _ _ _ _ (c .before .before .before .before .before .before .before .before .before .before .refused-by .ensures)
+          (c .before .before .before .before .before .before .before .before .before .if1 .left) .fits,
+    )
 
 pack-requires-2 : tie.Need-pack-requires-2
 pack-requires-2 c κs = search needs
@@ -54,7 +61,11 @@ same-length-2 c = search needs
 returns-2 : tie.Need-returns-2
 returns-2 c =
     let at = c .before .before .before .before .before .before .before .before .before .before in
-    lent-written _ _ _ _ _ (c .before .before .before .before .before .before .before .before .before .before .before .before .before .before .refused-by .ensures) (c .before .before .before .before .before .before .before .before .before .before .before .before .before .if1 .left) _ (at .before .list-at .ensures) _ (at .cut-here .ensures) _ _ _ (taken-long at) (c .pack2 .ensures) (c .before .before .before .before .before .before .before .put-left .ensures) (c .before .before .before .put-kept .ensures)
+    lent-written _ _ _ _ _
+    (c .before .before .before .before .before .before .before .before .before .before .before .before .before .before .refused-by .ensures)
+    (c .before .before .before .before .before .before .before .before .before .before .before .before .before .if1 .left) _
+    (at .before .list-at .ensures) _ (at .cut-here .ensures) _ _ _ (taken-long at) (c .pack2 .ensures)
+    (c .before .before .before .before .before .before .before .put-left .ensures) (c .before .before .before .put-kept .ensures)
 
 pub leg-short-splits3-lent-spec : {M : Type 1} → statement M
 leg-short-splits3-lent-spec =

@@ -33,7 +33,8 @@ returns-3 c =
     let e = d .before .before .before in
     let m = e .before .before .before .before .before .measure-tree .ensures in
     let h = e .before .before .before .if1 .left in
-    sizes-written _ _ _ _ _ _ (m .0) (m .1) h (length-replicate {A = ℕ} 2048 0) _ (e .count-below .ensures (branch-ready _ _ _ _ _ (m .0) (m .1) h)) _ _ (omega arith) (c .pack3 .ensures) (d .put-sizes .ensures)
+    sizes-written _ _ _ _ _ _ (m .0) (m .1) h (length-replicate {A = ℕ} 2048 0) _ (e .count-below .ensures (branch-ready _ _ _ _ _ (m .0) (m .1) h)) _ _
+    (omega arith) (c .pack3 .ensures) (d .put-sizes .ensures)
 
 pub leg-sizes-spec : {M : Type 1} → statement M
 leg-sizes-spec =

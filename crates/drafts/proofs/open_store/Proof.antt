@@ -7,7 +7,8 @@ use Rattle.drafts.proofs.open_store.Statement.{statement}
 use Rattle.drafts.proofs.open_store.Tie as tie
 
 -- the store scanned for the name's tag
-scanned-at : (c : tie.After-scan-store) → let a = c .before .before .before .args in c .scan-store .result ≡ scanOf (tagFor (a .name)) (fieldsOf (a .store .now))
+scanned-at : (c : tie.After-scan-store) → let a = c .before .before .before .args in
+    c .scan-store .result ≡ scanOf (tagFor (a .name)) (fieldsOf (a .store .now))
 scanned-at c = c .scan-store .ensures ∙ ap (λ k. scanOf k (fieldsOf (c .before .before .before .args .store .now))) (c .before .tag-of .ensures)
 
 tag-of-requires : tie.Need-tag-of-requires
@@ -23,7 +24,8 @@ returns : tie.Need-returns
 returns c =
     let d = c .before .before .before .before in
     let a = d .before .before .before .args in
-    open-0 (a .name) (fieldsOf (a .store .now)) _ (scanned-at d) (c .before .before .before .if1 .taken) (sym (c .before .before .is-name .ensures) ∙ c .before .if2 .taken)
+    open-0 (a .name) (fieldsOf (a .store .now)) _ (scanned-at d) (c .before .before .before .if1 .taken)
+    (sym (c .before .before .is-name .ensures) ∙ c .before .if2 .taken)
 
 refuse-open-requires : tie.Need-refuse-open-requires
 refuse-open-requires c κs = search needs
@@ -32,7 +34,9 @@ returns-2 : tie.Need-returns-2
 returns-2 c =
     let d = c .before .before .before .before in
     let a = d .before .before .before .args in
-    c .refuse-open .ensures ∙ open-19 (a .name) (fieldsOf (a .store .now)) _ (scanned-at d) (c .before .before .before .if1 .taken) (sym (c .before .before .is-name .ensures) ∙ c .before .if2 .left)
+    c .refuse-open .ensures
+    ∙ open-19 (a .name) (fieldsOf (a .store .now)) _ (scanned-at d) (c .before .before .before .if1 .taken)
+    (sym (c .before .before .is-name .ensures) ∙ c .before .if2 .left)
 
 refuse-open-requires-2 : tie.Need-refuse-open-requires-2
 refuse-open-requires-2 c κs = search needs

@@ -11,7 +11,8 @@ use Rattle.drafts.proofs.return_draft.Tie as tie
 ready-at : (c : tie.Else1) → let a = c .before .before .before .before .args in Openable (a .store .now) (a .name) (c .before .open-store .result)
 ready-at c = opened-ready _ _ _ (c .before .open-store .ensures) (c .if1 .left)
 
-size-at : (c : tie.Then2) → let s = c .before .before .before .open-store .result .spot in (3 ≤ s .size) × (s .at + s .size ≤ length (c .before .before .before .before .before .before .args .store .now))
+size-at : (c : tie.Then2) → let s = c .before .before .before .open-store .result .spot in
+    (3 ≤ s .size) × (s .at + s .size ≤ length (c .before .before .before .before .before .before .args .store .now))
 size-at c = return-size _ _ _ (ready-at (c .before .before)) (c .if2 .taken)
 
 open-store-requires : tie.Need-open-store-requires

@@ -7,7 +7,8 @@ use Rattle.drafts.proofs.save_draft.Statement.{statement}
 use Rattle.drafts.proofs.save_draft.Tie as tie
 
 -- the store that was opened, and the tree that was read
-ready-at : (c : tie.Else2) → let a = c .before .before .before .before .before .before .before .args in Openable (a .store .now) (a .name) (c .before .before .before .open-store .result)
+ready-at : (c : tie.Else2) → let a = c .before .before .before .before .before .before .before .args in
+    Openable (a .store .now) (a .name) (c .before .before .before .open-store .result)
 ready-at c = opened-ready _ _ _ (c .before .before .before .open-store .ensures) (c .before .before .if1 .left)
 
 read-at : (c : tie.Else2) → TreeRead (c .before .before .before .before .before .before .before .args .tree .now)
@@ -68,7 +69,8 @@ returns-4 : tie.Need-returns-4
 returns-4 c =
     let d = c .before .before .before .before .before .before .before in
     let e = d .before .before .before .before in
-    let k = save-there _ _ _ (ready-at e) _ (read-at e) (d .before .before .if3 .left) _ _ _ (c .before .before .before .tag-of .ensures) (d .take-out .ensures) (c .before .before .put-field .ensures) in
+    let k = save-there _ _ _ (ready-at e) _ (read-at e) (d .before .before .if3 .left) _ _ _ (c .before .before .before .tag-of .ensures) (d .take-out .ensures)
+    (c .before .before .put-field .ensures) in
     (ap (λ y. y .number) k, ap (λ y. y .store) k)
 
 pub save-draft-spec : {M : Type 1} → statement M

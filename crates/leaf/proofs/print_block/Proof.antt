@@ -32,31 +32,60 @@ allotted-at-requires : tie.Need-allotted-at-requires
 allotted-at-requires c κs = in-list (c .before .before .before .before .before .before .before .before .pre .begins) _ (c .before .before .entry-at .ensures)
 
 add-stride : tie.Need-add-stride
-add-stride c = omega (arith, line-low (c .before .before .before .before .before .before .before .before .before .before .before .pre .begins) _ (c .before .before .before .before .before .entry-at .ensures) _ (c .before .before .allotted-at .ensures .0) _ (c .before .flags-of .ensures) (c .before .before .allotted-at .ensures .1) _ (c .block-width .ensures))
+add-stride c = omega (
+  arith,
+  line-low (c .before .before .before .before .before .before .before .before .before .before .before .pre .begins) _
+      (c .before .before .before .before .before .entry-at .ensures) _ (c .before .before .allotted-at .ensures .0) _ (c .before .flags-of .ensures)
+      (c .before .before .allotted-at .ensures .1) _ (c .block-width .ensures),
+)
 
 mul-saturating-dec : tie.Need-mul-saturating-dec
-mul-saturating-dec c = omega (arith, bytes-low (c .before .before .before .before .before .before .before .before .before .before .before .before .pre .begins) _ (c .before .before .before .before .before .before .entry-at .ensures) _ (c .before .before .before .allotted-at .ensures .0) _ (c .before .before .flags-of .ensures) (c .before .before .before .allotted-at .ensures .1) _ (c .before .block-width .ensures) _ (c .block-height .ensures))
+mul-saturating-dec c =
+    omega (
+      arith,
+      bytes-low (c .before .before .before .before .before .before .before .before .before .before .before .before .pre .begins) _
+          (c .before .before .before .before .before .before .entry-at .ensures) _ (c .before .before .before .allotted-at .ensures .0) _
+          (c .before .before .flags-of .ensures) (c .before .before .before .allotted-at .ensures .1) _ (c .before .block-width .ensures) _
+          (c .block-height .ensures),
+    )
 
 returns : tie.Need-returns
-returns c = λ q. print-refused (c .refused .ensures) (print-no-room (q .begins) _ (c .before .before .before .before .before .before .before .before .before .entry-at .ensures) _ (c .before .before .before .before .before .before .allotted-at .ensures .0) _ (c .before .before .before .before .before .flags-of .ensures) (c .before .before .before .before .before .before .allotted-at .ensures .1) _ (c .before .before .before .before .block-width .ensures) _ (c .before .before .before .block-height .ensures) (q .fits) _ (c .before .before .saturating-dec .ensures) _ (c .before .if1 .taken))
+returns c = λ q. print-refused (c .refused .ensures) (print-no-room (q .begins) _
+    (c .before .before .before .before .before .before .before .before .before .entry-at .ensures) _
+    (c .before .before .before .before .before .before .allotted-at .ensures .0) _ (c .before .before .before .before .before .flags-of .ensures)
+    (c .before .before .before .before .before .before .allotted-at .ensures .1) _ (c .before .before .before .before .block-width .ensures) _
+    (c .before .before .before .block-height .ensures) (q .fits) _ (c .before .before .saturating-dec .ensures) _ (c .before .if1 .taken))
 
 slice-write-leaf : tie.Need-slice-write-leaf
-slice-write-leaf c = omega (arith, long (c .before .before .before .before .before .before .before .before .before .before .before .before .before .before .before .before .before .before .pre .begins))
+slice-write-leaf c =
+    omega (
+      arith,
+      long (c .before .before .before .before .before .before .before .before .before .before .before .before .before .before .before .before .before .before .pre .begins),
+    )
 
 slice-reshare-prefix-paint-leaves : tie.Need-slice-reshare-prefix-paint-leaves
-slice-reshare-prefix-paint-leaves c = rw length-set (in-entry (c .before .before .before .before .before .before .before .before .before .before .before .before .before .before .before .before .before .before .pre .begins) _ (c .before .before .before .before .before .before .before .before .before .before .before .before .entry-at .ensures))
+slice-reshare-prefix-paint-leaves c =
+    rw length-set
+    (in-entry (c .before .before .before .before .before .before .before .before .before .before .before .before .before .before .before .before .before .before .pre .begins) _ (c .before .before .before .before .before .before .before .before .before .before .before .before .entry-at .ensures))
 
 slice-aggregate-paint-leaves : tie.Need-slice-aggregate-paint-leaves
-slice-aggregate-paint-leaves c = sym (length-take-le _ _ (rw length-set (in-entry (c .before .before .before .before .before .before .before .before .before .before .before .before .before .before .before .before .before .before .before .pre .begins) _ (c .before .before .before .before .before .before .before .before .before .before .before .before .before .entry-at .ensures))))
+slice-aggregate-paint-leaves c =
+    sym (length-take-le _ _
+    (rw length-set
+    (in-entry (c .before .before .before .before .before .before .before .before .before .before .before .before .before .before .before .before .before .before .before .pre .begins) _ (c .before .before .before .before .before .before .before .before .before .before .before .before .before .entry-at .ensures))))
 
 paint-leaves-requires : tie.Need-paint-leaves-requires
-paint-leaves-requires c κs = let q = c .before .before .before .before .before .before .before .before .before .before .before .before .before .before .before .before .before .before .before .before .pre in paints (q .begins) _ (c .before .before .before .before .before .before .before .before .before .before .before .before .before .before .entry-at .ensures) _ (c .before .before .before .before .before .before .before .before .before .before .before .allotted-at .ensures .0) _ (c .before .before .before .before .before .before .before .before .before .before .flags-of .ensures) (c .before .before .before .before .before .before .before .before .before .before .before .allotted-at .ensures .1) _ (c .before .before .before .before .before .before .before .before .before .block-width .ensures) _ (c .before .before .before .before .before .before .before .before .block-height .ensures) (q .fits) _ (c .before .before .before .before .before .before .before .saturating-dec .ensures) (q .short) (c .before .before .before .before .before .before .before .before .before .before .before .before .before .before .before .before .before .before .before .before .args .out .now) (c .before .before .before .before .before .before .if1 .left) _ (search needs) _ refl
+paint-leaves-requires c κs = let q =
+    c .before .before .before .before .before .before .before .before .before .before .before .before .before .before .before .before .before .before .before .before .pre in paints (q .begins) _ (c .before .before .before .before .before .before .before .before .before .before .before .before .before .before .entry-at .ensures) _ (c .before .before .before .before .before .before .before .before .before .before .before .allotted-at .ensures .0) _ (c .before .before .before .before .before .before .before .before .before .before .flags-of .ensures) (c .before .before .before .before .before .before .before .before .before .before .before .allotted-at .ensures .1) _ (c .before .before .before .before .before .before .before .before .before .block-width .ensures) _ (c .before .before .before .before .before .before .before .before .block-height .ensures) (q .fits) _ (c .before .before .before .before .before .before .before .saturating-dec .ensures) (q .short) (c .before .before .before .before .before .before .before .before .before .before .before .before .before .before .before .before .before .before .before .before .args .out .now) (c .before .before .before .before .before .before .if1 .left) _ (search needs) _ refl
 
 returns-2 : tie.Need-returns-2
 returns-2 c = λ q.
-    let same : length (c .before .before .before .before .before .before .before .fill .last .0) ≡ length (c .before .before .before .before .before .before .before .before .before .before .before .before .before .before .before .before .before .before .before .before .before .before .before .args .out .now) = search needs in
-    let p = paints (q .begins) _ (c .before .before .before .before .before .before .before .before .before .before .before .before .before .before .before .before .before .entry-at .ensures) _ (c .before .before .before .before .before .before .before .before .before .before .before .before .before .before .allotted-at .ensures .0) _ (c .before .before .before .before .before .before .before .before .before .before .before .before .before .flags-of .ensures) (c .before .before .before .before .before .before .before .before .before .before .before .before .before .before .allotted-at .ensures .1) _ (c .before .before .before .before .before .before .before .before .before .before .before .before .block-width .ensures) _ (c .before .before .before .before .before .before .before .before .before .before .before .block-height .ensures) (q .fits) _ (c .before .before .before .before .before .before .before .before .before .before .saturating-dec .ensures) (q .short) (c .before .before .before .before .before .before .before .before .before .before .before .before .before .before .before .before .before .before .before .before .before .before .before .args .out .now) (c .before .before .before .before .before .before .before .before .before .if1 .left) (length (c .before .before .before .before .before .before .before .fill .last .0)) same _ refl in
-    alone-whole (q .begins) _ (c .before .before .before .before .before .before .before .before .before .before .before .before .before .before .before .before .before .entry-at .ensures) _ (c .before .before .before .before .before .before .before .before .before .before .before .before .before .before .allotted-at .ensures .0) _ (c .before .before .before .before .before .before .before .before .before .before .before .before .before .flags-of .ensures) (c .before .before .before .before .before .before .before .before .before .before .before .before .before .before .allotted-at .ensures .1) _ (c .before .before .before .before .before .before .before .before .before .before .before .before .block-width .ensures) _ (c .before .before .before .before .before .before .before .before .before .before .before .block-height .ensures) (q .fits) _ (c .before .before .before .before .before .before .before .before .before .before .saturating-dec .ensures) (q .short) (c .before .before .before .before .before .before .before .before .before .before .before .before .before .before .before .before .before .before .before .before .before .before .before .args .out .now) (c .before .before .before .before .before .before .before .before .before .if1 .left) (length (c .before .before .before .before .before .before .before .fill .last .0)) same _ refl _ _ (c .before .before .before .before .before .before .before .fill .ensures .out-is) (c .before .before .paint-leaves .ensures p)
+    let same : length (c .before .before .before .before .before .before .before .fill .last .0)
+    ≡ length (c .before .before .before .before .before .before .before .before .before .before .before .before .before .before .before .before .before .before .before .before .before .before .before .args .out .now) = search needs in
+    let p = paints (q .begins) _
+    (c .before .before .before .before .before .before .before .before .before .before .before .before .before .before .before .before .before .entry-at .ensures) _ (c .before .before .before .before .before .before .before .before .before .before .before .before .before .before .allotted-at .ensures .0) _ (c .before .before .before .before .before .before .before .before .before .before .before .before .before .flags-of .ensures) (c .before .before .before .before .before .before .before .before .before .before .before .before .before .before .allotted-at .ensures .1) _ (c .before .before .before .before .before .before .before .before .before .before .before .before .block-width .ensures) _ (c .before .before .before .before .before .before .before .before .before .before .before .block-height .ensures) (q .fits) _ (c .before .before .before .before .before .before .before .before .before .before .saturating-dec .ensures) (q .short) (c .before .before .before .before .before .before .before .before .before .before .before .before .before .before .before .before .before .before .before .before .before .before .before .args .out .now) (c .before .before .before .before .before .before .before .before .before .if1 .left) (length (c .before .before .before .before .before .before .before .fill .last .0)) same _ refl in
+    alone-whole (q .begins) _
+    (c .before .before .before .before .before .before .before .before .before .before .before .before .before .before .before .before .before .entry-at .ensures) _ (c .before .before .before .before .before .before .before .before .before .before .before .before .before .before .allotted-at .ensures .0) _ (c .before .before .before .before .before .before .before .before .before .before .before .before .before .flags-of .ensures) (c .before .before .before .before .before .before .before .before .before .before .before .before .before .before .allotted-at .ensures .1) _ (c .before .before .before .before .before .before .before .before .before .before .before .before .block-width .ensures) _ (c .before .before .before .before .before .before .before .before .before .before .before .block-height .ensures) (q .fits) _ (c .before .before .before .before .before .before .before .before .before .before .saturating-dec .ensures) (q .short) (c .before .before .before .before .before .before .before .before .before .before .before .before .before .before .before .before .before .before .before .before .before .before .before .args .out .now) (c .before .before .before .before .before .before .before .before .before .if1 .left) (length (c .before .before .before .before .before .before .before .fill .last .0)) same _ refl _ _ (c .before .before .before .before .before .before .before .fill .ensures .out-is) (c .before .before .paint-leaves .ensures p)
 
 pub print-block-spec : {M : Type 1} → statement M
 print-block-spec =

@@ -12,7 +12,8 @@ print-right-requires c κs = c .before .before .before .before .pre (c .before .
 
 print-bottom-line-requires : tie.Need-print-bottom-line-requires
 print-bottom-line-requires c κs =
-    let k = c .before .before .before .before .before .before .before .before .before .pre (c .before .before .before .before .before .before .before .if1 .taken) in
+    let k = c .before .before .before .before .before .before .before .before .before .pre
+    (c .before .before .before .before .before .before .before .if1 .taken) in
     let b = k .below (c .before .if2 .taken) in
     search needs
 
@@ -22,7 +23,8 @@ same-length c = search needs
 returns : tie.Need-returns
 returns c =
     let d = c .before .before .before .before in
-    ended-closed _ _ _ _ _ _ (d .before .before .before .before .before .before .if1 .taken) (d .if2 .taken) _ _ (d .before .before .before .print-right .ensures) (c .before .before .print-bottom-line .ensures)
+    ended-closed _ _ _ _ _ _ (d .before .before .before .before .before .before .if1 .taken) (d .if2 .taken) _ _
+    (d .before .before .before .print-right .ensures) (c .before .before .print-bottom-line .ensures)
 
 same-length-2 : tie.Need-same-length-2
 same-length-2 c = search needs

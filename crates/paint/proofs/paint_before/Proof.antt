@@ -24,7 +24,8 @@ add-at c = search needs
 
 add-at-2 : tie.Need-add-at-2
 add-at-2 c =
-    let k = c .before .before .before .before .before .before .before .before .before .before .before .before .pre .0 (c .before .before .before .before .before .before .before .before .if1 .taken) in
+    let k = c .before .before .before .before .before .before .before .before .before .before .before .before .pre .0
+    (c .before .before .before .before .before .before .before .before .if1 .taken) in
     omega (arith, body-start k)
 
 same-length : tie.Need-same-length

@@ -16,8 +16,10 @@ paint-before-requires c κs =
 paint-body-requires : tie.Need-paint-body-requires
 paint-body-requires c κs =
     let k = c .before .before .before .before .before .before .before .before .before .before .before .before .before .pre in
-    let b = c .before .before .before .before .before .config-borders .ensures in
-    ((k .text-small, k .natural-is, k .fits, body-apart k), body-room k _ (b .0) (b .1) _ refl _ (c .before .before .before .paint-before .ensures .at-is) (search needs))
+    let b = c .before .before .before .before .before .config-borders .ensures in (
+      (k .text-small, k .natural-is, k .fits, body-apart k),
+      body-room k _ (b .0) (b .1) _ refl _ (c .before .before .before .paint-before .ensures .at-is) (search needs),
+    )
 
 paint-after-requires : tie.Need-paint-after-requires
 paint-after-requires c κs =
@@ -34,7 +36,9 @@ returns c =
     let d = c .before .before .before .before .before .before .before .before .before .before in
     let k = d .before .before .before .before .before .before .before .before .before .before .pre in
     let b = d .before .before .config-borders .ensures in
-    block-painted k _ (b .0) (b .1) _ refl _ _ _ _ _ (d .paint-before .ensures) (c .before .before .before .before .before .before .paint-body .ensures .done _ (d .paint-before .ensures .out-is)) (c .before .before .paint-after .ensures)
+    block-painted k _ (b .0) (b .1) _ refl _ _ _ _ _ (d .paint-before .ensures)
+    (c .before .before .before .before .before .before .paint-body .ensures .done _ (d .paint-before .ensures .out-is))
+    (c .before .before .paint-after .ensures)
 
 pub paint-block-spec : {M : Type 1} → statement M
 paint-block-spec =

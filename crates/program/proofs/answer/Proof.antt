@@ -25,7 +25,9 @@ told-of c =
     let p = parts (settingsEnd (input c)) (input c) _ (c .before .before .before .before .settings-end .ensures .0) in
     program-prints (input c) (out c) _ _ _ _ (omega (arith, long c)) (p .0) (p .1) (c .print-sheet .ensures .0) (c .print-sheet .ensures .1)
 
-printed : (c : tie.Else1) → Printed (programOf (input (c .before .before))) (out (c .before .before)) (c .before .before .print-sheet .result) (c .before .before .print-sheet .last .1 .1 .0)
+printed : (c : tie.Else1)
+    → Printed (programOf (input (c .before .before))) (out (c .before .before)) (c .before .before .print-sheet .result)
+    (c .before .before .print-sheet .last .1 .1 .0)
 printed c = told-of (c .before .before) .yes (c .if1 .left)
 
 settings-end-requires : tie.Need-settings-end-requires
@@ -50,7 +52,8 @@ refuse-requires : tie.Need-refuse-requires
 refuse-requires c κs = told-of (c .before .before .before) .no (c .before .if1 .taken) .digit
 
 returns : tie.Need-returns
-returns c = refusal-answered _ _ _ _ (long (c .before .before .before .before)) (told-of (c .before .before .before .before) .no (c .before .before .if1 .taken)) _ _ (c .refuse .ensures)
+returns c = refusal-answered _ _ _ _ (long (c .before .before .before .before))
+    (told-of (c .before .before .before .before) .no (c .before .before .if1 .taken)) _ _ (c .refuse .ensures)
 
 element-write-out : tie.Need-element-write-out
 element-write-out c = printed c .room

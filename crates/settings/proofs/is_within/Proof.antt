@@ -24,7 +24,9 @@ module _ (low high bytes : List ℕ) (i : ℕ) (hn : length high ≡ length low)
   inside p q = rw (within-next low high bytes i h (omega arith) (omega arith), le-ltb _ _ p, le-ltb _ _ q)
 
 abbrev Inv-loop : tie.InvT-loop
-Inv-loop bytes low high n i₀ i = (i ≤ length low) × (n ≡ length low) × (length bytes ≡ length low) × (length high ≡ length low) × (within low high bytes ≡ within (drop i low) (drop i high) (drop i bytes))
+Inv-loop bytes low high n i₀ i =
+    (i ≤ length low) × (n ≡ length low) × (length bytes ≡ length low) × (length high ≡ length low)
+    × (within low high bytes ≡ within (drop i low) (drop i high) (drop i bytes))
 
 abbrev μ-loop : tie.MeasureT-loop
 μ-loop bytes low high n i₀ i = n - i
@@ -52,7 +54,8 @@ shared-slice-read-if3 c = search needs
 returns-3 : tie.Need-returns-3 Inv-loop μ-loop
 returns-3 c =
     let l = c .before .before .before .before .before .before .loop in
-    sym (l .inv .4 ∙ above _ _ _ (l .i) (l .inv .3) (l .inv .2) (omega (arith, c .before .before .before .before .before .loop-test .taken, l .inv .1)) (c .before .before .if2 .left) (c .if3 .taken))
+    sym (l .inv .4 ∙ above _ _ _ (l .i) (l .inv .3) (l .inv .2) (omega
+    (arith, c .before .before .before .before .before .loop-test .taken, l .inv .1)) (c .before .before .if2 .left) (c .if3 .taken))
 
 add-i : tie.Need-add-i Inv-loop μ-loop
 add-i c = search needs
@@ -63,13 +66,20 @@ loop-less c = search needs
 loop-again : tie.Need-loop-again Inv-loop μ-loop
 loop-again c =
     let l = c .before .before .before .before .before .before .loop in
-    let h = c .before .before .before .before .before .loop-test .taken in
-    (omega (arith, l .inv .1), l .inv .1, l .inv .2, l .inv .3, l .inv .4 ∙ inside _ _ _ (l .i) (l .inv .3) (l .inv .2) (omega (arith, h, l .inv .1)) (c .before .before .if2 .left) (c .if3 .left))
+    let h = c .before .before .before .before .before .loop-test .taken in (
+      omega (arith, l .inv .1),
+      l .inv .1,
+      l .inv .2,
+      l .inv .3,
+      l .inv .4
+          ∙ inside _ _ _ (l .i) (l .inv .3) (l .inv .2) (omega (arith, h, l .inv .1)) (c .before .before .if2 .left) (c .if3 .left),
+    )
 
 returns-4 : tie.Need-returns-4 Inv-loop μ-loop
 returns-4 c =
     let l = c .before .loop in
-    sym (l .inv .4 ∙ within-end _ _ _ (l .i) (omega (arith, c .loop-test .left, l .inv .1)) (omega (arith, c .loop-test .left, l .inv .1, l .inv .3)) (omega (arith, c .loop-test .left, l .inv .1, l .inv .2)))
+    sym (l .inv .4 ∙ within-end _ _ _ (l .i) (omega (arith, c .loop-test .left, l .inv .1)) (omega (arith, c .loop-test .left, l .inv .1, l .inv .3)) (omega
+    (arith, c .loop-test .left, l .inv .1, l .inv .2)))
 
 pub is-within-spec : {M : Type 1} → statement M
 is-within-spec =

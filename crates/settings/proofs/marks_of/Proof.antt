@@ -10,7 +10,8 @@ use lib.Seq.{take-suc, take-suc-set, take-all, getD-drop}
 use Rattle.settings.proofs.marks_of.Statement.{statement}
 use Rattle.settings.proofs.marks_of.Tie as tie
 
-copied : (marks l : List ℕ) (i : ℕ) → length marks ≡ 15 → length l ≡ 31 → i < 15 → take i marks ≡ take i (drop 3 l) → take (i + 1) (set marks i (getD l (3 + i) 0)) ≡ take (i + 1) (drop 3 l)
+copied : (marks l : List ℕ) (i : ℕ) → length marks ≡ 15 → length l ≡ 31 → i < 15 → take i marks ≡ take i (drop 3 l)
+    → take (i + 1) (set marks i (getD l (3 + i) 0)) ≡ take (i + 1) (drop 3 l)
 copied marks l i m n h e =
     let short : i < length (drop 3 l) = rw length-drop (omega arith) in
     rw (add-one, take-suc-set marks i (getD l (3 + i) 0) (omega arith), take-suc (drop 3 l) i 0 short, getD-drop 3 l i 0, e)
@@ -41,8 +42,12 @@ loop-less c = search needs
 
 loop-again : tie.Need-loop-again Inv-loop μ-loop
 loop-again c =
-    let l = c .before .before .loop in
-    (omega arith, simp length-set (l .inv .1), copied (l .marks) (c .before .before .before .args .bytes .now) (l .i) (l .inv .1) (c .before .before .before .pre) (c .before .loop-test .taken) (l .inv .2))
+    let l = c .before .before .loop in (
+      omega arith,
+      simp length-set (l .inv .1),
+      copied (l .marks) (c .before .before .before .args .bytes .now) (l .i) (l .inv .1) (c .before .before .before .pre) (c .before .loop-test .taken)
+          (l .inv .2),
+    )
 
 returns : tie.Need-returns Inv-loop μ-loop
 returns c =

@@ -15,7 +15,8 @@ unfolding readBehind
 nothing lines l [] e = refl
 nothing lines l (b ∷ k) e = absurd (omega arith)
 
-margin : (lines : Bool) (l k : List ℕ) → (length k ≡ 0 → ⊥) → within marginLow marginHigh k ≡ true → readBehind lines l k ≡ read (settingsOf lines (marginOf k) l)
+margin : (lines : Bool) (l k : List ℕ) → (length k ≡ 0 → ⊥) → within marginLow marginHigh k ≡ true
+    → readBehind lines l k ≡ read (settingsOf lines (marginOf k) l)
 unfolding readBehind
 margin lines l [] e h = absurd (e refl)
 margin lines l (b ∷ k) e h = rw h
@@ -44,7 +45,11 @@ accepted-requires-2 : tie.Need-accepted-requires-2
 accepted-requires-2 c κs = search needs
 
 returns-2 : tie.Need-returns-2
-returns-2 c = c .accepted2 .ensures ∙ rw (c .before .margin-of .ensures, margin _ _ _ (c .before .before .before .before .if1 .left) (sym (c .before .before .before .is-margin .ensures) ∙ c .before .before .if2 .taken))
+returns-2 c = c .accepted2 .ensures
+    ∙ rw (
+      c .before .margin-of .ensures,
+      margin _ _ _ (c .before .before .before .before .if1 .left) (sym (c .before .before .before .is-margin .ensures) ∙ c .before .before .if2 .taken),
+    )
 
 refused-requires : tie.Need-refused-requires
 refused-requires c κs = search needs

@@ -27,25 +27,33 @@ part-back xs ys a =
 
 -- the list that was lent
 long : (c : tie.After-measure-tree) → length (c .measure-tree .last .1 .1 .0) ≡ 2048
-long c = let a = c .before .before .before .before .before .args in size-list-length (inputOf (a .settings .now) (a .tree .now)) _ _ (c .measure-tree .ensures .1) ∙ length-replicate {A = ℕ} 2048 0
+long c = let a = c .before .before .before .before .before .args in
+    size-list-length (inputOf (a .settings .now) (a .tree .now)) _ _ (c .measure-tree .ensures .1) ∙ length-replicate {A = ℕ} 2048 0
 
 -- what is known once the sizes were measured
-took : (c : tie.After-natural-at) → let a = c .before .before .before .before .before .before .before .before .before .before .args in let d = c .before .before .before .before .before .measure-tree in Taken (a .settings .now) (a .tree .now) (d .result) (d .last .1 .1 .0)
-took c = let d = c .before .before .before .before .before .measure-tree in taken _ _ _ _ _ (d .ensures .0) (d .ensures .1) (c .before .before .before .if1 .left) (long (c .before .before .before .before .before))
+took : (c : tie.After-natural-at) → let a = c .before .before .before .before .before .before .before .before .before .before .args in let d =
+    c .before .before .before .before .before .measure-tree in Taken (a .settings .now) (a .tree .now) (d .result) (d .last .1 .1 .0)
+took c = let d = c .before .before .before .before .before .measure-tree in
+    taken _ _ _ _ _ (d .ensures .0) (d .ensures .1) (c .before .before .before .if1 .left) (long (c .before .before .before .before .before))
 
 -- the sheet is printed
-none : (c : tie.Else2) → refusalOf (c .before .before .frame-of .result) (length (c .before .before .before .before .before .before .before .before .before .before .before .before .before .args .out .now)) ≡ 0
+none : (c : tie.Else2)
+    → refusalOf (c .before .before .frame-of .result)
+    (length (c .before .before .before .before .before .before .before .before .before .before .before .before .before .args .out .now)) ≡ 0
 none c = sym (c .before .refusal-of .ensures) ∙ c .if2 .left
 
 -- the output keeps its length
-same : (c : tie.After-margin-before) → length (c .margin-before .last .0) ≡ length (c .before .before .before .before .before .before .before .before .before .before .before .before .before .before .before .before .before .before .before .before .args .out .now)
+same : (c : tie.After-margin-before)
+    → length (c .margin-before .last .0)
+    ≡ length (c .before .before .before .before .before .before .before .before .before .before .before .before .before .before .before .before .before .before .before .before .args .out .now)
 same c = search needs
 
 -- the entries end in the list that was lent
 front : (c : tie.After-walk-tree) → c .walk-tree .result ≤ length (c .walk-tree .last .1 .1 .1 .1 .0)
 front c =
     let e = c .before .before .before .before .before .before .before .before .before .before .before .before .before in
-    let k = sheet-fitting (took (e .before .before .before)) (e .before .before .before .natural-at .ensures .0) (e .before .before .frame-of .ensures) (e .before .before .before .before .before .before .before .before .before .before .before .before .before .args .out .now) (none e) in
+    let k = sheet-fitting (took (e .before .before .before)) (e .before .before .before .natural-at .ensures .0) (e .before .before .frame-of .ensures)
+    (e .before .before .before .before .before .before .before .before .before .before .before .before .before .args .out .now) (none e) in
     let g = c .before .before .separator .ensures .0 in
     list-end-in k _ _ g (le-refl 5120) _ _ _ (c .walk-tree .ensures (walk-ready k _ _ g (le-refl 5120)))
 
@@ -59,7 +67,9 @@ natural-at-requires : tie.Need-natural-at-requires
 natural-at-requires c κs = omega (arith, long (c .before .before .before .before))
 
 returns-2 : tie.Need-returns-2
-returns-2 c = print-refused (c .refused2 .ensures) (sheet-no (took (c .before .before .before .before)) (c .before .before .before .before .natural-at .ensures .0) (c .before .before .before .frame-of .ensures) _ _ (c .before .before .refusal-of .ensures) (c .before .if2 .taken))
+returns-2 c = print-refused (c .refused2 .ensures) (sheet-no (took (c .before .before .before .before))
+    (c .before .before .before .before .natural-at .ensures .0) (c .before .before .before .frame-of .ensures) _ _ (c .before .before .refusal-of .ensures)
+    (c .before .if2 .taken))
 
 fill-requires : tie.Need-fill-requires
 fill-requires c κs =
@@ -82,7 +92,8 @@ margin-before-requires c κs =
     framed k ze fe o n (search needs)
 
 slice-aggregate-walk-tree : tie.Need-slice-aggregate-walk-tree
-slice-aggregate-walk-tree c = sym (long (c .before .before .before .before .before .before .before .before .before .before .before .before .before .before .before .before .before .before))
+slice-aggregate-walk-tree c =
+    sym (long (c .before .before .before .before .before .before .before .before .before .before .before .before .before .before .before .before .before .before))
 
 walk-tree-requires : tie.Need-walk-tree-requires
 walk-tree-requires c κs =
@@ -95,7 +106,8 @@ walk-tree-requires c κs =
     walk-ready (sheet-fitting k ze fe o n) _ _ (c .before .separator .ensures .0) (le-refl 5120)
 
 slice-aggregate-paint-leaves : tie.Need-slice-aggregate-paint-leaves
-slice-aggregate-paint-leaves c = sym (long (c .before .before .before .before .before .before .before .before .before .before .before .before .before .before .before .before .before .before .before .before .before .before .before))
+slice-aggregate-paint-leaves c =
+    sym (long (c .before .before .before .before .before .before .before .before .before .before .before .before .before .before .before .before .before .before .before .before .before .before .before))
 
 array-share-prefix-leaves : tie.Need-array-share-prefix-leaves
 array-share-prefix-leaves c = front (c .before .before)
@@ -135,7 +147,8 @@ paint-leaves-requires c κs =
     let n = none e in
     let l = same (c .before .before .before .before .before .before .before .before .before .before) in
     let be = c .before .before .before .before .before .before .before .before .before .before .margin-before .ensures .end-is in
-    let le = part-long (c .before .before .before .before .before .before .before .before .before .before .margin-before .last .0) (c .before .before .before .before .before .before .before .before .before .before .margin-before .result) l in
+    let le = part-long (c .before .before .before .before .before .before .before .before .before .before .margin-before .last .0)
+    (c .before .before .before .before .before .before .before .before .before .before .margin-before .result) l in
     let kf = sheet-fitting k ze fe o n in
     let g = c .before .before .before .before .before .before .separator .ensures .0 in
     let es = listing kf _ _ g (le-refl 5120) _ _ _ (c .before .before .before .before .walk-tree .ensures (walk-ready kf _ _ g (le-refl 5120))) in
@@ -158,8 +171,10 @@ returns-3 c =
     let le = part-long (c .before .before .before .before .before .before .before .before .before .before .before .before .before .before .before .before .before .margin-before .last .0) (c .before .before .before .before .before .before .before .before .before .before .before .before .before .before .before .before .before .margin-before .result) l in
     let kf = sheet-fitting k ze fe o n in
     let g = c .before .before .before .before .before .before .before .before .before .before .before .before .before .separator .ensures .0 in
-    let es = listing kf _ _ g (le-refl 5120) _ _ _ (c .before .before .before .before .before .before .before .before .before .before .before .walk-tree .ensures (walk-ready kf _ _ g (le-refl 5120))) in
-    sheet-answers k ze fe o n be le _ (c .before .before .before .before .before .before .before .before .before .before .before .before .before .before .before .before .before .margin-before .last .0) _ _ _ _ _ _ es (c .before .before .before .before .before .before .before .before .before .before .before .before .before .before .before .before .before .before .before .before .before .before .fill .ensures .out-is) (c .before .before .before .before .before .before .before .before .before .before .before .before .before .before .before .before .before .margin-before .ensures .out-is) l (part-to-end (c .before .before .before .before .before .before .before .before .before .before .before .before .before .before .before .before .before .margin-before .last .0) (c .before .before .before .before .before .before .before .before .before .before .before .before .before .before .before .before .before .margin-before .result))
+    let es = listing kf _ _ g (le-refl 5120) _ _ _
+    (c .before .before .before .before .before .before .before .before .before .before .before .walk-tree .ensures (walk-ready kf _ _ g (le-refl 5120))) in
+    sheet-answers k ze fe o n be le _
+    (c .before .before .before .before .before .before .before .before .before .before .before .before .before .before .before .before .before .margin-before .last .0) _ _ _ _ _ _ es (c .before .before .before .before .before .before .before .before .before .before .before .before .before .before .before .before .before .before .before .before .before .before .fill .ensures .out-is) (c .before .before .before .before .before .before .before .before .before .before .before .before .before .before .before .before .before .margin-before .ensures .out-is) l (part-to-end (c .before .before .before .before .before .before .before .before .before .before .before .before .before .before .before .before .before .margin-before .last .0) (c .before .before .before .before .before .before .before .before .before .before .before .before .before .before .before .before .before .margin-before .result))
     (c .before .before .before .before .before .before .paint-leaves .ensures (sheet-paints k ze fe o n be le _ _ es))
     (part-back (c .before .before .before .before .before .before .before .before .before .before .before .before .before .before .before .before .before .margin-before .last .0) (c .before .before .before .before .before .before .paint-leaves .last .1 .1 .1 .1 .1 .0) (c .before .before .before .before .before .before .before .before .before .before .before .before .before .before .before .before .before .margin-before .result)) (c .before .before .margin-after .ensures)
 

@@ -6,7 +6,8 @@ use Rattle.test_cases.proofs.run_lines.Statement.{statement}
 use Rattle.test_cases.proofs.run_lines.Tie as tie
 
 abbrev Inv-loop : tie.InvT-loop
-Inv-loop of cases first settings₀ tree₀ want₀ g₀ start₀ settings tree want g start = (length settings ≡ length settings₀) × (length tree ≡ length tree₀) × (length want ≡ length want₀)
+Inv-loop of cases first settings₀ tree₀ want₀ g₀ start₀ settings tree want g start =
+    (length settings ≡ length settings₀) × (length tree ≡ length tree₀) × (length want ≡ length want₀)
 
 abbrev μ-loop : tie.MeasureT-loop
 μ-loop of cases first settings₀ tree₀ want₀ g₀ start₀ settings tree want g start = length cases - start

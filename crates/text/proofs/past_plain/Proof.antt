@@ -30,8 +30,10 @@ loop-less c = omega arith
 loop-again : tie.Need-loop-again Inv-loop μ-loop
 loop-again c =
     let l = c .before .before .before .loop in
-    let w = l .inv .0 in
-    (record { on = omega arith; within = w .within; parts = omega arith }, passed-on _ _ (l .i) (l .inv .1) 32 (omega arith) (c .before .is-plain .ensures (not-false _ (c .if1 .left))))
+    let w = l .inv .0 in (
+      record { on = omega arith; within = w .within; parts = omega arith },
+      passed-on _ _ (l .i) (l .inv .1) 32 (omega arith) (c .before .is-plain .ensures (not-false _ (c .if1 .left))),
+    )
 
 returns-2 : tie.Need-returns-2 Inv-loop μ-loop
 returns-2 c = c .before .loop .inv

@@ -24,7 +24,8 @@ all-met true = refl
 all-met false = refl
 
 text-more : (s : List ℕ) (at n i : ℕ) (g : Bool) → at + n ≤ length s → i < n
-    → pick g (isText (take (n - i) (drop (at + i) s))) false ≡ pick (both g (isTextByte (getD s (at + i) 0))) (isText (take (n - (i + 1)) (drop (at + (i + 1)) s))) false
+    → pick g (isText (take (n - i) (drop (at + i) s))) false
+    ≡ pick (both g (isTextByte (getD s (at + i) 0))) (isText (take (n - (i + 1)) (drop (at + (i + 1)) s))) false
 unfolding isText
 text-more s at n i g h k =
     let e : n - i ≡ suc (n - (i + 1)) = omega arith in
@@ -46,8 +47,11 @@ loop-holds c = (omega arith, rw (sub-zero, add-zero))
 
 loop-again : tie.Need-loop-again Inv-loop μ-loop
 loop-again c =
-    let l = c .before .before .before .before .loop in
-    (search needs, l .inv .1 ∙ text-more _ _ _ (l .i) (l .good) (omega arith) (c .before .before .before .loop-test .taken) ∙ rw (c .both .ensures, c .before .is-text-byte .ensures))
+    let l = c .before .before .before .before .loop in (
+      search needs,
+      l .inv .1 ∙ text-more _ _ _ (l .i) (l .good) (omega arith) (c .before .before .before .loop-test .taken)
+          ∙ rw (c .both .ensures, c .before .is-text-byte .ensures),
+    )
 
 returns : tie.Need-returns Inv-loop μ-loop
 returns c = let l = c .before .loop in sym (l .inv .1 ∙ text-end _ _ _ (l .i) (l .good) (c .loop-test .left))

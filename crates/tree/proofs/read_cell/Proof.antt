@@ -16,12 +16,16 @@ use Rattle.tree.proofs.read_cell.Lts as lts
 
 -- what has been tested where the front is known
 abbrev Known : Type 0
-Known = lts.After-known-told2 (read-header-reads.Asked, read-header-reads.Learnt, is-text-reads.Asked, is-text-reads.Learnt, is-range-reads.Asked, is-range-reads.Learnt) reads.Pre reads.Post
+Known = lts.After-known-told2
+    (read-header-reads.Asked, read-header-reads.Learnt, is-text-reads.Asked, is-text-reads.Learnt, is-range-reads.Asked, is-range-reads.Learnt) reads.Pre
+    reads.Post
 
-fits : (c : Known) → let a = c .before .before .before .before .before .args in (3 + c .before .h2 .given .0 .1 .0 ≤ length (a .s .now)) × (a .depth ≤ 16) × (a .count < 512)
+fits : (c : Known) → let a = c .before .before .before .before .before .args in
+    (3 + c .before .h2 .given .0 .1 .0 ≤ length (a .s .now)) × (a .depth ≤ 16) × (a .count < 512)
 fits c = rw (c .before .h2 .given .1) at (c .before .before .before .read-header .ensures .1 .0)
 
-front : (c : Known) → let a = c .before .before .before .before .before .args in headerIn (a .planning) (a .s .now) (a .depth) (a .count) ≡ Element (c .before .h2 .given .0 .0) (c .before .h2 .given .0 .1 .0)
+front : (c : Known) → let a = c .before .before .before .before .before .args in
+    headerIn (a .planning) (a .s .now) (a .depth) (a .count) ≡ Element (c .before .h2 .given .0 .0) (c .before .h2 .given .0 .1 .0)
 front c = sym (c .before .before .before .read-header .ensures .0) ∙ c .before .h2 .given .1
 
 four : (c : Known) → c .before .h2 .given .0 .0 ≡ 4 → c .before .h2 .given .0 .1 .0 ≡ 4
@@ -38,8 +42,15 @@ returns c = fuelled _ _ (λ g h. sym (element-fault _ g _ _ _ _ (sym (c .before 
 
 returns-2 : tie.Need-returns-2
 returns-2 c =
-    let k = c .before .before .before .before in
-    (fuelled _ _ (λ g h. sym (element-cell _ g _ _ _ _ _ _ (front k) (c .before .before .before .if1 .taken) (sym (c .if2 .taken) ∙ c .before .is-text .ensures))), (omega arith, fits k .0), fits k .2)
+    let k = c .before .before .before .before in (
+      fuelled _ _ (λ g h. sym
+          (element-cell _ g _ _ _ _ _ _ (front k) (c .before .before .before .if1 .taken) (sym (c .if2 .taken) ∙ c .before .is-text .ensures))),
+      (
+        omega arith,
+        fits k .0,
+      ),
+      fits k .2,
+    )
 
 returns-3 : tie.Need-returns-3
 returns-3 c =
@@ -58,13 +69,20 @@ is-range-requires c κs =
 
 returns-4 : tie.Need-returns-4
 returns-4 c =
-    let k = c .before .before .before .before .before in
-    (fuelled _ _ (λ g h. sym (element-range _ g _ _ _ _ _ _ (front k) (c .before .before .before .before .if1 .left) (c .before .before .before .if3 .taken) (sym (c .if4 .taken) ∙ c .before .is-range .ensures))), (omega arith, fits k .0), fits k .2)
+    let k = c .before .before .before .before .before in (
+      fuelled _ _ (λ g h. sym
+          (element-range _ g _ _ _ _ _ _ (front k) (c .before .before .before .before .if1 .left) (c .before .before .before .if3 .taken)
+          (sym (c .if4 .taken) ∙ c .before .is-range .ensures))),
+      (omega arith, fits k .0),
+      fits k .2,
+    )
 
 returns-5 : tie.Need-returns-5
 returns-5 c =
     let k = c .before .before .before .before .before in
-    fuelled _ _ (λ g h. sym (element-range _ g _ _ _ _ _ _ (front k) (c .before .before .before .before .if1 .left) (c .before .before .before .if3 .taken) (sym (c .if4 .left) ∙ c .before .is-range .ensures)))
+    fuelled _ _ (λ g h. sym
+    (element-range _ g _ _ _ _ _ _ (front k) (c .before .before .before .before .if1 .left) (c .before .before .before .if3 .taken)
+    (sym (c .if4 .left) ∙ c .before .is-range .ensures)))
 
 pub read-cell-spec : {M : Type 1} → statement M
 read-cell-spec =

@@ -17,22 +17,48 @@ refuse-requires-2 : tie.Need-refuse-requires-2
 refuse-requires-2 c κs = search needs
 
 returns-2 : tie.Need-returns-2
-returns-2 c = (typed-stop _ _ (c .before .before .before .before .if1 .left) _ (c .before .before .before .scan .ensures) (c .before .if2 .taken) _ (c .refuse2 .ensures), rw (c .refuse2 .ensures) (omega arith))
+returns-2 c = (
+  typed-stop _ _ (c .before .before .before .before .if1 .left) _ (c .before .before .before .scan .ensures) (c .before .if2 .taken) _
+      (c .refuse2 .ensures),
+  rw (c .refuse2 .ensures) (omega arith),
+)
 
 refuse-requires-3 : tie.Need-refuse-requires-3
 refuse-requires-3 c κs = search needs
 
 returns-3 : tie.Need-returns-3
-returns-3 c = (typed-short _ _ (c .before .before .before .before .before .before .if1 .left) _ (c .before .before .before .before .before .scan .ensures) (got-nodes _ (c .before .before .before .before .before .before .before .before .before .args .out .now) (c .before .before .before .before .before .before .if1 .left) _ (c .before .before .before .before .before .scan .ensures) (c .before .before .before .if2 .left)) (c .before .if3 .taken) _ (c .refuse3 .ensures), rw (c .refuse3 .ensures) (omega arith))
+returns-3 c = (
+  typed-short _ _ (c .before .before .before .before .before .before .if1 .left) _ (c .before .before .before .before .before .scan .ensures)
+      (got-nodes _ (c .before .before .before .before .before .before .before .before .before .args .out .now)
+      (c .before .before .before .before .before .before .if1 .left) _ (c .before .before .before .before .before .scan .ensures)
+      (c .before .before .before .if2 .left)) (c .before .if3 .taken) _ (c .refuse3 .ensures),
+  rw (c .refuse3 .ensures) (omega arith),
+)
 
 write-spots-requires : tie.Need-write-spots-requires
-write-spots-requires c κs = record { of = _; is = nodes-ready _ (c .before .before .before .before .before .before .before .before .before .before .args .out .now) (c .before .before .before .before .before .before .before .if1 .left) _ (c .before .before .before .before .before .before .scan .ensures) (got-nodes _ (c .before .before .before .before .before .before .before .before .before .before .args .out .now) (c .before .before .before .before .before .before .before .if1 .left) _ (c .before .before .before .before .before .before .scan .ensures) (c .before .before .before .before .if2 .left)) _ (c .before .before .if3 .left) }
+write-spots-requires c κs =
+    record {
+      of = _;
+      is = nodes-ready _ (c .before .before .before .before .before .before .before .before .before .before .args .out .now)
+          (c .before .before .before .before .before .before .before .if1 .left) _ (c .before .before .before .before .before .before .scan .ensures)
+          (got-nodes _ (c .before .before .before .before .before .before .before .before .before .before .args .out .now)
+          (c .before .before .before .before .before .before .before .if1 .left) _ (c .before .before .before .before .before .before .scan .ensures)
+          (c .before .before .before .before .if2 .left)) _ (c .before .before .if3 .left);
+    }
 
 same-length : tie.Need-same-length
 same-length c = search needs
 
 returns-4 : tie.Need-returns-4
-returns-4 c = (typed-done _ _ (c .before .before .before .before .before .before .before .before .before .before .if1 .left) _ (c .before .before .before .before .before .before .before .before .before .scan .ensures) (got-nodes _ (c .before .before .before .before .before .before .before .before .before .before .before .before .before .args .out .now) (c .before .before .before .before .before .before .before .before .before .before .if1 .left) _ (c .before .before .before .before .before .before .before .before .before .scan .ensures) (c .before .before .before .before .before .before .before .if2 .left)) (c .before .before .before .before .before .if3 .left) _ (c .before .before .write-spots .ensures _ (nodes-ready _ (c .before .before .before .before .before .before .before .before .before .before .before .before .before .args .out .now) (c .before .before .before .before .before .before .before .before .before .before .if1 .left) _ (c .before .before .before .before .before .before .before .before .before .scan .ensures) (got-nodes _ (c .before .before .before .before .before .before .before .before .before .before .before .before .before .args .out .now) (c .before .before .before .before .before .before .before .before .before .before .if1 .left) _ (c .before .before .before .before .before .before .before .before .before .scan .ensures) (c .before .before .before .before .before .before .before .if2 .left)) _ (c .before .before .before .before .before .if3 .left))), c .before .before .before .before .before .if3 .left)
+returns-4 c = (
+  typed-done _ _ (c .before .before .before .before .before .before .before .before .before .before .if1 .left) _
+      (c .before .before .before .before .before .before .before .before .before .scan .ensures)
+      (got-nodes _ (c .before .before .before .before .before .before .before .before .before .before .before .before .before .args .out .now)
+      (c .before .before .before .before .before .before .before .before .before .before .if1 .left) _
+      (c .before .before .before .before .before .before .before .before .before .scan .ensures)
+      (c .before .before .before .before .before .before .before .if2 .left)) (c .before .before .before .before .before .if3 .left) _ (c .before .before .write-spots .ensures _ (nodes-ready _ (c .before .before .before .before .before .before .before .before .before .before .before .before .before .args .out .now) (c .before .before .before .before .before .before .before .before .before .before .if1 .left) _ (c .before .before .before .before .before .before .before .before .before .scan .ensures) (got-nodes _ (c .before .before .before .before .before .before .before .before .before .before .before .before .before .args .out .now) (c .before .before .before .before .before .before .before .before .before .before .if1 .left) _ (c .before .before .before .before .before .before .before .before .before .scan .ensures) (c .before .before .before .before .before .before .before .if2 .left)) _ (c .before .before .before .before .before .if3 .left))),
+  c .before .before .before .before .before .if3 .left,
+)
 
 pub read-typed-spec : {M : Type 1} → statement M
 read-typed-spec =

@@ -28,7 +28,8 @@ tell-requires c κs = search needs
 returns : tie.Need-returns
 returns c =
     let d = c .before .before .before .before .before in
-    fault-said (typedProgramOf (typed-text d)) _ (long c) _ _ _ _ _ _ refl (typed-fault (typed-text d) _ _ (d .read-typed .ensures .0) (c .before .before .if1 .taken)) (c .tell .ensures .0) (c .tell .ensures .1)
+    fault-said (typedProgramOf (typed-text d)) _ (long c) _ _ _ _ _ _ refl
+    (typed-fault (typed-text d) _ _ (d .read-typed .ensures .0) (c .before .before .if1 .taken)) (c .tell .ensures .0) (c .tell .ensures .1)
 
 array-share-prefix-tree : tie.Need-array-share-prefix-tree
 array-share-prefix-tree c = search needs

@@ -21,9 +21,11 @@ long : (c : tie.After-print-sheet) → 64160 ≡ length (out c)
 long c = search needs
 
 told-of : (c : tie.After-print-sheet) → TreeTold (text c) (out c) (c .print-sheet .result) (c .print-sheet .last .1 .1 .0)
-told-of c = tree-told (out c) (omega (arith, long c)) (settingsBytes defaults) (c .before .before .before .before .args .tree .now) _ _ (c .print-sheet .ensures .0) (c .print-sheet .ensures .1)
+told-of c = tree-told (out c) (omega (arith, long c)) (settingsBytes defaults) (c .before .before .before .before .args .tree .now) _ _
+    (c .print-sheet .ensures .0) (c .print-sheet .ensures .1)
 
-printed : (c : tie.Else1) → SheetThere (text (c .before .before)) (out (c .before .before)) (c .before .before .print-sheet .result) (c .before .before .print-sheet .last .1 .1 .0)
+printed : (c : tie.Else1)
+    → SheetThere (text (c .before .before)) (out (c .before .before)) (c .before .before .print-sheet .result) (c .before .before .print-sheet .last .1 .1 .0)
 printed c = told-of (c .before .before) .yes (c .if1 .left)
 
 slice-aggregate-print-sheet : tie.Need-slice-aggregate-print-sheet

@@ -50,7 +50,12 @@ text-length-requires : tie.Need-text-length-requires Inv-loop μ-loop
 text-length-requires c κs = omega (arith, in-at (c .before .before .before) .0)
 
 add-at-2 : tie.Need-add-at-2 Inv-loop μ-loop
-add-at-2 c = omega (arith, in-at (c .before .before .before .before) .1, c .before .before .before .before .before .before .before .pre .short, c .text-length .ensures)
+add-at-2 c = omega (
+  arith,
+  in-at (c .before .before .before .before) .1,
+  c .before .before .before .before .before .before .before .pre .short,
+  c .text-length .ensures,
+)
 
 add-node : tie.Need-add-node Inv-loop μ-loop
 add-node c = omega (arith, in-at (c .before .before .before .before) .2)

@@ -33,9 +33,11 @@ Fronted = tie.After-slice-known2 Inv-loop μ-loop
 abbrev turning : Fronted → Turning
 turning c = c .before .before .before .before .before .before .before .before
 
-text-at : (c : Fronted) → let k = turning c in let s = start k .args .tree .now in let m = k .before .loop in let n = c .before .before .before .before .before .before .text-length .result in
+text-at : (c : Fronted) → let k = turning c in let s = start k .args .tree .now in let m = k .before .loop in let n =
+    c .before .before .before .before .before .before .text-length .result in
     (3 + n ≤ length (part s (m .at))) × (m .at + 3 + n ≤ length s)
-text-at c = let e = c .before .before .before .before .before .before .text-length .ensures in (omega (arith, in-at (turning c) .0), omega (arith, in-at (turning c) .1))
+text-at c = let e = c .before .before .before .before .before .before .text-length .ensures in
+    (omega (arith, in-at (turning c) .0), omega (arith, in-at (turning c) .1))
 
 loop-holds : tie.Need-loop-holds Inv-loop μ-loop
 loop-holds c = (refl, λ q. put-begins _ q _ _)
@@ -106,7 +108,9 @@ loop-again c =
     let l = d .before .before .before .length-at in
     let long : length (c .before .before .put-text .last .1 .1 .0) ≡ length (m .out) = search needs in (
       long ∙ m .inv .0,
-      λ q. put-more _ q _ _ _ _ _ (m .inv .1 q) (k .loop-test .taken) _ _ _ _ (l .ensures .0) (l .ensures .1) (d .before .before .before .before .before .before .text-length .ensures) (d .before .before .put-front .ensures) (c .before .before .put-text .ensures),
+      λ q. put-more _ q _ _ _ _ _ (m .inv .1 q) (k .loop-test .taken) _ _ _ _ (l .ensures .0) (l .ensures .1)
+          (d .before .before .before .before .before .before .text-length .ensures) (d .before .before .put-front .ensures)
+          (c .before .before .put-text .ensures),
     )
 
 same-length : tie.Need-same-length Inv-loop μ-loop

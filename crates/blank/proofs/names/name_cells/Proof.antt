@@ -29,14 +29,21 @@ wide16-requires c κs = search needs
 
 returns-2 : tie.Need-returns-2 Inv-loop μ-loop
 returns-2 c =
-    let long : length (c .before .before .before .before .before .before .before .args .t2) ≡ 512 = search needs in
-    (name-past _ _ _ _ (c .before .before .before .before .loop .inv) (c .before .before .before .loop-test .taken) long _ (c .before .wide16 .ensures .0) (c .if2 .taken), no-dots)
+    let long : length (c .before .before .before .before .before .before .before .args .t2) ≡ 512 = search needs in (
+      name-past _ _ _ _ (c .before .before .before .before .loop .inv) (c .before .before .before .loop-test .taken) long _ (c .before .wide16 .ensures .0)
+          (c .if2 .taken),
+      no-dots,
+    )
 
 array-read-if3 : tie.Need-array-read-if3 Inv-loop μ-loop
 array-read-if3 c = search needs
 
 returns-3 : tie.Need-returns-3 Inv-loop μ-loop
-returns-3 c = (name-wrong _ _ _ _ (c .before .before .before .before .before .loop .inv) (c .before .before .before .before .loop-test .taken) _ (c .before .before .wide16 .ensures .0) (c .if3 .taken), no-dots)
+returns-3 c = (
+  name-wrong _ _ _ _ (c .before .before .before .before .before .loop .inv) (c .before .before .before .before .loop-test .taken) _
+      (c .before .before .wide16 .ensures .0) (c .if3 .taken),
+  no-dots,
+)
 
 array-write-dots : tie.Need-array-write-dots Inv-loop μ-loop
 array-write-dots c = search needs
@@ -51,7 +58,10 @@ loop-again : tie.Need-loop-again Inv-loop μ-loop
 loop-again c = name-more _ _ _ _ (c .before .before .before .before .before .loop .inv) (c .before .before .before .before .loop-test .taken) _ (c .before .before .wide16 .ensures .0) (c .before .if2 .left) (c .if3 .left)
 
 returns-4 : tie.Need-returns-4 Inv-loop μ-loop
-returns-4 c = (names-cells _ _ _ _ (c .before .loop .inv) (c .loop-test .left), λ e. names-dots _ _ _ _ (c .before .loop .inv) (c .loop-test .left) (c .before .before .if1 .left))
+returns-4 c = (
+  names-cells _ _ _ _ (c .before .loop .inv) (c .loop-test .left),
+  λ e. names-dots _ _ _ _ (c .before .loop .inv) (c .loop-test .left) (c .before .before .if1 .left),
+)
 
 pub name-cells-spec : {M : Type 1} → statement M
 name-cells-spec =

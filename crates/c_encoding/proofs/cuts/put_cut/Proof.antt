@@ -30,7 +30,10 @@ returns : tie.Need-returns
 returns c =
     let start = c .before .before .before .before .before .before .before .before .before .before .before .before .before .before .before .before .before .before .before in
     let long : length (start .args .cut .taken .pieces) ≡ 512 = search needs in
-    cut-stored (start .args .cut) (start .args .out .now) (c .before .before .before .before .before .before .before .before .before .before .before .before .before .before .before .before .bit .ensures) (c .before .before .before .before .before .before .before .before .before .before .before .before .copy .ensures) (c .before .before .before .before .before .before .before .put-list .ensures) long (c .before .before .put-list2 .ensures)
+    cut-stored (start .args .cut) (start .args .out .now)
+    (c .before .before .before .before .before .before .before .before .before .before .before .before .before .before .before .before .bit .ensures)
+    (c .before .before .before .before .before .before .before .before .before .before .before .before .copy .ensures)
+    (c .before .before .before .before .before .before .before .put-list .ensures) long (c .before .before .put-list2 .ensures)
 
 pub put-cut-spec : {M : Type 1} → statement M
 put-cut-spec =

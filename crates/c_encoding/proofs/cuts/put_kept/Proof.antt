@@ -27,7 +27,9 @@ same-length c = search needs
 returns : tie.Need-returns
 returns c =
     let start = c .before .before .before .before .before .before .before .before .before .before .before .before .before .before .before .before .before in
-    kept-stored (start .args .kept) (start .args .out .now) (c .before .before .before .before .before .before .before .before .before .before .before .before .bit .ensures) (c .before .before .before .before .before .before .before .copy .ensures) (c .before .before .put-list .ensures)
+    kept-stored (start .args .kept) (start .args .out .now)
+    (c .before .before .before .before .before .before .before .before .before .before .before .before .bit .ensures)
+    (c .before .before .before .before .before .before .before .copy .ensures) (c .before .before .put-list .ensures)
 
 pub put-kept-spec : {M : Type 1} → statement M
 put-kept-spec =

@@ -39,7 +39,16 @@ cast-t16 : tie.Need-cast-t16
 cast-t16 c = search needs
 
 returns : tie.Need-returns
-returns c = rw (c .before .before .before .before .before .before .before .before .bit .ensures, c .before .before .before .before .before .before .before .bit2 .ensures, c .before .before .before .before .before .before .bit3 .ensures, c .before .before .before .before .before .bit4 .ensures, c .before .before .before .before .bit5 .ensures, c .before .before .before .bit6 .ensures, c .before .before .bit7 .ensures, c .before .bit8 .ensures)
+returns c = rw (
+  c .before .before .before .before .before .before .before .before .bit .ensures,
+  c .before .before .before .before .before .before .before .bit2 .ensures,
+  c .before .before .before .before .before .before .bit3 .ensures,
+  c .before .before .before .before .before .bit4 .ensures,
+  c .before .before .before .before .bit5 .ensures,
+  c .before .before .before .bit6 .ensures,
+  c .before .before .bit7 .ensures,
+  c .before .bit8 .ensures,
+)
 
 pub front-spec : {M : Type 1} → statement M
 front-spec =

@@ -18,14 +18,17 @@ slice-aggregate-copy-bytes-2 c = search needs
 copy-bytes-requires-2 : tie.Need-copy-bytes-requires-2
 copy-bytes-requires-2 c κs =
     let long : length (c .before .before .before .before .before .before .before .before .before .before .args .s .margin .fills) ≡ 4 = search needs in
-    let same : length (c .before .before .before .before .before .copy-bytes .last .1 .0) ≡ length (c .before .before .before .before .before .before .before .before .before .before .args .out .now) = search needs in
+    let same : length (c .before .before .before .before .before .copy-bytes .last .1 .0)
+    ≡ length (c .before .before .before .before .before .before .before .before .before .before .args .out .now) = search needs in
     omega (arith, c .before .before .before .before .before .before .before .before .before .before .pre)
 
 same-length : tie.Need-same-length
 same-length c = search needs
 
 returns : tie.Need-returns
-returns c = margin-stored (c .before .before .before .before .before .before .before .before .before .before .before .before .before .args .s) (c .before .before .before .before .before .before .before .before .before .before .before .before .before .args .out .now) (c .before .before .before .before .before .before .before .before .copy-bytes .ensures) (c .before .before .copy-bytes2 .ensures)
+returns c = margin-stored (c .before .before .before .before .before .before .before .before .before .before .before .before .before .args .s)
+    (c .before .before .before .before .before .before .before .before .before .before .before .before .before .args .out .now)
+    (c .before .before .before .before .before .before .before .before .copy-bytes .ensures) (c .before .before .copy-bytes2 .ensures)
 
 pub put-margin-spec : {M : Type 1} → statement M
 put-margin-spec =

@@ -28,7 +28,10 @@ returns c =
     let start = c .before .before .before .before .before .before .before .before .before .before .before .before .before .before .before .before .before .before .before .before in
     let r = start .args .r in
     let long : length (r .horizontal .pieces) ≡ 512 = search needs in
-    record-stored r (start .args .out .now) (c .before .before .before .before .before .before .before .before .before .before .before .before .before .before .before .front .ensures) (c .before .before .before .before .before .before .before .before .before .before .before .before .copy .ensures) (c .before .before .before .before .before .before .before .put-list .ensures) long (c .before .before .put-list2 .ensures)
+    record-stored r (start .args .out .now)
+    (c .before .before .before .before .before .before .before .before .before .before .before .before .before .before .before .front .ensures)
+    (c .before .before .before .before .before .before .before .before .before .before .before .before .copy .ensures)
+    (c .before .before .before .before .before .before .before .put-list .ensures) long (c .before .before .put-list2 .ensures)
 
 pub put-record-spec : {M : Type 1} → statement M
 put-record-spec =

@@ -39,7 +39,8 @@ same-length c = search needs
 returns : tie.Need-returns
 returns c =
     let start = c .before .before .before .before .before .before .before .before .before .before .before .before .before .before .before .before .before .before .before .before .before .before .before .before .before in
-    settings-stored (start .args .s) (start .args .out .now) (start .pre .0) (c .before .before .before .before .before .before .before .before .before .before .before .before .before .before .before .before .before .before .before .before .copy-bytes .ensures) (c .before .before .before .before .before .before .before .before .before .before .before .before .before .before .before .before .before .padding .ensures) (c .before .before .before .before .before .before .before .before .before .before .before .before .before .before .copy .ensures) (c .before .before .before .before .before .before .before .before .copy-bytes2 .ensures) (c .before .before .before .before .before .choices .ensures) (c .before .before .copy2 .ensures)
+    settings-stored (start .args .s) (start .args .out .now) (start .pre .0)
+    (c .before .before .before .before .before .before .before .before .before .before .before .before .before .before .before .before .before .before .before .before .copy-bytes .ensures) (c .before .before .before .before .before .before .before .before .before .before .before .before .before .before .before .before .before .padding .ensures) (c .before .before .before .before .before .before .before .before .before .before .before .before .before .before .copy .ensures) (c .before .before .before .before .before .before .before .before .copy-bytes2 .ensures) (c .before .before .before .before .before .choices .ensures) (c .before .before .copy2 .ensures)
 
 pub put-settings-spec : {M : Type 1} → statement M
 put-settings-spec =

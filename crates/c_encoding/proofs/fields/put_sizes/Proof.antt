@@ -10,7 +10,9 @@ use Rattle.c_encoding.proofs.fields.put_sizes.Statement.{statement}
 use Rattle.c_encoding.proofs.fields.put_sizes.Tie as tie
 
 abbrev Inv-loop : tie.InvT-loop
-Inv-loop list n out₀ below i₀ out i = (i ≤ n) × (n ≤ 512) × (5 * n ≤ length out) × (length out ≡ length out₀) × (sets out₀ 0 (fives n list below) ≡ sets out (5 * i) (fives (n - i) (drop (4 * i) list) (drop i below)))
+Inv-loop list n out₀ below i₀ out i =
+    (i ≤ n) × (n ≤ 512) × (5 * n ≤ length out) × (length out ≡ length out₀)
+    × (sets out₀ 0 (fives n list below) ≡ sets out (5 * i) (fives (n - i) (drop (4 * i) list) (drop i below)))
 
 abbrev μ-loop : tie.MeasureT-loop
 μ-loop list n out₀ below i₀ out i = n - i
@@ -29,7 +31,8 @@ loop-again c =
       k .inv .1,
       search needs,
       search needs,
-      k .inv .4 ∙ rw (c .before .before .copy .ensures) (five-step (a .n) (k .i) (k .out) _ _ (c .before .before .before .before .before .before .before .before .before .loop-test .taken)),
+      k .inv .4 ∙ rw (c .before .before .copy .ensures)
+          (five-step (a .n) (k .i) (k .out) _ _ (c .before .before .before .before .before .before .before .before .before .loop-test .taken)),
     )
 
 returns : tie.Need-returns Inv-loop μ-loop

@@ -33,7 +33,8 @@ same-length c = search needs
 returns : tie.Need-returns
 returns c =
     let start = c .before .before .before .before .before .before .before .before .before .before .before .before .before in
-    stored-on (start .args .list .count ∷ []) (start .args .list .pieces) (start .args .out .now) (start .args .at) (c .before .before .before .before .before .before .before .before .copy .ensures) refl (c .before .before .copy2 .ensures)
+    stored-on (start .args .list .count ∷ []) (start .args .list .pieces) (start .args .out .now) (start .args .at)
+    (c .before .before .before .before .before .before .before .before .copy .ensures) refl (c .before .before .copy2 .ensures)
 
 pub put-list-spec : {M : Type 1} → statement M
 put-list-spec =

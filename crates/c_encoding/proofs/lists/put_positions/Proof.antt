@@ -30,7 +30,8 @@ same-length c = search needs
 returns : tie.Need-returns
 returns c =
     let start = c .before .before .before .before .before .before .before .before .before .before .before .before .before in
-    stored-on (start .args .list .count ∷ []) (start .args .list .entries) (start .args .out .now) 0 (c .before .before .before .before .before .before .before .before .copy-wide .ensures) refl (c .before .before .copy-wide2 .ensures)
+    stored-on (start .args .list .count ∷ []) (start .args .list .entries) (start .args .out .now) 0
+    (c .before .before .before .before .before .before .before .before .copy-wide .ensures) refl (c .before .before .copy-wide2 .ensures)
 
 pub put-positions-spec : {M : Type 1} → statement M
 put-positions-spec =

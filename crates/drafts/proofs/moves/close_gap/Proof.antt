@@ -16,7 +16,8 @@ same-length : tie.Need-same-length
 same-length c = search needs
 
 returns : tie.Need-returns
-returns c = gap-closed _ _ _ _ _ (c .before .before .before .before .before .before .before .before .before .pre) (c .before .before .before .before .before .before .move-down .ensures) (c .before .before .clear-from .ensures)
+returns c = gap-closed _ _ _ _ _ (c .before .before .before .before .before .before .before .before .before .pre)
+    (c .before .before .before .before .before .before .move-down .ensures) (c .before .before .clear-from .ensures)
 
 pub close-gap-spec : {M : Type 1} → statement M
 close-gap-spec =

@@ -16,7 +16,10 @@ same-length : tie.Need-same-length
 same-length c = search needs
 
 returns : tie.Need-returns
-returns c = field-put _ (c .before .before .before .before .before .before .before .before .before .before .args .t .now) _ _ _ _ (c .before .before .before .before .before .before .before .before .before .before .pre .0) (c .before .before .before .before .before .before .before .before .before .before .pre .1) (c .before .before .before .before .before .before .put-front .ensures) (c .before .before .copy-in .ensures)
+returns c = field-put _ (c .before .before .before .before .before .before .before .before .before .before .args .t .now) _ _ _ _
+    (c .before .before .before .before .before .before .before .before .before .before .pre .0)
+    (c .before .before .before .before .before .before .before .before .before .before .pre .1)
+    (c .before .before .before .before .before .before .put-front .ensures) (c .before .before .copy-in .ensures)
 
 pub put-field-spec : {M : Type 1} → statement M
 put-field-spec =

@@ -24,10 +24,18 @@ add-n : tie.Need-add-n
 add-n c = search needs
 
 returns-3 : tie.Need-returns-3
-returns-3 c = (size-whole _ _ (c .before .before .before .before .before .if1 .left) (sym (c .before .before .before .is-tag .ensures) ∙ yes _ (c .before .before .if2 .left)) (c .before .length-at .ensures .0) (c .if3 .taken), c .if3 .taken)
+returns-3 c = (
+  size-whole _ _ (c .before .before .before .before .before .if1 .left)
+      (sym (c .before .before .before .is-tag .ensures) ∙ yes _ (c .before .before .if2 .left)) (c .before .length-at .ensures .0) (c .if3 .taken),
+  c .if3 .taken,
+)
 
 returns-4 : tie.Need-returns-4
-returns-4 c = (size-past _ _ (c .before .before .before .before .before .if1 .left) (sym (c .before .before .before .is-tag .ensures) ∙ yes _ (c .before .before .if2 .left)) (c .before .length-at .ensures .0) (c .if3 .left), omega arith)
+returns-4 c = (
+  size-past _ _ (c .before .before .before .before .before .if1 .left)
+      (sym (c .before .before .before .is-tag .ensures) ∙ yes _ (c .before .before .if2 .left)) (c .before .length-at .ensures .0) (c .if3 .left),
+  omega arith,
+)
 
 pub field-size-spec : {M : Type 1} → statement M
 field-size-spec =

@@ -34,7 +34,8 @@ end-scan-requires : tie.Need-end-scan-requires Inv-loop μ-loop
 end-scan-requires c κs = search needs
 
 returns : tie.Need-returns Inv-loop μ-loop
-returns c = scan-zero _ _ _ _ _ (c .before .before .before .before .before .before .loop .inv) (c .before .before .before .before .before .loop-test .taken) _ _ (c .end-scan .ensures) (c .before .all-zero .ensures) (c .before .before .before .if1 .taken)
+returns c = scan-zero _ _ _ _ _ (c .before .before .before .before .before .before .loop .inv) (c .before .before .before .before .before .loop-test .taken) _ _
+    (c .end-scan .ensures) (c .before .all-zero .ensures) (c .before .before .before .if1 .taken)
 
 sub-field-size : tie.Need-sub-field-size Inv-loop μ-loop
 sub-field-size c = search needs
@@ -58,7 +59,9 @@ wide-requires : tie.Need-wide-requires Inv-loop μ-loop
 wide-requires c κs = search needs
 
 sub-k : tie.Need-sub-k Inv-loop μ-loop
-sub-k c = scan-tag _ _ _ _ _ (c .before .before .before .before .before .before .before .loop .inv) (c .before .before .before .before .before .before .loop-test .taken) _ (c .before .before .field-size .ensures .0) (c .before .before .before .before .if1 .left) (c .before .if2 .left) _ (c .wide .ensures .0) .0
+sub-k c = scan-tag _ _ _ _ _ (c .before .before .before .before .before .before .before .loop .inv)
+    (c .before .before .before .before .before .before .loop-test .taken) _ (c .before .before .field-size .ensures .0)
+    (c .before .before .before .before .if1 .left) (c .before .if2 .left) _ (c .wide .ensures .0) .0
 
 array-read-if3 : tie.Need-array-read-if3 Inv-loop μ-loop
 array-read-if3 c = scan-tag _ _ _ _ _ (c .before .before .before .before .before .before .before .loop .inv) (c .before .before .before .before .before .before .loop-test .taken) _ (c .before .before .field-size .ensures .0) (c .before .before .before .before .if1 .left) (c .before .if2 .left) _ (c .wide .ensures .0) .1
@@ -70,7 +73,10 @@ returns-3 : tie.Need-returns-3 Inv-loop μ-loop
 returns-3 c = scan-again _ _ _ _ _ (c .before .before .before .before .before .before .before .before .before .loop .inv) (c .before .before .before .before .before .before .before .before .loop-test .taken) _ (c .before .before .before .before .field-size .ensures .0) (c .before .before .before .before .before .before .if1 .left) (c .before .before .before .if2 .left) _ (c .before .before .wide .ensures .0) _ (c .end-scan3 .ensures) (c .before .if3 .taken)
 
 array-write-seen : tie.Need-array-write-seen Inv-loop μ-loop
-array-write-seen c = scan-tag _ _ _ _ _ (c .before .before .before .before .before .before .before .before .loop .inv) (c .before .before .before .before .before .before .before .loop-test .taken) _ (c .before .before .before .field-size .ensures .0) (c .before .before .before .before .before .if1 .left) (c .before .before .if2 .left) _ (c .before .wide .ensures .0) .1
+array-write-seen c =
+    scan-tag _ _ _ _ _ (c .before .before .before .before .before .before .before .before .loop .inv)
+    (c .before .before .before .before .before .before .before .loop-test .taken) _ (c .before .before .before .field-size .ensures .0)
+    (c .before .before .before .before .before .if1 .left) (c .before .before .if2 .left) _ (c .before .wide .ensures .0) .1
 
 next-field-requires : tie.Need-next-field-requires Inv-loop μ-loop
 next-field-requires c κs = search needs

@@ -16,7 +16,8 @@ use Rattle.paint.proofs.body.paint_body.Statement.{statement}
 use Rattle.paint.proofs.body.paint_body.Tie as tie
 
 -- what the body asks, and its plan
-module _ (s : Settings) (t : List ℕ) (n z : Size) (k : BodyRows) (is : n ≡ leafSize s t) (fits : Fits n z) (e : k ≡ bodyRowsOf s n z) (at stride len : ℕ) (room : Room at stride (z .height) (z .width) len) where
+module _ (s : Settings) (t : List ℕ) (n z : Size) (k : BodyRows) (is : n ≡ leafSize s t) (fits : Fits n z) (e : k ≡ bodyRowsOf s n z) (at stride len : ℕ)
+    (room : Room at stride (z .height) (z .width) len) where
   h : BodyFits s t z k
   h = body-fits s t n z k is fits e
 
@@ -47,14 +48,21 @@ paint-ground-requires : tie.Need-paint-ground-requires
 paint-ground-requires c κs =
     let start = c .before .before .before .before .before .before .before in
     let a = start .args in
-    let e = c .before .before .before .before .plan-body .ensures in
-    ((body-fits (a .s) (a .text .now) (a .natural) (a .size) _ (start .pre .0 .1) (start .pre .0 .2) e .wide, start .pre .0 .3, all-lines (a .s) (a .text .now) (a .natural) (a .size) _ (start .pre .0 .1) (start .pre .0 .2) e _ _ _ (start .pre .1)), start .pre .1)
+    let e = c .before .before .before .before .plan-body .ensures in (
+      (
+        body-fits (a .s) (a .text .now) (a .natural) (a .size) _ (start .pre .0 .1) (start .pre .0 .2) e .wide,
+        start .pre .0 .3,
+        all-lines (a .s) (a .text .now) (a .natural) (a .size) _ (start .pre .0 .1) (start .pre .0 .2) e _ _ _ (start .pre .1),
+      ),
+      start .pre .1,
+    )
 
 add-p : tie.Need-add-p
 add-p c =
     let start = c .before .before .before .before .before .before .before .before .before .before .before .before in
     let a = start .args in
-    let tall = body-fits (a .s) (a .text .now) (a .natural) (a .size) _ (start .pre .0 .1) (start .pre .0 .2) (c .before .before .before .before .before .before .before .before .before .plan-body .ensures) .tall in
+    let tall = body-fits (a .s) (a .text .now) (a .natural) (a .size) _ (start .pre .0 .1) (start .pre .0 .2)
+    (c .before .before .before .before .before .before .before .before .before .plan-body .ensures) .tall in
     let size = start .good .1 .1 .1 .1 .1 .1 .0 in
     omega arith
 
@@ -76,8 +84,10 @@ text-lines-requires c κs =
     let a = start .args in
     let e = c .before .before .before .before .before .before .before .before .before .before .plan-body .ensures in
     let h = body-fits (a .s) (a .text .now) (a .natural) (a .size) _ (start .pre .0 .1) (start .pre .0 .2) e in
-    let n = text-lines (a .s) (a .text .now) (a .natural) (a .size) _ (start .pre .0 .1) (start .pre .0 .2) e _ _ _ (start .pre .1) in
-    ((start .pre .0 .0, n, h .widest-is, h .within, rw (h .wide) (start .pre .0 .3)), text-there (a .s) (a .text .now) (a .natural) (a .size) _ (start .pre .0 .1) (start .pre .0 .2) e _ _ _ (start .pre .1) (search needs))
+    let n = text-lines (a .s) (a .text .now) (a .natural) (a .size) _ (start .pre .0 .1) (start .pre .0 .2) e _ _ _ (start .pre .1) in (
+      (start .pre .0 .0, n, h .widest-is, h .within, rw (h .wide) (start .pre .0 .3)),
+      text-there (a .s) (a .text .now) (a .natural) (a .size) _ (start .pre .0 .1) (start .pre .0 .2) e _ _ _ (start .pre .1) (search needs),
+    )
 
 returns : tie.Need-returns
 returns c =
@@ -87,7 +97,8 @@ returns c =
     let h = body-fits (a .s) (a .text .now) (a .natural) (a .size) _ (start .pre .0 .1) (start .pre .0 .2) e in
     let n = text-lines (a .s) (a .text .now) (a .natural) (a .size) _ (start .pre .0 .1) (start .pre .0 .2) e _ _ _ (start .pre .1) in
     record {
-      done = λ b is. body-over (a .s) (a .text .now) (a .size) _ h b _ _ (a .at) (a .stride) (rw n at (c .before .before .before .before .before .before .before .before .paint-ground .ensures .done b is)) (c .before .before .text-lines .ensures);
+      done = λ b is. body-over (a .s) (a .text .now) (a .size) _ h b _ _ (a .at) (a .stride) (rw n at
+          (c .before .before .before .before .before .before .before .before .paint-ground .ensures .done b is)) (c .before .before .text-lines .ensures);
     }
 
 pub paint-body-spec : {M : Type 1} → statement M

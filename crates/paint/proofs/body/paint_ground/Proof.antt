@@ -10,7 +10,8 @@ returns c =
     turned-blank (a .s) (a .plan) (a .n) _ _ _ _ _ (c .before .is-blank .ensures (c .if1 .taken)) (start .pre .0 .0) (start .pre .0 .2)
 
 paint-padded-requires : tie.Need-paint-padded-requires
-paint-padded-requires c κs = let start = c .before .before .before .before .before in ((start .pre .0 .0, start .pre .0 .1), rw (start .pre .0 .2) (start .pre .1))
+paint-padded-requires c κs = let start = c .before .before .before .before .before in
+    ((start .pre .0 .0, start .pre .0 .1), rw (start .pre .0 .2) (start .pre .1))
 
 returns-2 : tie.Need-returns-2
 returns-2 c =

@@ -10,7 +10,10 @@ returns c =
     let a = c .before .before .before .before .before .before .before .before .before .before .before .before .before .before .before .args in
     record {
       end-is = refl;
-      out-is = sides-painted (a .t4) (a .inner) (a .n) (a .out .now) _ _ _ (a .at) (a .stride) (c .before .before .before .before .before .before .before .before .before .before .before .before .before .before .before .pre .0) (c .before .before .before .before .before .before .before .before .before .before .before .rows .ensures .out-is) (c .before .before .before .before .before .before .before .rows2 .ensures .out-is) (c .before .before .rows3 .ensures .out-is);
+      out-is = sides-painted (a .t4) (a .inner) (a .n) (a .out .now) _ _ _ (a .at) (a .stride)
+          (c .before .before .before .before .before .before .before .before .before .before .before .before .before .before .before .pre .0)
+          (c .before .before .before .before .before .before .before .before .before .before .before .rows .ensures .out-is)
+          (c .before .before .before .before .before .before .before .rows2 .ensures .out-is) (c .before .before .rows3 .ensures .out-is);
     }
 
 pub paint-sides-spec : {M : Type 1} → statement M

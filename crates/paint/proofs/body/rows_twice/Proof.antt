@@ -17,7 +17,8 @@ same-length c = search needs
 returns : tie.Need-returns
 returns c = record {
   end-is = omega (arith, c .before .before .rows2 .ensures .end-is, c .before .before .before .before .before .before .rows .ensures .end-is);
-  out-is = then-pasted _ _ _ _ _ _ _ _ _ (length-replicate _ _) (c .before .before .before .before .before .before .rows .ensures) (c .before .before .rows2 .ensures .out-is);
+  out-is = then-pasted _ _ _ _ _ _ _ _ _ (length-replicate _ _) (c .before .before .before .before .before .before .rows .ensures)
+      (c .before .before .rows2 .ensures .out-is);
 }
 
 pub rows-twice-spec : {M : Type 1} → statement M

@@ -13,7 +13,8 @@ use Rattle.paint.proofs.borders.border.Statement.{statement}
 use Rattle.paint.proofs.borders.border.Tie as tie
 
 -- what stands after the corner and the marks
-border-is : (o o₁ y : List ℕ) (at w corner mark p : ℕ) → Wrote p (at + 1 + w) o₁ (sets (set o at corner) (at + 1) (replicate w mark)) → sets o₁ p y ≡ sets o at (corner ∷ (replicate w mark ++ y))
+border-is : (o o₁ y : List ℕ) (at w corner mark p : ℕ) → Wrote p (at + 1 + w) o₁ (sets (set o at corner) (at + 1) (replicate w mark))
+    → sets o₁ p y ≡ sets o at (corner ∷ (replicate w mark ++ y))
 border-is o o₁ y at w corner mark p k =
     then-sets (replicate w mark) y (set o at corner) o₁ (sets o₁ p y) (at + 1) p w (length-replicate w mark) k refl ∙ rw (add-one at)
 
@@ -33,12 +34,17 @@ slice-write-out-2 : tie.Need-slice-write-out-2
 slice-write-out-2 c =
     let a = c .before .before .before .before .before .before .args in
     let r : a .at + (1 + (a .w + 1)) ≤ length (a .out .now) = rw (c .if1 .taken) at (c .before .before .before .before .before .before .pre) in
-    omega (arith, border-long (a .out .now) _ (a .at) (a .w) (a .corner) (a .mark) _ (c .before .before .before .fill .ensures), c .before .before .before .fill .ensures .end-is)
+    omega (
+      arith,
+      border-long (a .out .now) _ (a .at) (a .w) (a .corner) (a .mark) _ (c .before .before .before .fill .ensures),
+      c .before .before .before .fill .ensures .end-is,
+    )
 
 same-length : tie.Need-same-length
 same-length c =
     let a = c .before .before .before .before .before .before .args in
-    length-set (c .before .before .before .fill .last .0) (c .before .before .before .fill .result) (a .last) ∙ border-long (a .out .now) _ (a .at) (a .w) (a .corner) (a .mark) _ (c .before .before .before .fill .ensures)
+    length-set (c .before .before .before .fill .last .0) (c .before .before .before .fill .result) (a .last)
+    ∙ border-long (a .out .now) _ (a .at) (a .w) (a .corner) (a .mark) _ (c .before .before .before .fill .ensures)
 
 returns : tie.Need-returns
 unfolding edge

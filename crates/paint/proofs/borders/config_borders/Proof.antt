@@ -64,7 +64,15 @@ array-write-m-3 c = search needs
 returns : tie.Need-returns
 unfolding bordersOf topLeft topRight bottomLeft
 returns c = (
-  rw (c .pick-byte6 .ensures, c .before .pick-byte5 .ensures, c .before .before .pick-byte4 .ensures, c .before .before .before .pick-byte3 .ensures, c .before .before .before .before .pick-byte2 .ensures, c .before .before .before .before .before .pick-byte .ensures, c .before .before .before .before .before .before .both .ensures),
+  rw (
+    c .pick-byte6 .ensures,
+    c .before .pick-byte5 .ensures,
+    c .before .before .pick-byte4 .ensures,
+    c .before .before .before .pick-byte3 .ensures,
+    c .before .before .before .before .pick-byte2 .ensures,
+    c .before .before .before .before .before .pick-byte .ensures,
+    c .before .before .before .before .before .before .both .ensures,
+  ),
   search needs,
 )
 

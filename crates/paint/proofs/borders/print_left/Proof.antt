@@ -30,7 +30,9 @@ returns c =
     let m = a .t6 .marks in
     record {
       end-is = c .before .before .before .before .before .before .before .marked-rows .ensures .end-is;
-      out-is = c .before .before .cross .ensures ∙ rw (c .before .before .before .before .before .before .before .marked-rows .ensures .out-is) (marks-crossed (named (a .n) (a .pieces .now)) (a .out .now) (a .at) (a .stride) (a .n) (a .w) (getD m 13 0) (getD m 2 0) (omega arith));
+      out-is = c .before .before .cross .ensures
+          ∙ rw (c .before .before .before .before .before .before .before .marked-rows .ensures .out-is)
+          (marks-crossed (named (a .n) (a .pieces .now)) (a .out .now) (a .at) (a .stride) (a .n) (a .w) (getD m 13 0) (getD m 2 0) (omega arith));
     }
 
 pub print-left-spec : {M : Type 1} → statement M

@@ -37,7 +37,9 @@ unfolding topOf
 returns c =
     let a = c .before .before .before .before .before .before .before .before .before .before .before .before .before .before .args in
     let m = a .t4 .marks in
-    c .before .before .cross .ensures ∙ rw (c .before .before .before .before .before .before .before .border .ensures) (row-crossed (named (a .w) (a .pieces .now)) (edge 1 (a .t4 .right) (getD m 7 0)) (a .out .now) (a .at) (a .w) (getD m 11 0) (getD m 0 0) (getD m 6 0))
+    c .before .before .cross .ensures
+    ∙ rw (c .before .before .before .before .before .before .before .border .ensures)
+    (row-crossed (named (a .w) (a .pieces .now)) (edge 1 (a .t4 .right) (getD m 7 0)) (a .out .now) (a .at) (a .w) (getD m 11 0) (getD m 0 0) (getD m 6 0))
 
 pub print-top-line-spec : {M : Type 1} → statement M
 print-top-line-spec =

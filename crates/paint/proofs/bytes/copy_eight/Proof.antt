@@ -7,7 +7,8 @@ use Rattle.paint.proofs.bytes.copy_eight.Tie as tie
 returns : tie.Need-returns
 returns c =
     let a = c .before .before .before .before .before .before .before .before .before .before .args in
-    rw (c .before .before .copy-four2 .ensures, c .before .before .before .before .before .before .copy-four .ensures) (eight-stores (a .line .now) (a .out .now) (a .at) (a .from) (omega arith))
+    rw (c .before .before .copy-four2 .ensures, c .before .before .before .before .before .before .copy-four .ensures)
+    (eight-stores (a .line .now) (a .out .now) (a .at) (a .from) (omega arith))
 
 pub copy-eight-spec : {M : Type 1} → statement M
 copy-eight-spec =

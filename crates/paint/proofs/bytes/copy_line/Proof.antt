@@ -7,12 +7,14 @@ use Rattle.paint.proofs.bytes.copy_line.Tie as tie
 returns-2 : tie.Need-returns-2
 returns-2 c =
     let a = c .before .before .before .before .before .before .before .before .before .before .before .before .args in
-    rw (c .before .before .copy-eight2 .ensures, c .before .before .before .before .before .before .copy-eight .ensures) (two-copies 8 (a .line .now) (a .out .now) (a .at) (omega arith) (omega arith))
+    rw (c .before .before .copy-eight2 .ensures, c .before .before .before .before .before .before .copy-eight .ensures)
+    (two-copies 8 (a .line .now) (a .out .now) (a .at) (omega arith) (omega arith))
 
 returns-3 : tie.Need-returns-3
 returns-3 c =
     let a = c .before .before .before .before .before .before .before .before .before .before .before .before .before .args in
-    rw (c .before .before .copy-four2 .ensures, c .before .before .before .before .before .before .copy-four .ensures) (two-copies 4 (a .line .now) (a .out .now) (a .at) (omega arith) (omega arith))
+    rw (c .before .before .copy-four2 .ensures, c .before .before .before .before .before .before .copy-four .ensures)
+    (two-copies 4 (a .line .now) (a .out .now) (a .at) (omega arith) (omega arith))
 
 pub copy-line-spec : {M : Type 1} → statement M
 copy-line-spec =

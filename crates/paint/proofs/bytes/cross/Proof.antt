@@ -14,7 +14,9 @@ use Rattle.paint.proofs.bytes.cross.Tie as tie
 
 -- the places still to come, named by the pieces from i on, make the whole
 abbrev Inv-loop : tie.InvT-loop
-Inv-loop out₀ at step n pieces byte pos₀ i₀ out pos i = (i ≤ length pieces) × (pos ≤ n) × (length out ≡ length out₀) × (crossed out₀ at step n (named n pieces) byte ≡ crossed out at step n (namedFrom n pos i (drop i pieces)) byte)
+Inv-loop out₀ at step n pieces byte pos₀ i₀ out pos i =
+    (i ≤ length pieces) × (pos ≤ n) × (length out ≡ length out₀)
+    × (crossed out₀ at step n (named n pieces) byte ≡ crossed out at step n (namedFrom n pos i (drop i pieces)) byte)
 
 abbrev μ-loop : tie.MeasureT-loop
 μ-loop out₀ at step n pieces byte pos₀ i₀ out pos i = length pieces - i
@@ -71,8 +73,18 @@ loop-again c =
     let p = c .before .before .wide16 .result in
     let here : p ≡ getD l (k .i) 0 = c .before .before .wide16 .ensures .0 in
     ⊎-elim
-    (λ w. (omega arith, omega arith, rw (w .1, length-set) (k .inv .2), rw (w .1) (k .inv .3 ∙ cross-in l (a .at) (a .step) (a .n) (a .byte) (k .out) (k .pos) (k .i) (omega arith) p here (omega arith) (w .0 .taken))))
-    (λ w. (omega arith, omega arith, rw (w .1) (k .inv .2), rw (w .1) (k .inv .3 ∙ cross-out l (a .at) (a .step) (a .n) (a .byte) (k .out) (k .pos) (k .i) (omega arith) p here (omega arith) (w .0 .left))))
+    (λ w. (
+      omega arith,
+      omega arith,
+      rw (w .1, length-set) (k .inv .2),
+      rw (w .1) (k .inv .3 ∙ cross-in l (a .at) (a .step) (a .n) (a .byte) (k .out) (k .pos) (k .i) (omega arith) p here (omega arith) (w .0 .taken)),
+    ))
+    (λ w. (
+      omega arith,
+      omega arith,
+      rw (w .1) (k .inv .2),
+      rw (w .1) (k .inv .3 ∙ cross-out l (a .at) (a .step) (a .n) (a .byte) (k .out) (k .pos) (k .i) (omega arith) p here (omega arith) (w .0 .left)),
+    ))
     (c .if2 .came)
 
 same-length-2 : tie.Need-same-length-2 Inv-loop μ-loop

@@ -13,7 +13,8 @@ use Rattle.paint.proofs.bytes.marked_rows.Tie as tie
 -- the lines still to come make the whole
 abbrev Inv-loop : tie.InvT-loop
 Inv-loop out₀ at stride n w mark p₀ i₀ out p i =
-    (i ≤ n) × LinesLeft (pasted out₀ at stride (replicate n (mark ∷ replicate w 32))) (length out₀) (at + n * stride) out p stride (1 + w) (replicate (n - i) (mark ∷ replicate w 32))
+    (i ≤ n) × LinesLeft (pasted out₀ at stride (replicate n (mark ∷ replicate w 32))) (length out₀) (at + n * stride) out p stride (1 + w)
+    (replicate (n - i) (mark ∷ replicate w 32))
 
 abbrev μ-loop : tie.MeasureT-loop
 μ-loop out₀ at stride n w mark p₀ i₀ out p i = n - i

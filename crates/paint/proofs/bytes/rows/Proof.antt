@@ -10,7 +10,9 @@ use Rattle.paint.proofs.bytes.rows.Tie as tie
 
 -- the lines still to come make the whole
 abbrev Inv-loop : tie.InvT-loop
-Inv-loop out₀ at stride n w byte p₀ i₀ out p i = (i ≤ n) × LinesLeft (pasted out₀ at stride (replicate n (replicate w byte))) (length out₀) (at + n * stride) out p stride w (replicate (n - i) (replicate w byte))
+Inv-loop out₀ at stride n w byte p₀ i₀ out p i =
+    (i ≤ n) × LinesLeft (pasted out₀ at stride (replicate n (replicate w byte))) (length out₀) (at + n * stride) out p stride w
+    (replicate (n - i) (replicate w byte))
 
 abbrev μ-loop : tie.MeasureT-loop
 μ-loop out₀ at stride n w byte p₀ i₀ out p i = n - i

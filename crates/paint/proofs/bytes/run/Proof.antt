@@ -16,7 +16,8 @@ fill-step l i end b h = let e : end - i ≡ suc (end - (i + 1)) = omega arith in
 
 -- the stores still to come, from i to `end`, make the whole
 abbrev Inv-loop : tie.InvT-loop
-Inv-loop out₀ at n byte end i₀ out i = (i ≤ end) × ((end ≡ at + n) × ((length out ≡ length out₀) × (sets out₀ at (replicate n byte) ≡ sets out i (replicate (end - i) byte))))
+Inv-loop out₀ at n byte end i₀ out i =
+    (i ≤ end) × ((end ≡ at + n) × ((length out ≡ length out₀) × (sets out₀ at (replicate n byte) ≡ sets out i (replicate (end - i) byte))))
 
 abbrev μ-loop : tie.MeasureT-loop
 μ-loop out₀ at n byte end i₀ out i = end - i

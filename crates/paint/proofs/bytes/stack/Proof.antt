@@ -11,7 +11,8 @@ use Rattle.paint.proofs.bytes.stack.Tie as tie
 
 -- the lines still to come make the whole
 abbrev Inv-loop : tie.InvT-loop
-Inv-loop out₀ at stride n byte p₀ i₀ out p i = (i ≤ n) × LinesLeft (pasted out₀ at stride (replicate n (byte ∷ []))) (length out₀) (at + n * stride) out p stride 1 (replicate (n - i) (byte ∷ []))
+Inv-loop out₀ at stride n byte p₀ i₀ out p i =
+    (i ≤ n) × LinesLeft (pasted out₀ at stride (replicate n (byte ∷ []))) (length out₀) (at + n * stride) out p stride 1 (replicate (n - i) (byte ∷ []))
 
 abbrev μ-loop : tie.MeasureT-loop
 μ-loop out₀ at stride n byte p₀ i₀ out p i = n - i

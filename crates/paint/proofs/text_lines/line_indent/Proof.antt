@@ -17,8 +17,15 @@ indent-start-requires c κs =
 returns : tie.Need-returns
 unfolding indent
 returns c =
-    let a = c .before .before .before .args in
-    (rw (c .indent-start .ensures .0, c .before .line-width .ensures), omega (arith, c .indent-start .ensures .1, c .before .line-width .ensures, mode-le (a .s .«line_mode») (length (a .line .now)) (a .widest) (omega arith)))
+    let a = c .before .before .before .args in (
+      rw (c .indent-start .ensures .0, c .before .line-width .ensures),
+      omega (
+        arith,
+        c .indent-start .ensures .1,
+        c .before .line-width .ensures,
+        mode-le (a .s .«line_mode») (length (a .line .now)) (a .widest) (omega arith),
+      ),
+    )
 
 pub line-indent-spec : {M : Type 1} → statement M
 line-indent-spec =

@@ -40,20 +40,24 @@ end-of-line-requires c κs =
     (here, λ e. last-end t (k .from) here (k .inv .0 ∙ eqb-true _ _ e) _ refl)
 
 sub-text-line : tie.Need-sub-text-line Inv-loop μ-loop
-sub-text-line c = let k = c .before .before .before .loop in line-from _ _ (more-from _ (k .from) _ (k .inv .0) (omega arith)) _ (c .before .end-of-line .ensures)
+sub-text-line c = let k = c .before .before .before .loop in
+    line-from _ _ (more-from _ (k .from) _ (k .inv .0) (omega arith)) _ (c .before .end-of-line .ensures)
 
 part-text-line-start : tie.Need-part-text-line-start Inv-loop μ-loop
-part-text-line-start c = let k = c .before .before .before .loop in line-from _ _ (more-from _ (k .from) _ (k .inv .0) (omega arith)) _ (c .before .end-of-line .ensures)
+part-text-line-start c = let k = c .before .before .before .loop in
+    line-from _ _ (more-from _ (k .from) _ (k .inv .0) (omega arith)) _ (c .before .end-of-line .ensures)
 
 part-text-line-end : tie.Need-part-text-line-end Inv-loop μ-loop
-part-text-line-end c = let k = c .before .before .before .loop in line-in _ _ (more-from _ (k .from) _ (k .inv .0) (omega arith)) _ (c .before .end-of-line .ensures)
+part-text-line-end c = let k = c .before .before .before .loop in
+    line-in _ _ (more-from _ (k .from) _ (k .inv .0) (omega arith)) _ (c .before .end-of-line .ensures)
 
 text-line-requires : tie.Need-text-line-requires Inv-loop μ-loop
 text-line-requires c κs =
     let start = c .before .before .before .before .before .before .before in
     let t = start .args .text .now in
     let k = c .before .before .before .before .loop in
-    let next = rest-next t (k .from) (more-from t (k .from) _ (k .inv .0) (omega arith)) (c .before .before .end-of-line .result) (c .before .before .end-of-line .ensures) in
+    let next = rest-next t (k .from) (more-from t (k .from) _ (k .inv .0) (omega arith)) (c .before .before .end-of-line .result)
+    (c .before .before .end-of-line .ensures) in
     ((rw next at (k .inv .1)) .0, start .pre .0 .3, omega (arith, still-room (rw next at (k .inv .2))))
 
 add-p : tie.Need-add-p Inv-loop μ-loop
@@ -75,10 +79,15 @@ loop-again c =
     let d = c .before .before .before .before .before in
     let a = d .before .before .before .before .before .args in
     let k = d .before .before .loop in
-    let next = rest-next (a .text .now) (k .from) (more-from (a .text .now) (k .from) _ (k .inv .0) (omega arith)) (d .end-of-line .result) (d .end-of-line .ensures) in
+    let next = rest-next (a .text .now) (k .from) (more-from (a .text .now) (k .from) _ (k .inv .0) (omega arith)) (d .end-of-line .result)
+    (d .end-of-line .ensures) in
     let fewer = rw next at (k .inv .0) in
-    let w = c .before .before .text-line .ensures in
-    (omega (arith, fewer), (rw next at (k .inv .1)) .1, rw (w .0) (still-step (rw next at (k .inv .2)) (k .p + (a .s .left + indent (a .s) (a .inner) (a .widest) _)) (omega (arith, w .1)) (λ b. line-over (a .s) (a .inner) (a .widest) _ b (k .p) (w .1))))
+    let w = c .before .before .text-line .ensures in (
+      omega (arith, fewer),
+      (rw next at (k .inv .1)) .1,
+      rw (w .0) (still-step (rw next at (k .inv .2)) (k .p + (a .s .left + indent (a .s) (a .inner) (a .widest) _)) (omega (arith, w .1))
+          (λ b. line-over (a .s) (a .inner) (a .widest) _ b (k .p) (w .1))),
+    )
 
 same-length : tie.Need-same-length Inv-loop μ-loop
 same-length c = c .before .loop .inv .2 .long

@@ -56,10 +56,30 @@ abbrev μ : end-group-lts.MeasureT-loop
 
 -- the claims of the functions that each calls
 abbrev G : ℕ → end-group-lts.Claims
-G t = (length-at-reads.Asked, length-at-reads.Learnt, node-below t, end-node.Post, with-child-reads.Asked, with-child-reads.Learnt, separator-reads.Asked, separator-reads.Learnt, span-size-reads.Asked, span-size-reads.Learnt)
+G t = (
+  length-at-reads.Asked,
+  length-at-reads.Learnt,
+  node-below t,
+  end-node.Post,
+  with-child-reads.Asked,
+  with-child-reads.Learnt,
+  separator-reads.Asked,
+  separator-reads.Learnt,
+  span-size-reads.Asked,
+  span-size-reads.Learnt,
+)
 
 abbrev N : ℕ → end-node-lts.Claims
-N t = (read-front-reads.Asked, read-front-reads.Learnt, range-end-reads.Asked, range-end-reads.Learnt, text-end-reads.Asked, text-end-reads.Learnt, group-below t, end-group.Post)
+N t = (
+  read-front-reads.Asked,
+  read-front-reads.Learnt,
+  range-end-reads.Asked,
+  range-end-reads.Learnt,
+  text-end-reads.Asked,
+  text-end-reads.Learnt,
+  group-below t,
+  end-group.Post,
+)
 
 -- ---- the group: inside the loop, and what is known there
 
@@ -72,15 +92,18 @@ entry t k = k .before .before .before
 abbrev Description : (t : ℕ) → Turning t → Type 0
 Description t k = let a = entry t k .args in ReadyPlans (a .settings) (a .most) (a .across) (a .s .now)
 
-abbrev turn-at : (t : ℕ) (k : Turning t) (q : Description t k) → let a = entry t k .args in let m = k .before .loop in MorePlans (Turn (a .settings) (a .most) (a .across) (a .s .now) q (m .at) (m .g))
+abbrev turn-at : (t : ℕ) (k : Turning t) (q : Description t k) → let a = entry t k .args in let m = k .before .loop in
+    MorePlans (Turn (a .settings) (a .most) (a .across) (a .s .now) q (m .at) (m .g))
 turn-at t k q = let m = k .before .loop in turn (entry t k .args .s .now) (m .at) _ (λ rest l. l .passing) (m .inv q) (k .loop-test .taken)
 
 -- the bytes of the next plan and of those after it
 abbrev part-at : (t : ℕ) → Turning t → List ℕ
 part-at t k = let s = entry t k .args .s .now in let at = k .before .loop .at in take (length s - at) (drop at s)
 
-whole-at : (t : ℕ) (k : Turning t) → (3 + lengthAt (part-at t k) ≤ length (part-at t k)) × (k .before .loop .at + (3 + lengthAt (part-at t k)) ≤ length (entry t k .args .s .now))
-whole-at t k = let s = entry t k .args .s .now in let at = k .before .loop .at in next-whole s at (turn-at t k (entry t k .pre .1) .holds .passing) _ (part-to-end s at)
+whole-at : (t : ℕ) (k : Turning t)
+    → (3 + lengthAt (part-at t k) ≤ length (part-at t k)) × (k .before .loop .at + (3 + lengthAt (part-at t k)) ≤ length (entry t k .args .s .now))
+whole-at t k = let s = entry t k .args .s .now in let at = k .before .loop .at in
+    next-whole s at (turn-at t k (entry t k .pre .1) .holds .passing) _ (part-to-end s at)
 
 abbrev kid-at : (t : ℕ) (k : Turning t) (q : Description t k) → ReadyPlan (entry t k .args .settings) (entry t k .args .most) (part-at t k)
 kid-at t k q = let m = k .before .loop in kid-ready _ _ _ _ q (m .at) (m .g) _ _ (turn-at t k q .holds) _ (part-to-end (entry t k .args .s .now) (m .at))
@@ -92,19 +115,22 @@ group-length-at-requires : (t : ℕ) → end-group-lts.Need-length-at-requires (
 group-length-at-requires t c κs = omega (arith, whole-at t (c .before) .0)
 
 group-end-node-requires : (t : ℕ) → end-group-lts.Need-end-node-requires (G t) (group-at t) end-group.Post Inv μ
-group-end-node-requires t c κs = let k = c .before .before in (part-shorter (entry t k .args .s .now) (k .before .loop .at) t (entry t k .pre .0), kid-at t k (entry t k .pre .1))
+group-end-node-requires t c κs = let k = c .before .before in
+    (part-shorter (entry t k .args .s .now) (k .before .loop .at) t (entry t k .pre .0), kid-at t k (entry t k .pre .1))
 
 group-with-child-requires : (t : ℕ) → end-group-lts.Need-with-child-requires (G t) (group-at t) end-group.Post Inv μ
 group-with-child-requires t c κs =
     let k = c .before .before .before in
     let q = entry t k .pre .1 in
-    child-asks _ _ _ _ q _ _ _ _ (turn-at t k q .holds) _ (part-to-end (entry t k .args .s .now) (k .before .loop .at)) _ (c .end-node .ensures (kid-at t k q)) (omega (arith, entry t k .good .0))
+    child-asks _ _ _ _ q _ _ _ _ (turn-at t k q .holds) _ (part-to-end (entry t k .args .s .now) (k .before .loop .at)) _ (c .end-node .ensures (kid-at t k q))
+    (omega (arith, entry t k .good .0))
 
 -- the plan is measured
 abbrev Measured : ℕ → Type 0
 Measured t = end-group-lts.After-with-child (G t) (group-at t) end-group.Post Inv μ
 
-used-at : (t : ℕ) (c : Measured t) → let k = c .before .before .before .before in k .before .loop .at + (3 + c .before .before .length-at .result) ≤ length (entry t k .args .s .now)
+used-at : (t : ℕ) (c : Measured t) → let k = c .before .before .before .before in
+    k .before .loop .at + (3 + c .before .before .length-at .result) ≤ length (entry t k .args .s .now)
 used-at t c = rw (c .before .before .length-at .ensures .0) (whole-at t (c .before .before .before .before) .1)
 
 group-add-at : (t : ℕ) → end-group-lts.Need-add-at (G t) (group-at t) end-group.Post Inv μ
@@ -116,20 +142,24 @@ group-loop-less t c = omega (arith, used-at t c)
 group-loop-again : (t : ℕ) → end-group-lts.Need-loop-again (G t) (group-at t) end-group.Post Inv μ
 group-loop-again t c =
     let k = c .before .before .before .before in
-    λ q. rw (c .before .before .length-at .ensures .0, c .with-child .ensures) (next _ _ _ _ q _ _ _ _ (turn-at t k q .holds) _ (part-to-end (entry t k .args .s .now) (k .before .loop .at)) _ (c .before .end-node .ensures (kid-at t k q)))
+    λ q. rw (c .before .before .length-at .ensures .0, c .with-child .ensures)
+    (next _ _ _ _ q _ _ _ _ (turn-at t k q .holds) _ (part-to-end (entry t k .args .s .now) (k .before .loop .at)) _
+    (c .before .end-node .ensures (kid-at t k q)))
 
 group-span-size-requires : (t : ℕ) → end-group-lts.Need-span-size-requires (G t) (group-at t) end-group.Post Inv μ
 group-span-size-requires t c κs =
     let u = c .before .before .before .before in
     let m = c .before .before .loop in
     let q = u .pre .1 in
-    span-asks _ _ _ _ q (m .at) (m .g) (over (u .args .s .now) (m .at) _ (λ rest l. l .passing) (m .inv q) (c .before .loop-test .left)) _ (c .separator .ensures .0)
+    span-asks _ _ _ _ q (m .at) (m .g) (over (u .args .s .now) (m .at) _ (λ rest l. l .passing) (m .inv q) (c .before .loop-test .left)) _
+    (c .separator .ensures .0)
 
 group-returns : (t : ℕ) → end-group-lts.Need-returns (G t) (group-at t) end-group.Post Inv μ
 group-returns t c = λ q.
     let u = c .before .before .before .before .before in
     let m = c .before .before .before .loop in
-    ends _ _ _ _ q (m .at) (m .g) (over (u .args .s .now) (m .at) _ (λ rest l. l .passing) (m .inv q) (c .before .before .loop-test .left)) _ (c .before .separator .ensures .0) _ (c .span-size .ensures)
+    ends _ _ _ _ q (m .at) (m .g) (over (u .args .s .now) (m .at) _ (λ rest l. l .passing) (m .inv q) (c .before .before .loop-test .left)) _
+    (c .before .separator .ensures .0) _ (c .span-size .ensures)
 
 -- ---- the node
 
@@ -139,11 +169,13 @@ node-read-front-requires t c κs = let q = c .before .pre .1 in front-asks (q .p
 node-read-tag : (t : ℕ) → end-node-lts.Need-shared-slice-read-if1 (N t) (node-at t) end-node.Post
 node-read-tag t c = let q = c .before .before .before .pre .1 in omega (arith, front-asks (q .plan) _ (q .is))
 
-node-end : (t : ℕ) (c : end-node-lts.After-read-front (N t) (node-at t) end-node.Post) → (3 ≤ c .read-front .result .end) × (c .read-front .result .end ≤ length (c .before .before .args .s .now))
+node-end : (t : ℕ) (c : end-node-lts.After-read-front (N t) (node-at t) end-node.Post)
+    → (3 ≤ c .read-front .result .end) × (c .read-front .result .end ≤ length (c .before .before .args .s .now))
 node-end t c = let q = c .before .before .pre .1 in end-in (q .plan) _ (q .is) _ (c .read-front .ensures)
 
 node-range-end-requires : (t : ℕ) → end-node-lts.Need-range-end-requires (N t) (node-at t) end-node.Post
-node-range-end-requires t c κs = range-asks _ _ _ (c .before .before .before .before .before .pre .1) _ (c .before .before .before .read-front .ensures) (c .before .if1 .taken)
+node-range-end-requires t c κs =
+    range-asks _ _ _ (c .before .before .before .before .before .pre .1) _ (c .before .before .before .read-front .ensures) (c .before .if1 .taken)
 
 node-returns : (t : ℕ) → end-node-lts.Need-returns (N t) (node-at t) end-node.Post
 node-returns t c = λ q. range-gives _ _ _ q _ (c .before .before .before .before .read-front .ensures) (c .before .before .if1 .taken) _ (c .range-end .ensures)
@@ -151,10 +183,13 @@ node-returns t c = λ q. range-gives _ _ _ q _ (c .before .before .before .befor
 node-text-end-requires : (t : ℕ) → end-node-lts.Need-text-end-requires (N t) (node-at t) end-node.Post
 node-text-end-requires t c κs =
     let u = c .before .before .before .before .before .before in
-    leaf-asks _ _ _ (u .pre .1) _ (c .before .before .before .before .read-front .ensures) (c .before .before .if1 .left) (c .before .if2 .taken) (omega (arith, u .good .0))
+    leaf-asks _ _ _ (u .pre .1) _ (c .before .before .before .before .read-front .ensures) (c .before .before .if1 .left) (c .before .if2 .taken)
+    (omega (arith, u .good .0))
 
 node-returns-2 : (t : ℕ) → end-node-lts.Need-returns-2 (N t) (node-at t) end-node.Post
-node-returns-2 t c = λ q. leaf-gives _ _ _ q _ (c .before .before .before .before .before .read-front .ensures) (c .before .before .before .if1 .left) (c .before .before .if2 .taken) _ (c .text-end .ensures)
+node-returns-2 t c = λ q.
+    leaf-gives _ _ _ q _ (c .before .before .before .before .before .read-front .ensures) (c .before .before .before .if1 .left)
+    (c .before .before .if2 .taken) _ (c .text-end .ensures)
 
 node-end-group-requires : (t : ℕ) → end-node-lts.Need-end-group-requires (N t) (node-at t) end-node.Post
 node-end-group-requires t c κs =

@@ -8,7 +8,13 @@ returns : tie.Need-returns
 unfolding outer
 returns c =
     let w = c .before .before in (
-      rw (w .before .before .before .before .before .separator .ensures .0, w .wide4 .ensures .0, w .before .wide3 .ensures .0, w .before .before .wide2 .ensures .0, w .before .before .before .wide .ensures .0),
+      rw (
+        w .before .before .before .before .before .separator .ensures .0,
+        w .wide4 .ensures .0,
+        w .before .wide3 .ensures .0,
+        w .before .before .wide2 .ensures .0,
+        w .before .before .before .wide .ensures .0,
+      ),
       record { wide = omega arith; tall = omega arith },
     )
 

@@ -35,7 +35,8 @@ loop-again c =
     reached-byte (c .before .before .before .before .before .args .s .now) (l .i) (l .r) (l .inv) (omega arith) _ (c .at-byte .ensures)
 
 returns : tie.Need-returns Inv-loop μ-loop
-returns c = let l = c .before .loop in let w = l .inv .within in let e : l .i ≡ length (c .before .before .before .args .s .now) = omega arith in rw e at (l .inv)
+returns c = let l = c .before .loop in let w = l .inv .within in let e : l .i ≡ length (c .before .before .before .args .s .now) = omega arith in
+    rw e at (l .inv)
 
 pub in-bytes-spec : {M : Type 1} → statement M
 in-bytes-spec =

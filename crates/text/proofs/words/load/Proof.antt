@@ -20,7 +20,8 @@ add-result : tie.Need-add-result
 add-result c = search needs
 
 returns : tie.Need-returns
-returns c = load-eight (c .before .before .before .args .s .now) (c .before .before .before .args .at) _ _ _ (search needs) (c .before .load-half .ensures .0) (c .load-half2 .ensures .0) (omega arith)
+returns c = load-eight (c .before .before .before .args .s .now) (c .before .before .before .args .at) _ _ _ (search needs) (c .before .load-half .ensures .0)
+    (c .load-half2 .ensures .0) (omega arith)
 
 pub load-spec : {M : Type 1} → statement M
 load-spec =

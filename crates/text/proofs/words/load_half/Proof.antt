@@ -11,8 +11,10 @@ returns c =
     let w₀ = c .before .before .before .before .before .before .wide .ensures in
     let w₁ = c .before .before .before .before .wide2 .ensures in
     let w₂ = c .before .before .wide3 .ensures in
-    let w₃ = c .wide4 .ensures in
-    (load-four s at _ (search needs) (omega (arith, w₀)) (omega (arith, w₁)) (omega (arith, w₂)) (omega (arith, w₃)) (omega (arith, w₀, w₁, w₂, w₃)), omega (arith, w₀, w₁, w₂, w₃))
+    let w₃ = c .wide4 .ensures in (
+      load-four s at _ (search needs) (omega (arith, w₀)) (omega (arith, w₁)) (omega (arith, w₂)) (omega (arith, w₃)) (omega (arith, w₀, w₁, w₂, w₃)),
+      omega (arith, w₀, w₁, w₂, w₃),
+    )
 
 pub load-half-spec : {M : Type 1} → statement M
 load-half-spec =

@@ -17,16 +17,26 @@ check-text-requires : tie.Need-check-text-requires
 check-text-requires c κs = search needs
 
 add-no-line : tie.Need-add-no-line
-add-no-line c = omega (arith, c .before .before .before .check-text .ensures .1, part-short (c .before .before .before .before .before .before .args .x .now) (c .before .before .before .before .before .before .args .start))
+add-no-line c = omega (
+  arith,
+  c .before .before .before .check-text .ensures .1,
+  part-short (c .before .before .before .before .before .before .args .x .now) (c .before .before .before .before .before .before .args .start),
+)
 
 add-no-line-2 : tie.Need-add-no-line-2
-add-no-line-2 c = omega (arith, c .before .before .before .check-text .ensures .1, part-short (c .before .before .before .before .before .before .args .x .now) (c .before .before .before .before .before .before .args .start))
+add-no-line-2 c = omega (
+  arith,
+  c .before .before .before .check-text .ensures .1,
+  part-short (c .before .before .before .before .before .before .args .x .now) (c .before .before .before .before .before .before .args .start),
+)
 
 no-line-requires : tie.Need-no-line-requires
 no-line-requires c κs = search needs
 
 returns : tie.Need-returns
-returns c = cell-wrong _ _ _ (c .before .before .before .before .before .before .before .pre .0) (c .before .before .before .before .before .before .before .pre .1) _ (c .before .before .before .before .check-text .ensures .0) _ (c .before .before .if1 .taken) (c .no-line .ensures)
+returns c = cell-wrong _ _ _ (c .before .before .before .before .before .before .before .pre .0)
+    (c .before .before .before .before .before .before .before .pre .1) _ (c .before .before .before .before .check-text .ensures .0) _
+    (c .before .before .if1 .taken) (c .no-line .ensures)
 
 leveled-requires : tie.Need-leveled-requires
 leveled-requires c κs = search needs

@@ -18,11 +18,22 @@ returns-2 c = rw (sym (c .before .before .before .both .ensures) ∙ c .before .
 
 returns-3 : tie.Need-returns-3
 unfolding placeFault
-returns-3 c = rw (sym (c .before .before .before .before .both .ensures) ∙ c .before .before .before .if1 .left, le-ltb _ _ (c .before .if2 .left), le-leb _ _ (c .if3 .taken))
+returns-3 c = rw (
+  sym (c .before .before .before .before .both .ensures)
+      ∙ c .before .before .before .if1 .left,
+  le-ltb _ _ (c .before .if2 .left),
+  le-leb _ _ (c .if3 .taken),
+)
 
 returns-4 : tie.Need-returns-4
 unfolding placeFault
-returns-4 c = rw (sym (c .before .before .before .before .before .before .both .ensures) ∙ c .before .before .before .before .before .if1 .left, le-ltb _ _ (c .before .before .before .if2 .left), lt-leb _ _ (c .before .before .if3 .left), le-leb _ _ (c .if4 .taken))
+returns-4 c = rw (
+  sym (c .before .before .before .before .before .before .both .ensures)
+      ∙ c .before .before .before .before .before .if1 .left,
+  le-ltb _ _ (c .before .before .before .if2 .left),
+  lt-leb _ _ (c .before .before .if3 .left),
+  le-leb _ _ (c .if4 .taken),
+)
 
 add-if5 : tie.Need-add-if5
 add-if5 c = search needs
@@ -32,11 +43,25 @@ add-if5-2 c = search needs
 
 returns-5 : tie.Need-returns-5
 unfolding placeFault
-returns-5 c = rw (sym (c .before .before .before .before .before .before .before .before .both .ensures) ∙ c .before .before .before .before .before .before .before .if1 .left, le-ltb _ _ (c .before .before .before .before .before .if2 .left), lt-leb _ _ (c .before .before .before .before .if3 .left), lt-leb _ _ (c .before .before .if4 .left), lt-ltb _ _ (c .if5 .taken))
+returns-5 c = rw (
+  sym (c .before .before .before .before .before .before .before .before .both .ensures)
+      ∙ c .before .before .before .before .before .before .before .if1 .left,
+  le-ltb _ _ (c .before .before .before .before .before .if2 .left),
+  lt-leb _ _ (c .before .before .before .before .if3 .left),
+  lt-leb _ _ (c .before .before .if4 .left),
+  lt-ltb _ _ (c .if5 .taken),
+)
 
 returns-6 : tie.Need-returns-6
 unfolding placeFault
-returns-6 c = rw (sym (c .before .before .before .before .before .before .before .before .both .ensures) ∙ c .before .before .before .before .before .before .before .if1 .left, le-ltb _ _ (c .before .before .before .before .before .if2 .left), lt-leb _ _ (c .before .before .before .before .if3 .left), lt-leb _ _ (c .before .before .if4 .left), le-ltb _ _ (c .if5 .left))
+returns-6 c = rw (
+  sym (c .before .before .before .before .before .before .before .before .both .ensures)
+      ∙ c .before .before .before .before .before .before .before .if1 .left,
+  le-ltb _ _ (c .before .before .before .before .before .if2 .left),
+  lt-leb _ _ (c .before .before .before .before .if3 .left),
+  lt-leb _ _ (c .before .before .if4 .left),
+  le-ltb _ _ (c .if5 .left),
+)
 
 pub place-spec : {M : Type 1} → statement M
 place-spec =

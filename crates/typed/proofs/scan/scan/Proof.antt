@@ -34,40 +34,83 @@ part-read-line-end : tie.Need-part-read-line-end Inv-loop μ-loop
 part-read-line-end c = line-in _ _ (c .before .loop-test .taken) _ (c .line-end .ensures)
 
 read-line-requires : tie.Need-read-line-requires Inv-loop μ-loop
-read-line-requires c κs = rw (line-long _ _ (c .before .before .loop-test .taken) _ (c .before .line-end .ensures)) (omega (arith, line-in _ _ (c .before .before .loop-test .taken) _ (c .before .line-end .ensures)))
+read-line-requires c κs =
+    rw (line-long _ _ (c .before .before .loop-test .taken) _ (c .before .line-end .ensures))
+    (omega (arith, line-in _ _ (c .before .before .loop-test .taken) _ (c .before .line-end .ensures)))
 
 add-lines : tie.Need-add-lines Inv-loop μ-loop
 add-lines c = omega (arith, c .before .before .before .before .loop .inv .few)
 
 fault-requires : tie.Need-fault-requires Inv-loop μ-loop
-fault-requires c κs = numbers-small _ (c .before .before .before .before .before .before .before .pre) _ _ _ _ (c .before .before .before .before .loop .inv) (c .before .before .before .loop-test .taken) _ (c .before .before .line-end .ensures) _ (c .read-line .ensures) .0
+fault-requires c κs =
+    numbers-small _ (c .before .before .before .before .before .before .before .pre) _ _ _ _ (c .before .before .before .before .loop .inv)
+    (c .before .before .before .loop-test .taken) _ (c .before .before .line-end .ensures) _ (c .read-line .ensures) .0
 
 stop-at-requires : tie.Need-stop-at-requires Inv-loop μ-loop
 stop-at-requires c κs = search needs
 
 returns : tie.Need-returns Inv-loop μ-loop
-returns c = reading-stop _ (c .before .before .before .before .before .before .before .before .before .before .pre) _ _ _ _ (c .before .before .before .before .before .before .before .loop .inv) (c .before .before .before .before .before .before .loop-test .taken) _ (c .before .before .before .before .before .line-end .ensures) _ (c .before .before .before .read-line .ensures) _ (c .before .before .fault .ensures) (c .before .if1 .taken) _ (c .stop-at .ensures .0) (c .stop-at .ensures .1) (c .stop-at .ensures .2)
+returns c = reading-stop _ (c .before .before .before .before .before .before .before .before .before .before .pre) _ _ _ _
+    (c .before .before .before .before .before .before .before .loop .inv) (c .before .before .before .before .before .before .loop-test .taken) _
+    (c .before .before .before .before .before .line-end .ensures) _ (c .before .before .before .read-line .ensures) _ (c .before .before .fault .ensures)
+    (c .before .if1 .taken) _ (c .stop-at .ensures .0) (c .stop-at .ensures .1) (c .stop-at .ensures .2)
 
 spot-of-requires : tie.Need-spot-of-requires Inv-loop μ-loop
-spot-of-requires c κs = (omega arith, numbers-small _ (c .before .before .before .before .before .before .before .before .before .before .before .pre) _ _ _ _ (c .before .before .before .before .before .before .before .before .loop .inv) (c .before .before .before .before .before .before .before .loop-test .taken) _ (c .before .before .before .before .before .before .line-end .ensures) _ (c .before .before .before .before .read-line .ensures) .1, numbers-small _ (c .before .before .before .before .before .before .before .before .before .before .before .pre) _ _ _ _ (c .before .before .before .before .before .before .before .before .loop .inv) (c .before .before .before .before .before .before .before .loop-test .taken) _ (c .before .before .before .before .before .before .line-end .ensures) _ (c .before .before .before .before .read-line .ensures) .2)
+spot-of-requires c κs = (
+  omega arith,
+  numbers-small _ (c .before .before .before .before .before .before .before .before .before .before .before .pre) _ _ _ _
+      (c .before .before .before .before .before .before .before .before .loop .inv)
+      (c .before .before .before .before .before .before .before .loop-test .taken) _ (c .before .before .before .before .before .before .line-end .ensures) _
+      (c .before .before .before .before .read-line .ensures) .1,
+  numbers-small _ (c .before .before .before .before .before .before .before .before .before .before .before .pre) _ _ _ _
+      (c .before .before .before .before .before .before .before .before .loop .inv)
+      (c .before .before .before .before .before .before .before .loop-test .taken) _ (c .before .before .before .before .before .before .line-end .ensures) _
+      (c .before .before .before .before .read-line .ensures) .2,
+)
 
 mul-spots : tie.Need-mul-spots Inv-loop μ-loop
 mul-spots c = search needs
 
 array-set-from-spots : tie.Need-array-set-from-spots Inv-loop μ-loop
-array-set-from-spots c = reading-room _ (c .before .before .before .before .before .before .before .before .before .before .before .before .pre) _ _ _ _ (c .before .before .before .before .before .before .before .before .before .loop .inv) (c .before .before .before .before .before .before .before .before .loop-test .taken) _ (c .before .before .before .before .before .before .before .line-end .ensures) _ (c .before .before .before .before .before .read-line .ensures) _ (c .before .before .before .before .fault .ensures) (c .before .before .before .if1 .left) (c .before .if2 .taken)
+array-set-from-spots c =
+    reading-room _ (c .before .before .before .before .before .before .before .before .before .before .before .before .pre) _ _ _ _
+    (c .before .before .before .before .before .before .before .before .before .loop .inv)
+    (c .before .before .before .before .before .before .before .before .loop-test .taken) _
+    (c .before .before .before .before .before .before .before .line-end .ensures) _ (c .before .before .before .before .before .read-line .ensures) _
+    (c .before .before .before .before .fault .ensures) (c .before .before .before .if1 .left) (c .before .if2 .taken)
 
 next-requires : tie.Need-next-requires Inv-loop μ-loop
-next-requires c κs = numbers-small _ (c .before .before .before .before .before .before .before .before .before .before .before .before .pre) _ _ _ _ (c .before .before .before .before .before .before .before .before .before .loop .inv) (c .before .before .before .before .before .before .before .before .loop-test .taken) _ (c .before .before .before .before .before .before .before .line-end .ensures) _ (c .before .before .before .before .before .read-line .ensures) .0
+next-requires c κs =
+    numbers-small _ (c .before .before .before .before .before .before .before .before .before .before .before .before .pre) _ _ _ _
+    (c .before .before .before .before .before .before .before .before .before .loop .inv)
+    (c .before .before .before .before .before .before .before .before .loop-test .taken) _
+    (c .before .before .before .before .before .before .before .line-end .ensures) _ (c .before .before .before .before .before .read-line .ensures) .0
 
 add-from : tie.Need-add-from Inv-loop μ-loop
-add-from c = omega (arith, line-in _ _ (c .before .before .before .before .before .before .before .loop-test .taken) _ (c .before .before .before .before .before .before .line-end .ensures))
+add-from c = omega (
+  arith,
+  line-in _ _ (c .before .before .before .before .before .before .before .loop-test .taken) _
+      (c .before .before .before .before .before .before .line-end .ensures),
+)
 
 loop-less : tie.Need-loop-less Inv-loop μ-loop
-loop-less c = omega (arith, line-from _ _ (c .before .before .before .before .before .before .before .loop-test .taken) _ (c .before .before .before .before .before .before .line-end .ensures))
+loop-less c = omega (
+  arith,
+  line-from _ _ (c .before .before .before .before .before .before .before .loop-test .taken) _
+      (c .before .before .before .before .before .before .line-end .ensures),
+)
 
 loop-again : tie.Need-loop-again Inv-loop μ-loop
-loop-again c = ⊎-elim (λ w. reading-next _ (c .before .before .before .before .before .before .before .before .before .before .before .pre) _ _ _ _ (c .before .before .before .before .before .before .before .before .loop .inv) (c .before .before .before .before .before .before .before .loop-test .taken) _ (c .before .before .before .before .before .before .line-end .ensures) _ (c .before .before .before .before .read-line .ensures) _ (c .before .before .before .fault .ensures) _ _ _ (w .3) (w .1 .ensures) (w .4 ∙ w .2 .ensures) (c .before .before .if1 .left) (w .0 .taken)) (λ w. reading-same _ (c .before .before .before .before .before .before .before .before .before .before .before .pre) _ _ _ _ (c .before .before .before .before .before .before .before .before .loop .inv) (c .before .before .before .before .before .before .before .loop-test .taken) _ (c .before .before .before .before .before .before .line-end .ensures) _ (c .before .before .before .before .read-line .ensures) _ (c .before .before .before .fault .ensures) _ _ (w .1) (w .2) (c .before .before .if1 .left) (w .0 .left)) (c .if2 .came)
+loop-again c = ⊎-elim (λ w. reading-next _ (c .before .before .before .before .before .before .before .before .before .before .before .pre) _ _ _ _
+    (c .before .before .before .before .before .before .before .before .loop .inv)
+    (c .before .before .before .before .before .before .before .loop-test .taken) _ (c .before .before .before .before .before .before .line-end .ensures) _
+    (c .before .before .before .before .read-line .ensures) _ (c .before .before .before .fault .ensures) _ _ _ (w .3) (w .1 .ensures) (w .4 ∙ w .2 .ensures)
+    (c .before .before .if1 .left) (w .0 .taken)) (λ w. reading-same _
+    (c .before .before .before .before .before .before .before .before .before .before .before .pre) _ _ _ _
+    (c .before .before .before .before .before .before .before .before .loop .inv)
+    (c .before .before .before .before .before .before .before .loop-test .taken) _ (c .before .before .before .before .before .before .line-end .ensures) _
+    (c .before .before .before .before .read-line .ensures) _ (c .before .before .before .fault .ensures) _ _ (w .1) (w .2) (c .before .before .if1 .left)
+    (w .0 .left)) (c .if2 .came)
 
 stop-at-requires-2 : tie.Need-stop-at-requires-2 Inv-loop μ-loop
 stop-at-requires-2 c κs = search needs

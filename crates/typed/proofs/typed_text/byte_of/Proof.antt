@@ -25,7 +25,12 @@ returns-5 c = rw (c .before .before .if1 .left, ne-eqb _ _ (c .before .if4 .left
 
 returns-6 : tie.Need-returns-6
 unfolding byteOf
-returns-6 c = rw (c .before .before .before .if1 .left, ne-eqb _ _ (c .before .before .if4 .left), le-ltb _ _ (c .before .if5 .left), lt-ltb _ _ (c .if6 .taken))
+returns-6 c = rw (
+  c .before .before .before .if1 .left,
+  ne-eqb _ _ (c .before .before .if4 .left),
+  le-ltb _ _ (c .before .if5 .left),
+  lt-ltb _ _ (c .if6 .taken),
+)
 
 returns-7 : tie.Need-returns-7
 unfolding byteOf

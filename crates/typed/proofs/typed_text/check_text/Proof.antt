@@ -22,7 +22,11 @@ counted-requires : tie.Need-counted-requires Inv-loop μ-loop
 counted-requires c κs = search needs
 
 returns : tie.Need-returns Inv-loop μ-loop
-returns c = (counted-stop _ _ _ _ (c .before .before .before .before .before .loop .inv) (c .before .before .before .before .loop-test .taken) _ (c .before .before .counted .ensures) (c .if1 .taken), omega arith)
+returns c = (
+  counted-stop _ _ _ _ (c .before .before .before .before .before .loop .inv) (c .before .before .before .before .loop-test .taken) _
+      (c .before .before .counted .ensures) (c .if1 .taken),
+  omega arith,
+)
 
 add-i : tie.Need-add-i Inv-loop μ-loop
 add-i c = search needs
@@ -37,7 +41,10 @@ returns-2 : tie.Need-returns-2 Inv-loop μ-loop
 returns-2 c = (counted-open _ _ _ _ (c .before .before .loop .inv) (c .before .loop-test .left) (c .if2 .taken), omega arith)
 
 returns-3 : tie.Need-returns-3 Inv-loop μ-loop
-returns-3 c = (counted-all _ _ _ _ (c .before .before .loop .inv) (c .before .loop-test .left) (c .if2 .left), omega (arith, c .before .before .loop .inv .few, c .before .before .loop .inv .within))
+returns-3 c = (
+  counted-all _ _ _ _ (c .before .before .loop .inv) (c .before .loop-test .left) (c .if2 .left),
+  omega (arith, c .before .before .loop .inv .few, c .before .before .loop .inv .within),
+)
 
 pub check-text-spec : {M : Type 1} → statement M
 check-text-spec =

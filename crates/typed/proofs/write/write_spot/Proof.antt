@@ -26,7 +26,11 @@ same-length : tie.Need-same-length
 same-length c = search needs
 
 returns : tie.Need-returns
-returns c = λ t h. c .before .before .write-text .ensures t h ∙ front-text (c .before .before .before .before .before .before .before .before .before .before .before .args .out .now) _ _ (c .before .before .before .before .before .before .before .before .before .before .before .args .s .kind) _ t (c .before .before .before .before .before .before .before .before .before .before .before .pre .small) (c .before .before .before .before .before .before .before .put-front .ensures)
+returns c = λ t h. c .before .before .write-text .ensures t h
+    ∙ front-text (c .before .before .before .before .before .before .before .before .before .before .before .args .out .now) _ _
+    (c .before .before .before .before .before .before .before .before .before .before .before .args .s .kind) _ t
+    (c .before .before .before .before .before .before .before .before .before .before .before .pre .small)
+    (c .before .before .before .before .before .before .before .put-front .ensures)
 
 pub write-spot-spec : {M : Type 1} → statement M
 write-spot-spec =

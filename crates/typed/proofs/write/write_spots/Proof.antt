@@ -11,7 +11,8 @@ use Rattle.typed.proofs.write.write_spots.Statement.{statement}
 use Rattle.typed.proofs.write.write_spots.Tie as tie
 
 abbrev Inv-loop : tie.InvT-loop
-Inv-loop text count total out₀ spots sizes₀ i₀ p₀ out sizes i p = (length out ≡ length out₀) × ((i ≤ 512) × ((ns : List TypedNode) → ReadyNodes text spots count total (length out₀) ns → NodesWriting ns out₀ out sizes i p))
+Inv-loop text count total out₀ spots sizes₀ i₀ p₀ out sizes i p =
+    (length out ≡ length out₀) × ((i ≤ 512) × ((ns : List TypedNode) → ReadyNodes text spots count total (length out₀) ns → NodesWriting ns out₀ out sizes i p))
 
 abbrev μ-loop : tie.MeasureT-loop
 μ-loop text count total out₀ spots sizes₀ i₀ p₀ out sizes i p = i
@@ -29,25 +30,58 @@ array-copy-out-s : tie.Need-array-copy-out-s Inv-loop μ-loop
 array-copy-out-s c = search needs
 
 inside-of-requires : tie.Need-inside-of-requires Inv-loop μ-loop
-inside-of-requires c κs = (level-low _ _ _ _ _ _ (c .before .before .before .before .before .pre .is) _ _ _ _ _ (c .before .before .loop .inv .1 .1 (c .before .before .before .before .before .pre .of) (c .before .before .before .before .before .pre .is)) (c .before .loop-test .taken), inside-small _ _ _ _ _ _ (c .before .before .before .before .before .pre .is) _ _ _ _ _ (c .before .before .loop .inv .1 .1 (c .before .before .before .before .before .pre .of) (c .before .before .before .before .before .pre .is)) (c .before .loop-test .taken))
+inside-of-requires c κs = (
+  level-low _ _ _ _ _ _ (c .before .before .before .before .before .pre .is) _ _ _ _ _
+      (c .before .before .loop .inv .1 .1 (c .before .before .before .before .before .pre .of) (c .before .before .before .before .before .pre .is))
+      (c .before .loop-test .taken),
+  inside-small _ _ _ _ _ _ (c .before .before .before .before .before .pre .is) _ _ _ _ _
+      (c .before .before .loop .inv .1 .1 (c .before .before .before .before .before .pre .of) (c .before .before .before .before .before .pre .is))
+      (c .before .loop-test .taken),
+)
 
 sub-p : tie.Need-sub-p Inv-loop μ-loop
-sub-p c = omega (arith, room-before _ _ _ _ _ _ (c .before .before .before .before .before .before .pre .is) _ _ _ _ _ (c .before .before .before .loop .inv .1 .1 (c .before .before .before .before .before .before .pre .of) (c .before .before .before .before .before .before .pre .is)) (c .before .before .loop-test .taken))
+sub-p c = omega (
+  arith,
+  room-before _ _ _ _ _ _ (c .before .before .before .before .before .before .pre .is) _ _ _ _ _
+      (c .before .before .before .loop .inv .1 .1 (c .before .before .before .before .before .before .pre .of)
+      (c .before .before .before .before .before .before .pre .is)) (c .before .before .loop-test .taken),
+)
 
 sub-p-2 : tie.Need-sub-p-2 Inv-loop μ-loop
-sub-p-2 c = omega (arith, room-before _ _ _ _ _ _ (c .before .before .before .before .before .before .before .pre .is) _ _ _ _ _ (c .before .before .before .before .loop .inv .1 .1 (c .before .before .before .before .before .before .before .pre .of) (c .before .before .before .before .before .before .before .pre .is)) (c .before .before .before .loop-test .taken))
+sub-p-2 c = omega (
+  arith,
+  room-before _ _ _ _ _ _ (c .before .before .before .before .before .before .before .pre .is) _ _ _ _ _
+      (c .before .before .before .before .loop .inv .1 .1 (c .before .before .before .before .before .before .before .pre .of)
+      (c .before .before .before .before .before .before .before .pre .is)) (c .before .before .before .loop-test .taken),
+)
 
 write-spot-requires : tie.Need-write-spot-requires Inv-loop μ-loop
-write-spot-requires c κs = spot-ready _ _ _ _ _ _ (c .before .before .before .before .before .before .before .before .pre .is) _ _ _ _ _ (c .before .before .before .before .before .loop .inv .1 .1 (c .before .before .before .before .before .before .before .before .pre .of) (c .before .before .before .before .before .before .before .before .pre .is)) (c .before .before .before .before .loop-test .taken) _ (c .before .before .inside-of .ensures) (c .before .before .before .before .before .loop .inv .0)
+write-spot-requires c κs =
+    spot-ready _ _ _ _ _ _ (c .before .before .before .before .before .before .before .before .pre .is) _ _ _ _ _
+    (c .before .before .before .before .before .loop .inv .1 .1 (c .before .before .before .before .before .before .before .before .pre .of)
+    (c .before .before .before .before .before .before .before .before .pre .is)) (c .before .before .before .before .loop-test .taken) _ (c .before .before .inside-of .ensures) (c .before .before .before .before .before .loop .inv .0)
 
 grown-requires : tie.Need-grown-requires Inv-loop μ-loop
-grown-requires c κs = (level-low _ _ _ _ _ _ (c .before .before .before .before .before .before .before .before .before .before .before .pre .is) _ _ _ _ _ (c .before .before .before .before .before .before .before .before .loop .inv .1 .1 (c .before .before .before .before .before .before .before .before .before .before .before .pre .of) (c .before .before .before .before .before .before .before .before .before .before .before .pre .is)) (c .before .before .before .before .before .before .before .loop-test .taken), grown-small _ _ _ _ _ _ (c .before .before .before .before .before .before .before .before .before .before .before .pre .is) _ _ _ _ _ (c .before .before .before .before .before .before .before .before .loop .inv .1 .1 (c .before .before .before .before .before .before .before .before .before .before .before .pre .of) (c .before .before .before .before .before .before .before .before .before .before .before .pre .is)) (c .before .before .before .before .before .before .before .loop-test .taken) _ (c .before .before .before .before .before .inside-of .ensures))
+grown-requires c κs = (
+  level-low _ _ _ _ _ _ (c .before .before .before .before .before .before .before .before .before .before .before .pre .is) _ _ _ _ _
+      (c .before .before .before .before .before .before .before .before .loop .inv .1 .1
+      (c .before .before .before .before .before .before .before .before .before .before .before .pre .of)
+      (c .before .before .before .before .before .before .before .before .before .before .before .pre .is)) (c .before .before .before .before .before .before .before .loop-test .taken),
+  grown-small _ _ _ _ _ _ (c .before .before .before .before .before .before .before .before .before .before .before .pre .is) _ _ _ _ _ (c .before .before .before .before .before .before .before .before .loop .inv .1 .1 (c .before .before .before .before .before .before .before .before .before .before .before .pre .of) (c .before .before .before .before .before .before .before .before .before .before .before .pre .is)) (c .before .before .before .before .before .before .before .loop-test .taken) _ (c .before .before .before .before .before .inside-of .ensures),
+)
 
 loop-less : tie.Need-loop-less Inv-loop μ-loop
 loop-less c = search needs
 
 loop-again : tie.Need-loop-again Inv-loop μ-loop
-loop-again c = (writing-long _ _ _ _ _ _ (writing-more _ _ _ _ _ _ (c .before .before .before .before .before .before .before .before .before .before .before .before .pre .is) _ _ _ _ _ (c .before .before .before .before .before .before .before .before .before .loop .inv .1 .1 (c .before .before .before .before .before .before .before .before .before .before .before .before .pre .of) (c .before .before .before .before .before .before .before .before .before .before .before .before .pre .is)) (c .before .before .before .before .before .before .before .before .loop-test .taken) _ (c .before .before .before .before .before .before .inside-of .ensures) _ _ (c .before .before .before .write-spot .ensures) (c .grown .ensures)), (omega arith, λ ns r. writing-more _ _ _ _ _ ns r _ _ _ _ _ (c .before .before .before .before .before .before .before .before .before .loop .inv .1 .1 ns r) (c .before .before .before .before .before .before .before .before .loop-test .taken) _ (c .before .before .before .before .before .before .inside-of .ensures) _ _ (c .before .before .before .write-spot .ensures) (c .grown .ensures)))
+loop-again c = (
+  writing-long _ _ _ _ _ _
+      (writing-more _ _ _ _ _ _ (c .before .before .before .before .before .before .before .before .before .before .before .before .pre .is) _ _ _ _ _
+      (c .before .before .before .before .before .before .before .before .before .loop .inv .1 .1
+      (c .before .before .before .before .before .before .before .before .before .before .before .before .pre .of)
+      (c .before .before .before .before .before .before .before .before .before .before .before .before .pre .is)) (c .before .before .before .before .before .before .before .before .loop-test .taken) _ (c .before .before .before .before .before .before .inside-of .ensures) _ _ (c .before .before .before .write-spot .ensures) (c .grown .ensures)),
+  (omega arith, λ ns r. writing-more _ _ _ _ _ ns r _ _ _ _ _ (c .before .before .before .before .before .before .before .before .before .loop .inv .1 .1 ns r) (c .before .before .before .before .before .before .before .before .loop-test .taken) _ (c .before .before .before .before .before .before .inside-of .ensures) _ _ (c .before .before .before .write-spot .ensures) (c .grown .ensures)),
+)
 
 same-length : tie.Need-same-length Inv-loop μ-loop
 same-length c = c .before .loop .inv .0

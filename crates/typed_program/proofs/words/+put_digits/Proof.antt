@@ -45,7 +45,8 @@ sub-put-digits : (t : ℕ) → put-digits-lts.Need-sub-put-digits (below t, put-
 sub-put-digits t c = search needs
 
 put-digits-requires : (t : ℕ) → put-digits-lts.Need-put-digits-requires (below t, put-digits.Post) (at t) put-digits.Post
-put-digits-requires t c κs = let u = c .before .before .before .before in (omega (arith, u .pre .0, c .before .before .if1 .left), omega (arith, u .pre .1, c .before .before .if1 .left))
+put-digits-requires t c κs = let u = c .before .before .before .before in
+    (omega (arith, u .pre .0, c .before .before .if1 .left), omega (arith, u .pre .1, c .before .before .if1 .left))
 
 cast-out-2 : (t : ℕ) → put-digits-lts.Need-cast-out-2 (below t, put-digits.Post) (at t) put-digits.Post
 cast-out-2 t c = search needs
@@ -54,10 +55,23 @@ add-out-2 : (t : ℕ) → put-digits-lts.Need-add-out-2 (below t, put-digits.Pos
 add-out-2 t c = search needs
 
 slice-write-out-2 : (t : ℕ) → put-digits-lts.Need-slice-write-out-2 (below t, put-digits.Post) (at t) put-digits.Post
-slice-write-out-2 t c = omega (arith, c .before .before .put-digits .ensures .1, c .before .before .before .before .before .if1 .left, c .before .before .put-digits .kept .1 .1 .0, c .before .before .before .before .before .before .before .pre .1)
+slice-write-out-2 t c =
+    omega (
+      arith,
+      c .before .before .put-digits .ensures .1,
+      c .before .before .before .before .before .if1 .left,
+      c .before .before .put-digits .kept .1 .1 .0,
+      c .before .before .before .before .before .before .before .pre .1,
+    )
 
 add-result-2 : (t : ℕ) → put-digits-lts.Need-add-result-2 (below t, put-digits.Post) (at t) put-digits.Post
-add-result-2 t c = omega (arith, c .before .before .put-digits .ensures .1, c .before .before .before .before .before .if1 .left, c .before .before .before .before .before .before .before .pre .1, c .before .before .before .before .before .before .before .good)
+add-result-2 t c = omega (
+  arith,
+  c .before .before .put-digits .ensures .1,
+  c .before .before .before .before .before .if1 .left,
+  c .before .before .before .before .before .before .before .pre .1,
+  c .before .before .before .before .before .before .before .good,
+)
 
 same-length-2 : (t : ℕ) → put-digits-lts.Need-same-length-2 (below t, put-digits.Post) (at t) put-digits.Post
 same-length-2 t c = search needs

@@ -21,7 +21,8 @@ returns : tie.Need-returns
 returns c =
     let n = c .before .before .before .before .before .before .before .args .number in
     let w = c .before .before .copy .ensures in
-    let large : faultWords n ≡ wordsLarge = ⊎-elim (λ t. words-below n (t .taken)) (λ t. words-above n (ltb-true 39 n (t .1 .taken))) (c .before .before .before .before .before .if1 .came) in
+    let large : faultWords n ≡ wordsLarge =
+    ⊎-elim (λ t. words-below n (t .taken)) (λ t. words-above n (ltb-true 39 n (t .1 .taken))) (c .before .before .before .before .before .if1 .came) in
     (rw large w, omega (arith, w .end-is))
 
 returns-2 : tie.Need-returns-2

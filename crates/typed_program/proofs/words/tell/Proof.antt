@@ -19,7 +19,8 @@ add-result : tie.Need-add-result
 add-result c = search needs
 
 same-length : tie.Need-same-length
-same-length c = length-set (c .before .before .put-words .last .1 .0) (c .before .before .put-words .result) 10 ∙ c .before .before .put-words .kept .1 .0 ∙ c .before .before .before .before .before .before .put-place .kept .1 .1 .0
+same-length c = length-set (c .before .before .put-words .last .1 .0) (c .before .before .put-words .result) 10 ∙ c .before .before .put-words .kept .1 .0
+    ∙ c .before .before .before .before .before .before .put-place .kept .1 .1 .0
 
 returns : tie.Need-returns
 returns c =
