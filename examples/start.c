@@ -23,6 +23,7 @@ int main(void) {
                               "  row\n"
                               "    Home pad\n"
                               "    take off\n");
+    if (length == 0) return 1;
     uint64_t word = leg_print_sheet(LEG_DEFAULTS, LEG_SETTINGS_BYTES, tree, length, sheet, sizeof sheet);
     if (LEG_NUMBER(word) != 0) {
         printf("refused: %s\n", leg_sentence(LEG_NUMBER(word)));
