@@ -1,6 +1,6 @@
 // Test cases are lines of files, which a program's arguments name. The first line of a file says whose lines follow, as `of splits` (libraries.rt). Each other
 // line is a letter,
-// a space and its contents, in which `\` and two hex digits stand for a byte. These give something (`lines::given`):
+// a space and its contents, in which `\` and two hex digits stand for a byte. These give something (`test_lines::given`):
 //   = the settings' bytes     : the tree's bytes     + N, bytes: these go on the tree N times
 //   @ the node                & N, bytes: what the next line wants begins with these, N times
 // # is a title, which is echoed; what any other letter asks for, and wants, the library says.
