@@ -81,7 +81,7 @@ In a text \n is a line feed and \\ a backslash. A quote mark in front makes a te
 # begins a comment. What is wrong is shown with its line and column, counted from 1.
 
 Settings are the default ones, over these FILE's own, over these those of --settings FILE, over these those that options name: --margin 8,0,1,0 --align center --no-lines.
-A file of settings has bytes, or words: legs settings shows them all, and legs settings --margin 8,0,1,0 > binder.settings writes a file.
+A file of settings has bytes, or words: legs settings shows them all, and legs settings --margin 8,0,1,0 > binder.words writes a file.
 ";
 
 const REST: &str = "To plan a line like ? 2-6 x 1-3 is a placeholder for a text that is not known yet: 2 to 6 wide, 1 to 3 lines. To every other command it is a text.
