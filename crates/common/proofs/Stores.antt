@@ -2,10 +2,10 @@
 use mathlib.Core.Path.{_≡_, refl, ap, _∙_}
 use Prim.Native.Nat.{ℕ, suc, _+_, _<_, _≤_, zero, _-_, _/_}
 use native.Mathlib.Omega.{arith}
-use native.Mathlib.Nat.{add-zero, add-suc, sub-zero, le-refl}
+use native.Mathlib.Nat.{add-zero, sub-zero, le-refl}
 use mathlib.Core.List.{List, [], _∷_, _++_}
 use lib.ListN.{length, set, drop, getD, take, replicate, length-take, length-drop}
-use lib.Seq.{sets, set-comm, sets-eq, set-set, drop-cons, drop-drop, take-add, take-all, length-take-le}
+use lib.Seq.{sets, set-comm, sets-eq, set-set, drop-drop, take-add, take-all, length-take-le}
 use native.Mathlib.Numerals.{add-one}
 
 -- a place before the others may be stored to last
@@ -104,20 +104,7 @@ few-same (suc (suc zero)) b o at h k = few-stores (b ∷ b ∷ []) o at h k
 few-same (suc (suc (suc zero))) b o at h k = few-stores (b ∷ b ∷ b ∷ []) o at h k
 few-same (suc (suc (suc (suc n)))) b o at h k = absurd (omega arith)
 
--- ---- four and eight of a list
-
-on : (s : List ℕ) (at k : ℕ) → at + k < length s → drop (at + k) s ≡ getD s (at + k) 0 ∷ drop (at + suc k) s
-on s at k h = rw (add-suc at k) (drop-cons s (at + k) 0 h)
-
-pub four-stores : (s o : List ℕ) (at from : ℕ) → from + 4 ≤ length s
-    → set (set (set (set o at (getD s from 0)) (at + 1) (getD s (from + 1) 0)) (at + 2) (getD s (from + 2) 0)) (at + 3) (getD s (from + 3) 0)
-    ≡ sets o at (take 4 (drop from s))
-four-stores s o at from h =
-    let e₀ : drop from s ≡ getD s from 0 ∷ drop (from + 1) s = rw (add-one from) (drop-cons s from 0 (omega arith)) in
-    let e₁ : at + 1 ≡ suc at = omega arith in
-    let e₂ : at + 2 ≡ suc (suc at) = omega arith in
-    let e₃ : at + 3 ≡ suc (suc (suc at)) = omega arith in
-    rw (e₀, on s from 1 (omega arith), on s from 2 (omega arith), on s from 3 (omega arith), e₁, e₂, e₃)
+-- ---- eight of a list, by four and four
 
 pub eight-stores : (s o : List ℕ) (at from : ℕ) → from + 8 ≤ length s
     → sets (sets o at (take 4 (drop from s))) (at + 4) (take 4 (drop (from + 4) s)) ≡ sets o at (take 8 (drop from s))

@@ -1,10 +1,10 @@
--- A leaf's block printed alone: the leaf painted at the first byte, over bytes of 0A.
-use mathlib.Core.Path.{_≡_, refl, sym, ap, _∙_}
+-- A leaf's block printed alone: the leaf painted at the first byte, over bytes with a 0A behind each line but the last.
+use mathlib.Core.Path.{_≡_, sym, _∙_}
 use Prim.Native.Nat.{ℕ, _+_, _-_, _*_, _≤_, _<_}
 use native.Mathlib.Omega.{arith}
 use mathlib.Core.List.{List, [], _∷_, _++_, append-nil}
-use lib.ListN.{length, set, take, drop, replicate, length-append}
-use lib.Seq.{sets, take-at}
+use lib.ListN.{length, set, take, length-append}
+use lib.Seq.{take-at}
 use Rattle.settings.specs.declared.Settings.{Settings}
 use Rattle.sizes.specs.declared.Size.{Size}
 use Rattle.sizes.specs.Sizes.{leafSize}
@@ -13,7 +13,8 @@ use Rattle.sizes.specs.Listed.{allottedAt}
 use Rattle.block.specs.declared.Flags.{Flags}
 use Rattle.block.specs.Content.{joinLines}
 use Rattle.block.specs.Block.{block, blockHeight, blockWidth}
-use Rattle.paint.specs.Contracts.{Room}
+use Rattle.paint.specs.Contracts.{Room, fed}
+use Rattle.paint.proofs.Room.{room-feeds}
 use Rattle.block.proofs.Dimensions.{Dims}
 use Rattle.block.proofs.Dims.{block-dims}
 use Rattle.paint.proofs.Feeds.{fed-pasted}
@@ -100,6 +101,9 @@ module _ {s : Settings} {stride : ℕ} {tree list : List ℕ} {l : Placed} {es :
           let k : (l .at .size .width < 65536) × (l .at .size .height < 65536) = rw (← size-is) (x, y) in
           rw columns-are (alone-room s (l .text) (l .at .size) (l .at .flags) fits (k .0) (k .1) n len n-is h)
 
+      pub ends-room : (len : ℕ) → n ≤ len → Room w (w + 1) (a - 1) 1 len
+      ends-room len h = room-feeds (omega (arith, line-low)) (rw (lines-are, columns-are) (rw columns-are at (room len h)))
+
       pub alone-asks : (len : ℕ) → n ≤ len → Asks s (w + 1) len (alone l)
       alone-asks len h =
           let c : 0 * (w + 1) + 0 ≡ 0 = omega arith in
@@ -116,13 +120,13 @@ module _ {s : Settings} {stride : ℕ} {tree list : List ℕ} {l : Placed} {es :
           asks = (alone-asks len (omega arith), tt);
         }
 
-        pub alone-whole : (o₁ o₂ : List ℕ) → o₁ ≡ sets o 0 (replicate n 10) → o₂ ≡ paintAll s (w + 1) o₁ (paints .leaves)
+        pub alone-whole : (o₁ o₂ : List ℕ) → o₁ ≡ fed w a o → o₂ ≡ paintAll s (w + 1) o₁ (paints .leaves)
             → PrinterAnswers (record { number = 0; count = n }) o₂ (printTo (joinLines (block s (leafOf l))) o)
         unfolding paints
         alone-whole o₁ o₂ e₁ e₂ =
             let c : 0 * (w + 1) + 0 ≡ 0 = omega arith in
             let x = block s (leafOf l) in
             let g : Dims x a w = rw (columns-are, lines-are) (block-dims s (leafOf l) fits) in
-            let k = fed-pasted x g n (sym bytes-are) o o₁ o₂ h e₁ (e₂ ∙ rw c) in
+            let k = fed-pasted x g o o₁ o₂ (omega (arith, bytes-are, h)) e₁ (e₂ ∙ rw c) in
             let t = to-whole (joinLines x) o (omega (arith, bytes-are)) in
-            (rw (t, bytes-are), k ∙ rw (t, bytes-are))
+            (rw (t, bytes-are), k ∙ rw t)

@@ -162,9 +162,8 @@ pub fn leaf_record(settings: &[u8], tree: &[u8], node: usize) -> LeafRecord
     record_at(tree, &list, &leaves[i..], s)
 }
 
-// The block of the leaf whose entry is at the front of `leaf`, its lines joined by 0A, at the start of the output; or 8. It is painted over bytes of 0A, as the
-// only
-// leaf of a sheet would be: its first byte is the output's.
+// The block of the leaf whose entry is at the front of `leaf`, its lines joined by 0A, at the start of the output; or 8. It is painted as the only leaf of a
+// sheet would be: its first byte is the output's.
 fn print_block(tree: &[u8], list: &[u16], leaf: &mut [u16], s: Settings, out: &mut [u8]) -> Written
     requires { ⌜ ShowsLeaf (now tree) (now list) (now leaf) s ⌝ }
     ensures { λ r. ⌜ ((q : ShowsLeaf (now (tree .entry)) (now (list .entry)) (now (leaf .entry)) s)
@@ -175,12 +174,14 @@ fn print_block(tree: &[u8], list: &[u16], leaf: &mut [u16], s: Settings, out: &m
     let end = FRONT + e.horizontal + e.vertical;
     let size = allotted_at(list, e.spot.node);
     let flags = layout::flags_of(e.spot.flags);
-    let stride = block::block_width(s, size, flags) + 1;
-    let n = common::saturating_dec(block::block_height(s, size, flags) * stride);
+    let width = block::block_width(s, size, flags);
+    let stride = width + 1;
+    let height = block::block_height(s, size, flags);
+    let n = common::saturating_dec(height * stride);
     if out.len() < n {
         return frame::refused(8);
     }
-    paint::bytes::fill(out, 0, n, 10);
+    paint::bytes::end_lines(out, width, height);
     leaf[BASE] = 0;
     paint_leaves(tree, list, &leaf[..end], s, stride, out);
     Written {

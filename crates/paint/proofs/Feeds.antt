@@ -1,12 +1,14 @@
--- Lines joined by 0A: their length, their places, and that they are the lines laid over bytes of 0A.
+-- Lines joined by 0A: their length, their places, and that they are the lines laid over bytes with a 0A behind each but the last.
 use mathlib.Core.Path.{_≡_, refl, sym, _∙_}
-use Prim.Native.Nat.{ℕ, zero, suc, _+_, _*_, _≤_, _<_}
+use Prim.Native.Nat.{ℕ, zero, suc, _+_, _-_, _*_, _≤_, _<_}
 use native.Mathlib.Omega.{arith}
 use mathlib.Core.List.{List, [], _∷_, _++_, append-assoc}
-use lib.ListN.{length, getD, drop, replicate, length-append, length-replicate, replicate-append-replicate, List·getD-append}
-use lib.Seq.{sets, sets-eq, take-at, drop-at, getD-append-add}
+use lib.ListN.{length, getD, take, drop, replicate, length-append, length-drop, take-append-drop, List·getD-append}
+use lib.Seq.{sets, sets-eq, take-at, drop-at, drop-drop, length-take-le, getD-append-add}
 use Rattle.block.specs.Content.{joinLines}
-use Rattle.paint.specs.Contracts.{pasted}
+use Rattle.paint.specs.Contracts.{pasted, fed}
+use Rattle.common.proofs.Stores.{sets-append, sets-sets}
+use Rattle.paint.proofs.Pasted.{sets-pasted}
 use Rattle.common.specs.Every.{Every}
 use Rattle.block.proofs.Dimensions.{Dims}
 use Rattle.block.specs.Promises.{byteAt}
@@ -41,7 +43,7 @@ feeds-at (l ∷ m ∷ x) {w = w} d (suc i) j p q =
     (getD-append-add l (10 ∷ joinLines (m ∷ x)) (suc (i * (w + 1) + j)) 0
     ∙ feeds-at (m ∷ x) {h = length (m ∷ x)} (record { lines = refl; columns = d .columns .1 }) i j (omega arith) q)
 
--- ---- over bytes of 0A
+-- ---- over bytes with a 0A behind each line but the last
 
 over : (pre a r l : List ℕ) → length a ≡ length l → sets (pre ++ (a ++ r)) (length pre) l ≡ pre ++ (l ++ r)
 over pre a r l e =
@@ -49,34 +51,53 @@ over pre a r l e =
     ∙ rw (take-at pre (a ++ r) (length pre) refl, ← e, ← (append-assoc pre a r), drop-at (pre ++ a) r (length pre + length a) (length-append pre a))
     (append-assoc pre l r)
 
-pub feeds-over : (x : List (List ℕ)) (pre r : List ℕ) (w : ℕ) → Every (λ l. length l ≡ w) x
-    → pasted (pre ++ (replicate (length (joinLines x)) 10 ++ r)) (length pre) (w + 1) x ≡ pre ++ (joinLines x ++ r)
-unfolding pasted joinLines
-feeds-over [] pre r w e = refl
-feeds-over (l ∷ []) pre r w e = over pre (replicate (length l) 10) r l (length-replicate (length l) 10)
-feeds-over (l ∷ m ∷ x) pre r w e =
-    let n = length (joinLines (m ∷ x)) in
-    let a : List ℕ = replicate (length l) 10 in
-    let b : List ℕ = replicate n 10 in
+-- the first bytes of o
+over-front : (pre o l : List ℕ) (n : ℕ) → length l ≡ n → n ≤ length o → sets (pre ++ o) (length pre) l ≡ pre ++ (l ++ drop n o)
+over-front pre o l n e h =
+    rw (take-append-drop n o) at (over pre (take n o) (drop n o) l (length-take-le n o h ∙ sym e))
+
+-- a line and a 0A
+line-fed : (pre o l : List ℕ) (w : ℕ) → length l ≡ w → w + 1 ≤ length o
+    → sets (sets (pre ++ o) (length pre + w) (10 ∷ [])) (length pre) l ≡ pre ++ ((l ++ (10 ∷ [])) ++ drop (w + 1) o)
+line-fed pre o l w e h =
+    sets-sets l (10 ∷ []) (pre ++ o) (length pre) (length pre + w) (omega arith)
+    ∙ rw (← e) (sym (sets-append l (10 ∷ []) (pre ++ o) (length pre)))
+    ∙ over-front pre o (l ++ (10 ∷ [])) (w + 1) (simp length-append (omega arith)) h
+
+-- a line, and the lines y after it, which joined are j
+line-then : (pre o l j : List ℕ) (w : ℕ) (ends y : List (List ℕ)) → length l ≡ w → w + 1 + length j ≤ length o
+    → ((q r : List ℕ) → length j ≤ length r → pasted (pasted (q ++ r) (length q + w) (w + 1) ends) (length q) (w + 1) y ≡ q ++ (j ++ drop (length j) r))
+    → pasted (sets (pasted (sets (pre ++ o) (length pre + w) (10 ∷ [])) (length pre + w + (w + 1)) (w + 1) ends) (length pre) l) (length pre + (w + 1)) (w + 1) y
+    ≡ pre ++ ((l ++ (10 ∷ j)) ++ drop (length (l ++ (10 ∷ j))) o)
+line-then pre o l j w ends y e h rest =
     let q = pre ++ (l ++ (10 ∷ [])) in
-    let y : length q ≡ length pre + (w + 1) = simp length-append (omega (arith, e .0)) in
-    let split : replicate (length (l ++ (10 ∷ joinLines (m ∷ x)))) 10 ≡ a ++ (10 ∷ b) =
-    rw length-append (sym (replicate-append-replicate (length l) (suc n) 10)) in
-    let shift : (z : List ℕ) → pre ++ (l ++ (10 ∷ z)) ≡ q ++ z = λ z. simp append-assoc in
-    rw (split, append-assoc a (10 ∷ b) r, over pre a (10 ∷ (b ++ r)) l (length-replicate (length l) 10), shift (b ++ r), ← y)
-    (feeds-over (m ∷ x) q r w (e .1) ∙ simp append-assoc)
+    let r = drop (w + 1) o in
+    let n : length q ≡ length pre + (w + 1) = simp length-append (omega (arith, e)) in
+    let n′ : length pre + w + (w + 1) ≡ length q + w = omega (arith, n) in
+    let first = sets-pasted ends l (sets (pre ++ o) (length pre + w) (10 ∷ [])) (length pre) (length pre + w + (w + 1)) (w + 1) (omega (arith, e)) in
+    let fed-here : sets (sets (pre ++ o) (length pre + w) (10 ∷ [])) (length pre) l ≡ q ++ r =
+    line-fed pre o l w e (omega arith) ∙ sym (append-assoc pre (l ++ (10 ∷ [])) r) in
+    let all : w + 1 + length j ≡ length (l ++ (10 ∷ j)) = omega (arith, length-append l (10 ∷ j), e) in
+    let past : drop (length j) r ≡ drop (length (l ++ (10 ∷ j))) o = drop-drop (length j) (w + 1) o ∙ rw all in
+    rw (first, fed-here, n′, ← n) (rest q r (rw length-drop (omega arith)) ∙ rw past (simp append-assoc))
 
--- lines laid over 0A, each one place after the one before: the lines joined by 0A, and what came after them
-pub pasted-feeds : (x : List (List ℕ)) (r : List ℕ) (w : ℕ) → Every (λ l. length l ≡ w) x
-    → pasted (replicate (length (joinLines x)) 10 ++ r) 0 (w + 1) x ≡ joinLines x ++ r
-pasted-feeds x r w e = feeds-over x [] r w e
+fed-lines : (x : List (List ℕ)) (pre o : List ℕ) (w : ℕ) → Every (λ l. length l ≡ w) x → length (joinLines x) ≤ length o
+    → pasted (pasted (pre ++ o) (length pre + w) (w + 1) (replicate (length x - 1) (10 ∷ []))) (length pre) (w + 1) x
+    ≡ pre ++ (joinLines x ++ drop (length (joinLines x)) o)
+unfolding pasted joinLines
+fed-lines [] pre o w e h = refl
+fed-lines (l ∷ []) pre o w e h = over-front pre o l (length l) refl h
+fed-lines (l ∷ m ∷ x) pre o w e h =
+    let n : length (l ∷ m ∷ x) - 1 ≡ suc (length x) = omega arith in
+    let n′ : length (m ∷ x) - 1 ≡ length x = omega arith in
+    rw n
+    (line-then pre o l (joinLines (m ∷ x)) w (replicate (length x) (10 ∷ [])) (m ∷ x) (e .0)
+    (omega (arith, length-append l (10 ∷ joinLines (m ∷ x)), h, e .0)) (λ q r k. rw n′ at (fed-lines (m ∷ x) q r w (e .1) k)))
 
--- the same where n bytes of 0A were written at the start
-pub fed-pasted : (x : List (List ℕ)) {h w : ℕ} → Dims x h w → (n : ℕ) → n ≡ length (joinLines x) → (o o₁ o₂ : List ℕ) → n ≤ length o
-    → o₁ ≡ sets o 0 (replicate n 10) → o₂ ≡ pasted o₁ 0 (w + 1) x → o₂ ≡ joinLines x ++ drop n o
-fed-pasted x {w = w} d n e o o₁ o₂ l e₁ e₂ =
-    let a : List ℕ = replicate n 10 in
-    let m : length a ≡ n = length-replicate n 10 in
-    let z : 0 + length a ≡ n = omega arith in
-    let f : sets o 0 a ≡ a ++ drop n o = sets-eq a o 0 (omega arith) ∙ rw z in
-    e₂ ∙ rw (e₁, f, e) (pasted-feeds x (drop (length (joinLines x)) o) w (d .columns))
+-- lines laid where a 0A is behind each but the last: the lines joined by 0A, and what came after them
+pub fed-pasted : (x : List (List ℕ)) {h w : ℕ} → Dims x h w → (o o₁ o₂ : List ℕ) → length (joinLines x) ≤ length o
+    → o₁ ≡ fed w h o → o₂ ≡ pasted o₁ 0 (w + 1) x → o₂ ≡ joinLines x ++ drop (length (joinLines x)) o
+unfolding fed
+fed-pasted x {w = w} d o o₁ o₂ l e₁ e₂ =
+    let z : 0 + w ≡ w = omega arith in
+    e₂ ∙ rw (e₁, ← (d .lines)) (rw z at (fed-lines x [] o w (d .columns) l))

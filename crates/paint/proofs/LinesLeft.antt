@@ -1,9 +1,9 @@
 -- Lines laid one after another: what a loop that lays them keeps, and how parts follow each other.
 use mathlib.Core.Path.{_≡_, refl, ap, _∙_}
-use Prim.Native.Nat.{ℕ, suc, _+_, _-_, _*_, _≤_, _<_}
+use Prim.Native.Nat.{ℕ, zero, suc, _+_, _-_, _*_, _≤_, _<_}
 use native.Mathlib.Omega.{arith}
 use mathlib.Core.List.{List, [], _∷_, _++_}
-use lib.ListN.{length, replicate}
+use lib.ListN.{length, replicate, length-replicate}
 use lib.Seq.{sets, length-sets}
 use Rattle.common.proofs.Stores.{sets-append}
 use Rattle.paint.specs.Paint.{Wrote}
@@ -46,6 +46,36 @@ module _ {all : List ℕ} {len end : ℕ} {o : List ℕ} {p stride w : ℕ} (l :
 
   pub rows-none : n ≤ i → LinesLeft all len end o p stride w (replicate (n - i) l) → LinesLeft all len end o p stride w []
   rows-none h k = let e : n - i ≡ 0 = omega arith in rw e at k
+
+-- ---- equal lines, some of which are still to come: a loop that goes by the place
+
+pub record RowsLeft (all : List ℕ) (len end : ℕ) (o : List ℕ) (p stride w : ℕ) (l : List ℕ) : Type 0 where
+  pub count : ℕ
+  pub left : LinesLeft all len end o p stride w (replicate count l)
+
+pub rows-start : (o : List ℕ) (at stride n w : ℕ) (l : List ℕ) → Room at stride n w (length o)
+    → RowsLeft (pasted o at stride (replicate n l)) (length o) (at + n * stride) o at stride w l
+rows-start o at stride n w l r = record { count = n; left = left-start o at stride n w (replicate n l) (length-replicate n l) r }
+
+module _ {all : List ℕ} {len end : ℕ} {o : List ℕ} {p stride w : ℕ} {l : List ℕ} where
+  -- before the end a line is to come
+  pub some-left : (k : RowsLeft all len end o p stride w l) → p < end → LinesLeft all len end o p stride w (l ∷ replicate (k .count - 1) l)
+  some-left k h = go (k .count) (k .left)
+    where
+      go : (n : ℕ) → LinesLeft all len end o p stride w (replicate n l) → LinesLeft all len end o p stride w (l ∷ replicate (n - 1) l)
+      go zero q = absurd (omega (arith, q .end-is))
+      go (suc n) q = let e : suc n - 1 ≡ n = omega arith in rw e q
+
+  pub rows-step : (k : RowsLeft all len end o p stride w l) → p < end → RowsLeft all len end (sets o p l) (p + stride) stride w l
+  rows-step k h = record { count = k .count - 1; left = left-step l (replicate (k .count - 1) l) (some-left k h) }
+
+  -- at the end none is
+  pub rows-done : 1 ≤ stride → RowsLeft all len end o p stride w l → end ≤ p → Wrote p end o all
+  rows-done s k h = go (k .count) (k .left)
+    where
+      go : (n : ℕ) → LinesLeft all len end o p stride w (replicate n l) → Wrote p end o all
+      go zero q = left-done q
+      go (suc n) q = absurd (omega (arith, q .end-is, length-replicate n l))
 
 -- ---- parts that follow each other
 

@@ -1,6 +1,6 @@
 -- Room for lines: of one line, of the lines after it, of some of the columns.
 use mathlib.Core.Path.{_≡_}
-use Prim.Native.Nat.{ℕ, suc, _+_, _-_, _*_, _≤_, _<_}
+use Prim.Native.Nat.{ℕ, zero, suc, _+_, _-_, _*_, _≤_, _<_}
 use native.Mathlib.Omega.{arith}
 use Rattle.paint.specs.Contracts.{Room}
 
@@ -25,7 +25,14 @@ module _ {at stride w len : ℕ} (a m : ℕ) (r : Room at stride (a + m) w len) 
   pub room-then : {p len′ : ℕ} → p ≡ at + a * stride → len′ ≡ len → Room p stride m w len′
   room-then e l = record { fits = omega (arith, r .fits); small = omega (arith, r .small) }
 
--- ---- v columns from column x on
+-- ---- behind each line but the last
+
+pub room-feeds : {w n len : ℕ} → w + 1 < 18446744073709551616 → Room 0 (w + 1) n w len → Room w (w + 1) (n - 1) 1 len
+room-feeds {w} {n} {len} h r = go n r
+  where
+    go : (k : ℕ) → Room 0 (w + 1) k w len → Room w (w + 1) (k - 1) 1 len
+    go zero q = record { fits = omega (arith, q .fits); small = omega (arith, q .small) }
+    go (suc k) q = let e : suc k - 1 ≡ k = omega arith in rw e (record { fits = omega (arith, q .fits); small = omega (arith, q .small) })
 
 -- ---- line k of n
 

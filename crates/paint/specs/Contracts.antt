@@ -18,11 +18,21 @@ use Rattle.block.specs.Content.{ruled, column, sideBySide}
 use Rattle.paint.specs.declared.body.BodyRows.{BodyRows}
 use Rattle.paint.specs.declared.borders.Borders.{Borders}
 use Rattle.paint.specs.declared.Begun.{Begun}
+use Rattle.paint.specs.declared.bytes.Four.{Four}
 
 -- the bytes o with the lines x over them: the first at `at`, each `stride` after the one before
 unfoldable pub pasted : List ℕ → ℕ → ℕ → List (List ℕ) → List ℕ
 pasted o at stride [] = o
 pasted o at stride (l ∷ x) = pasted (sets o at l) (at + stride) stride x
+
+-- four bytes in a row
+unfoldable pub fourBytes : Four → List ℕ
+fourBytes x = x .a ∷ x .b ∷ x .c ∷ x .d ∷ []
+
+-- the bytes o with a 0A behind each but the last of h lines of w bytes, which follow one another from the start on
+unfoldable pub fed : ℕ → ℕ → List ℕ → List ℕ
+unfolding pasted
+fed w h o = pasted o w (w + 1) (replicate (h - 1) (10 ∷ []))
 
 -- n lines of w bytes at those places lie within len bytes, and no place after them passes 64 bits
 pub record Room (at stride n w len : ℕ) : Type 0 where

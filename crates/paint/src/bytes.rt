@@ -1,12 +1,12 @@
 // Bytes and lines of bytes in the lent output.
 ghost use mathlib.Core.Path.{_≡_};
-ghost use Prim.Native.Nat.{_+_, _*_, _<_, _≤_};
+ghost use Prim.Native.Nat.{_+_, _-_, _*_, _<_, _≤_};
 ghost use mathlib.Core.List.{[], _∷_};
 ghost use lib.ListN.{length, take, drop, replicate};
 ghost use lib.Seq.{sets};
 ghost use Rattle.splits.specs.Splits.{named};
 ghost use Rattle.paint.specs.Paint.{Wrote};
-ghost use Rattle.paint.specs.Contracts.{pasted, Room, crossed};
+ghost use Rattle.paint.specs.Contracts.{pasted, fed, Room, crossed, fourBytes};
 
 // The n bytes from `at` on become `byte`.
 fn run(out: &mut [u8], at: usize, n: usize, byte: u8)
@@ -76,19 +76,44 @@ pub fn fill(out: &mut [u8], at: usize, n: usize, byte: u8) -> usize
     at + n
 }
 
-// The four bytes from `at` on become those of `line` from `from` on: all are read before one is written, so that they are taken together.
+// Four bytes: where all are read before one is written, they are taken together.
+struct Four {
+    a: u8,
+    b: u8,
+    c: u8,
+    d: u8,
+}
+
+// The four bytes of `line` from `from` on.
+fn four_at(line: &[u8], from: usize) -> Four
+    requires { ⌜ from + 4 ≤ length (now line) ⌝ }
+    ensures { λ r. ⌜ fourBytes r ≡ take 4 (drop from (now (line .entry))) ⌝ }
+{
+    Four {
+        a: line[from],
+        b: line[from + 1],
+        c: line[from + 2],
+        d: line[from + 3],
+    }
+}
+
+// The four bytes from `at` on become these.
+fn put_four(out: &mut [u8], at: usize, x: Four)
+    requires { ⌜ at + 4 ≤ length (now out) ⌝ }
+    ensures { λ _. ⌜ now (out .exit) ≡ sets (now (out .entry)) at (fourBytes x) ⌝ }
+{
+    out[at] = x.a;
+    out[at + 1] = x.b;
+    out[at + 2] = x.c;
+    out[at + 3] = x.d;
+}
+
+// The four bytes from `at` on become those of `line` from `from` on.
 fn copy_four(out: &mut [u8], at: usize, line: &[u8], from: usize)
     requires { ⌜ (at + 4 ≤ length (now out)) × (from + 4 ≤ length (now line)) ⌝ }
     ensures { λ _. ⌜ now (out .exit) ≡ sets (now (out .entry)) at (take 4 (drop from (now (line .entry)))) ⌝ }
 {
-    let a = line[from];
-    let b = line[from + 1];
-    let c = line[from + 2];
-    let d = line[from + 3];
-    out[at] = a;
-    out[at + 1] = b;
-    out[at + 2] = c;
-    out[at + 3] = d;
+    put_four(out, at, four_at(line, from));
 }
 
 // The same of eight bytes.
@@ -96,8 +121,10 @@ fn copy_eight(out: &mut [u8], at: usize, line: &[u8], from: usize)
     requires { ⌜ (at + 8 ≤ length (now out)) × (from + 8 ≤ length (now line)) ⌝ }
     ensures { λ _. ⌜ now (out .exit) ≡ sets (now (out .entry)) at (take 8 (drop from (now (line .entry)))) ⌝ }
 {
-    copy_four(out, at, line, from);
-    copy_four(out, at + 4, line, from + 4);
+    let x = four_at(line, from);
+    let y = four_at(line, from + 4);
+    put_four(out, at, x);
+    put_four(out, at + 4, y);
 }
 
 // The bytes from `at` on become those of `line`.
@@ -127,16 +154,12 @@ fn copy_few(out: &mut [u8], at: usize, line: &[u8])
     out[at + n / 2] = line[n / 2];
 }
 
-// The same, 4 to 16 bytes by two copies that may overlap.
-fn copy_line(out: &mut [u8], at: usize, line: &[u8])
-    requires { ⌜ at + length (now line) ≤ length (now out) ⌝ }
+// The same of up to 16 bytes: 4 and more by two copies that may overlap.
+pub fn copy_short(out: &mut [u8], at: usize, line: &[u8])
+    requires { ⌜ (at + length (now line) ≤ length (now out)) × (length (now line) ≤ 16) ⌝ }
     ensures { λ _. ⌜ now (out .exit) ≡ sets (now (out .entry)) at (now (line .entry)) ⌝ }
 {
     let n = line.len();
-    if 16 < n {
-        copy_run(out, at, line);
-        return;
-    }
     if 8 <= n {
         copy_eight(out, at, line, 0);
         copy_eight(out, at + (n - 8), line, n - 8);
@@ -148,6 +171,18 @@ fn copy_line(out: &mut [u8], at: usize, line: &[u8])
         return;
     }
     copy_few(out, at, line);
+}
+
+// The same of any number, short lines without a loop.
+pub fn copy_line(out: &mut [u8], at: usize, line: &[u8])
+    requires { ⌜ at + length (now line) ≤ length (now out) ⌝ }
+    ensures { λ _. ⌜ now (out .exit) ≡ sets (now (out .entry)) at (now (line .entry)) ⌝ }
+{
+    if 16 < line.len() {
+        copy_run(out, at, line);
+        return;
+    }
+    copy_short(out, at, line);
 }
 
 // The bytes from `at` on become those of `line`; the answer is where they end.
@@ -174,18 +209,17 @@ pub fn rows(out: &mut [u8], at: usize, stride: usize, n: usize, w: usize, byte: 
     p
 }
 
-// n lines of a mark and w spaces, laid as by `rows`.
+// n lines of a mark and w spaces, laid as by `rows`. The loop goes by the place, so that it is not unrolled for an n that is mostly small.
 pub fn marked_rows(out: &mut [u8], at: usize, stride: usize, n: usize, w: usize, mark: u8) -> usize
-    requires { ⌜ Room at stride n (1 + w) (length (now out)) ⌝ }
+    requires { ⌜ (1 ≤ stride) × Room at stride n (1 + w) (length (now out)) ⌝ }
     ensures { λ r. ⌜ Wrote r (at + n * stride) (now (out .exit)) (pasted (now (out .entry)) at stride (replicate n (mark ∷ replicate w 32))) ⌝ }
 {
+    let end = at + n * stride;
     let mut p = at;
-    let mut i = 0;
-    while i < n {
+    while p < end {
         out[p] = mark;
         fill(out, p + 1, w, 32);
         p += stride;
-        i += 1;
     }
     p
 }
@@ -203,6 +237,14 @@ pub fn stack(out: &mut [u8], at: usize, stride: usize, n: usize, byte: u8) -> us
         i += 1;
     }
     p
+}
+
+// A 0A behind each but the last of n lines of w bytes, which follow one another from the start on.
+pub fn end_lines(out: &mut [u8], w: usize, n: usize)
+    requires { ⌜ Room w (w + 1) (n - 1) 1 (length (now out)) ⌝ }
+    ensures { λ _. ⌜ now (out .exit) ≡ fed w n (now (out .entry)) ⌝ }
+{
+    stack(out, w, w + 1, common::saturating_dec(n), 10);
 }
 
 // The places of n, `step` apart from `at` on, that the squashed list names become `byte` (`short_splits`, `squash_splits`).

@@ -1,6 +1,6 @@
 // A leaf's text, line by line.
 ghost use mathlib.Core.Path.{_≡_};
-ghost use Prim.Native.Nat.{_+_, _*_, _-_, _<_, _≤_};
+ghost use Prim.Native.Nat.{_+_, _-_, _<_, _≤_};
 ghost use mathlib.Core.Bool.{true};
 ghost use lib.ListN.{length, drop};
 ghost use lib.Seq.{sets};
@@ -12,6 +12,9 @@ ghost use Rattle.paint.specs.Contracts.{Room, clear, LaidOver};
 use crate::bytes;
 use settings::Alignment;
 use settings::Settings;
+
+// Texts of short lines, of at most so many letters, have a loop of their own: the compiler makes two of `text_lines`, by the tests below.
+const SHORT: usize = 16;
 
 // The part of the space that stands before the text (`indent_left`, `indent_top`).
 pub fn indent_start(al: Alignment, available: usize, real: usize) -> usize
@@ -52,18 +55,25 @@ fn text_line(out: &mut [u8], at: usize, s: Settings, inner: usize, widest: usize
     ensures within { λ _. ⌜ indent s inner widest (now (line .entry)) + length (now (line .entry)) ≤ inner ⌝ }
 {
     let left = s.left + line_indent(s, inner, widest, line);
-    bytes::copy(out, at + left, line);
+    if widest <= SHORT {
+        bytes::copy_short(out, at + left, line);
+        return;
+    }
+    bytes::copy_line(out, at + left, line);
 }
 
 // Where the line that starts at `from` ends; the last one ends with the text, and needs no search.
-fn end_of_line(text: &[u8], from: usize, last: bool) -> usize
+fn end_of_line(text: &[u8], from: usize, widest: usize, last: bool) -> usize
     requires { ⌜ (from ≤ length (now text)) × (last ≡ true → from + firstFeed (drop from (now text)) ≡ length (now text)) ⌝ }
     ensures { λ r. ⌜ r ≡ from + firstFeed (drop from (now (text .entry))) ⌝ }
 {
     if last {
         return text.len();
     }
-    sizes::measure::line_end(text, from)
+    if widest <= SHORT {
+        return text::next_feed_near(text, from);
+    }
+    text::next_feed(text, from)
 }
 
 // All n lines of the text, one under another, over spaces and padding.
@@ -86,7 +96,7 @@ pub fn text_lines(
     let mut from = 0;
     let mut more = n;
     while 0 < more {
-        let end = end_of_line(text, from, more == 1);
+        let end = end_of_line(text, from, widest, more == 1);
         text_line(out, p, s, inner, widest, &text[from..end]);
         p += stride;
         from = end + 1;

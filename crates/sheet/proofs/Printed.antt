@@ -5,8 +5,7 @@ use native.Mathlib.Omega.{arith}
 use native.Mathlib.Nat.{mul-le-mul, mul-le-mul-right}
 use mathlib.Core.Bool.{false}
 use mathlib.Core.List.{List, [], _∷_, _++_}
-use lib.ListN.{length, take, drop, replicate, length-replicate}
-use lib.Seq.{sets, sets-eq}
+use lib.ListN.{length, take, drop}
 use lib.Dec.{ltb}
 use borrow.Author.Tests.{ltb-false}
 use Rattle.common.specs.Choice.{pick}
@@ -16,7 +15,8 @@ use Rattle.sizes.specs.declared.Measured.{Measured}
 use Rattle.sizes.specs.Input.{inputOf}
 use Rattle.sizes.specs.declared.Size.{Size}
 use Rattle.sizes.specs.Contracts.{measuredOf, naturalAt}
-use Rattle.paint.specs.Contracts.{Room, pasted}
+use Rattle.paint.specs.Contracts.{Room, pasted, fed}
+use Rattle.paint.proofs.Room.{room-feeds}
 use Rattle.common.specs.Every.{Every}
 use Rattle.common.proofs.Every.{every-map, every-and}
 use Rattle.frame.specs.declared.Frame.{Frame}
@@ -80,6 +80,10 @@ module _ (s : Settings) (t : Tree) (len : ℕ) (large : tooLarge s t ≡ false) 
   unfolding tooLarge W H
   whole-room = let n = large-no (W s t) (H s t) large in sheet-room (W s t) (H s t) len (n .0) (n .1) enough
 
+  pub sheet-ends : Room (W s t) (W s t + 1) (H s t - 1) 1 len
+  unfolding W H tooLarge
+  sheet-ends = let n = large-no (W s t) (H s t) large in room-feeds (omega (arith, n .0)) whole-room
+
   some-inside : insideH s t ≡ suc (insideH s t - 1)
   unfolding insideH
   some-inside = omega (arith, natural-height s t)
@@ -104,13 +108,6 @@ module _ (s : Settings) (t : Tree) (len : ℕ) (large : tooLarge s t ≡ false) 
       (leaves s t)
       (every-and (LeafFits s) (Inside s 0 0 (insideH s t) (insideW s t)) (leaves s t) (leaves-fit s t) (laid-inside (root-laid s t)))
 
--- ---- what was filled and painted
-
-filled : (o : List ℕ) (n : ℕ) → n ≤ length o → sets o 0 (replicate n 10) ≡ replicate n 10 ++ drop n o
-filled o n h =
-    let z : 0 + n ≡ n = omega arith in
-    sets-eq (replicate n 10) o 0 (rw (length-replicate {A = ℕ} n 10) (omega arith)) ∙ rw (length-replicate {A = ℕ} n 10, z) refl
-
 -- ---- as the printer has it: m is what was measured, f the frame
 
 pub sheet-refused : (bs ts o : List ℕ) (m : Measured) → m ≡ measuredOf (inputOf bs ts) → (m .number ≡ 0 → ⊥) → sheetOf (inputOf bs ts) o ≡ noPrint (m .number) o
@@ -131,6 +128,10 @@ module _ {bs ts : List ℕ} {m : Measured} {sizes : List ℕ} (k : Taken bs ts m
 
     pub stride-is : f .stride ≡ W s t + 1
     stride-is = call-stride k ze fe
+
+    columns-is : f .columns ≡ W s t
+    unfolding W
+    columns-is = rw frame-of
 
     lines-is : f .lines ≡ H s t
     unfolding H
@@ -174,9 +175,6 @@ module _ {bs ts : List ℕ} {m : Measured} {sizes : List ℕ} (k : Taken bs ts m
         within : f .bytes ≤ length o
         within = ltb-false (length o) (f .bytes) (passed .1)
 
-        pub sheet-fits : 0 + f .bytes ≤ length o
-        sheet-fits = omega (arith, within)
-
         pub large : tooLarge s t ≡ false
         large = sym large-of ∙ passed .0
 
@@ -196,6 +194,9 @@ module _ {bs ts : List ℕ} {m : Measured} {sizes : List ℕ} (k : Taken bs ts m
               room = rw frame-of at (sheet-room (f .columns) (f .lines) (length o) (l .0) (l .1) (rw frame-of (rw frame-of at within)));
             })
 
+        pub sheet-fits : Room (f .columns) (f .columns + 1) (f .lines - 1) 1 (length o)
+        sheet-fits = rw (columns-is, lines-is) (sheet-ends s t (length o) large enough)
+
         module _ {base : ℕ} (be : base ≡ insideAt (s .margin) (f .stride)) where
           base-is : base ≡ insideAt (s .margin) (W s t + 1)
           base-is = be ∙ rw stride-is
@@ -211,25 +212,23 @@ module _ {bs ts : List ℕ} {m : Measured} {sizes : List ℕ} (k : Taken bs ts m
             unfoldable pub sheet-paints : (list es : List ℕ) → Listing s (f .stride) ts list (leaves s t) es → PaintsAll ts list es s (f .stride) len
             sheet-paints list es g = record { leaves = leaves s t; listing = g; short = omega (arith, call-takes k .got .short); asks = leaves-asked }
 
-            -- filled with 0A, the margin before the leaves, the leaves in the bytes from `base` on, the margin after them
-            sheet-shown : (o₁ o₂ part q o₃ o₄ : List ℕ) → o₁ ≡ sets o 0 (replicate (f .bytes) 10)
+            -- a 0A behind each line but the last, the margin before the leaves, the leaves in the bytes from `base` on, the margin after them
+            sheet-shown : (o₁ o₂ part q o₃ o₄ : List ℕ) → o₁ ≡ fed (f .columns) (f .lines) o
                 → o₂ ≡ beforeOf (s .margin) f o₁ → length o₂ ≡ length o → part ≡ drop base o₂ → q ≡ paintAll s (f .stride) part (leaves s t)
                 → o₃ ≡ take base o₂ ++ q → o₄ ≡ afterOf (s .margin) f o₃ → o₄ ≡ sheet s t ++ drop (f .bytes) o
             sheet-shown o₁ o₂ part q o₃ o₄ e₁ e₂ l₂ ep eq e₃ e₄ =
-                let r = drop ((W s t + 1) * H s t - 1) o in
-                let z₁ : o₁ ≡ replicate ((W s t + 1) * H s t - 1) 10 ++ r = e₁ ∙ rw (filled o (f .bytes) within, bytes-is) in
-                let z₂ : o₂ ≡ pasted (pasted (replicate ((W s t + 1) * H s t - 1) 10 ++ r) 0 (W s t + 1) (leftSide (s .margin) (H s t))) (s .margin .left)
-                (W s t + 1) (topSide (s .margin) (insideW s t)) =
-                e₂ ∙ rw (lines-is, wide-is, stride-is, z₁) in
+                let z₂ : o₂ ≡ pasted (pasted (fed (W s t) (H s t) o) 0 (W s t + 1) (leftSide (s .margin) (H s t))) (s .margin .left) (W s t + 1)
+                (topSide (s .margin) (insideW s t)) =
+                e₂ ∙ rw (e₁, lines-is, wide-is, stride-is, columns-is) in
                 let zq : q ≡ paintedAll s (W s t + 1) (leaves s t) (drop (insideAt (s .margin) (W s t + 1)) o₂) = eq
                 ∙ paint-painted s (f .stride) part (leaves s t) ∙ rw (ep, base-is, stride-is) in
                 let z₃ : o₃ ≡ take (insideAt (s .margin) (W s t + 1)) o₂ ++ paintedAll s (W s t + 1) (leaves s t) (drop (insideAt (s .margin) (W s t + 1)) o₂) =
                 e₃ ∙ rw (zq, base-is) in
                 let i : insideAt (s .margin) (W s t + 1) ≤ length o₂ = rw l₂ (start-in s t (length o) large enough) in
-                e₄ ∙ rw (lines-is, wide-is, tall-is, stride-is, bytes-is) (sheet-painted s t r o₂ o₃ z₂ i z₃)
+                e₄ ∙ rw (lines-is, wide-is, tall-is, stride-is, ← known) (sheet-painted s t o o₂ o₃ (omega (arith, within, known)) z₂ i z₃)
 
             pub sheet-answers : (o₁ o₂ part q o₃ o₄ list es : List ℕ) (g : Listing s (f .stride) ts list (leaves s t) es)
-                → o₁ ≡ sets o 0 (replicate (f .bytes) 10)
+                → o₁ ≡ fed (f .columns) (f .lines) o
                 → o₂ ≡ beforeOf (s .margin) f o₁ → length o₂ ≡ length o → part ≡ drop base o₂ → q ≡ paintAll s (f .stride) part (sheet-paints list es g .leaves)
                 → o₃ ≡ take base o₂ ++ q → o₄ ≡ afterOf (s .margin) f o₃
                 → PrinterAnswers (record { number = 0; count = f .bytes }) o₄ (sheetOf (inputOf bs ts) o)

@@ -74,7 +74,7 @@ pub fn print_sheet(settings: &[u8], tree: &[u8], out: &mut [u8]) -> Written
     if number != 0 {
         return frame::refused(number);
     }
-    paint::bytes::fill(out, 0, f.bytes, 10);
+    paint::bytes::end_lines(out, f.columns, f.lines);
     let margin = s.margin;
     let base = margin_before(out, margin, f);
     let mut leaves = [0u16; 5120];

@@ -75,12 +75,12 @@ pub fn next_feed_bytewise(s: &[u8], from: usize) -> usize
     i
 }
 
-// The same: past groups of four words, then word by word where eight bytes remain, then byte by byte.
-pub fn next_feed(s: &[u8], from: usize) -> usize
+// The same, where it is likely near: word by word where eight bytes remain, then byte by byte.
+pub fn next_feed_near(s: &[u8], from: usize) -> usize
     requires { ⌜ from ≤ length (now s) ⌝ }
     ensures { λ r. ⌜ r ≡ from + firstFeed (drop from (now (s .entry))) ⌝ }
 {
-    let mut i = past_plain(s, from, s.len() - (s.len() - from) % 32);
+    let mut i = from;
     while 8 <= s.len() - i {
         let marked = words::feeds_at(s, i);
         if marked != 0 {
@@ -89,4 +89,13 @@ pub fn next_feed(s: &[u8], from: usize) -> usize
         i += 8;
     }
     next_feed_bytewise(s, i)
+}
+
+// The same: first past groups of four words.
+pub fn next_feed(s: &[u8], from: usize) -> usize
+    requires { ⌜ from ≤ length (now s) ⌝ }
+    ensures { λ r. ⌜ r ≡ from + firstFeed (drop from (now (s .entry))) ⌝ }
+{
+    let end = s.len() - (s.len() - from) % 32;
+    next_feed_near(s, past_plain(s, from, end))
 }

@@ -1,17 +1,16 @@
 use native.Mathlib.Omega.{arith}
 use mathlib.Core.Path.{_≡_, refl, sym}
-use Prim.Native.Nat.{_+_, _≤_, _<_}
 use lib.ListN.{length, length-set}
 use lib.Seq.{length-take-le}
 use Rattle.entries.proofs.EntryParts.{long, in-list, in-entry}
 use Rattle.frame.proofs.Printers.{print-refused}
-use Rattle.leaf.proofs.Alone.{line-low, bytes-low, print-no-room, paints, alone-whole}
+use Rattle.leaf.proofs.Alone.{line-low, bytes-low, print-no-room, ends-room, paints, alone-whole}
 use borrow.Author.Needs.{needs}
 use Rattle.leaf.proofs.print_block.Statement.{statement}
 use Rattle.leaf.proofs.print_block.Tie as tie
 use Rattle.block.proofs.block_height.Reads as block-height-reads
 use Rattle.block.proofs.block_width.Reads as block-width-reads
-use Rattle.paint.proofs.bytes.fill.Reads as fill-reads
+use Rattle.paint.proofs.bytes.end_lines.Reads as end-lines-reads
 use Rattle.common.proofs.saturating_dec.Reads as saturating-dec-reads
 use Rattle.entries.proofs.entry.entry_at.Reads as entry-at-reads
 use Rattle.entries.proofs.paint_leaves.Reads as paint-leaves-reads
@@ -56,6 +55,14 @@ returns c = λ q. print-refused (c .refused .ensures) (print-no-room (q .begins)
     (c .before .before .before .before .before .before .allotted-at .ensures .1) _ (c .before .before .before .before .block-width .ensures) _
     (c .before .before .before .block-height .ensures) (q .fits) _ (c .before .before .saturating-dec .ensures) _ (c .before .if1 .taken))
 
+end-lines-requires : tie.Need-end-lines-requires
+end-lines-requires c κs =
+    let q = c .before .before .before .before .before .before .before .before .before .before .before .before .before .before .before .pre in
+    ends-room (q .begins) _ (c .before .before .before .before .before .before .before .before .before .entry-at .ensures) _ (c .before .before .before .before .before .before .allotted-at .ensures .0) _
+    (c .before .before .before .before .before .flags-of .ensures) (c .before .before .before .before .before .before .allotted-at .ensures .1) _
+    (c .before .before .before .before .block-width .ensures) _ (c .before .before .before .block-height .ensures) (q .fits) _ (c .before .before .saturating-dec .ensures) _
+    (c .before .if1 .left)
+
 slice-write-leaf : tie.Need-slice-write-leaf
 slice-write-leaf c =
     omega (
@@ -80,12 +87,12 @@ paint-leaves-requires c κs = let q =
 
 returns-2 : tie.Need-returns-2
 returns-2 c = λ q.
-    let same : length (c .before .before .before .before .before .before .before .fill .last .0)
+    let same : length (c .before .before .before .before .before .before .before .end-lines .last .0)
     ≡ length (c .before .before .before .before .before .before .before .before .before .before .before .before .before .before .before .before .before .before .before .before .before .before .before .args .out .now) = search needs in
     let p = paints (q .begins) _
-    (c .before .before .before .before .before .before .before .before .before .before .before .before .before .before .before .before .before .entry-at .ensures) _ (c .before .before .before .before .before .before .before .before .before .before .before .before .before .before .allotted-at .ensures .0) _ (c .before .before .before .before .before .before .before .before .before .before .before .before .before .flags-of .ensures) (c .before .before .before .before .before .before .before .before .before .before .before .before .before .before .allotted-at .ensures .1) _ (c .before .before .before .before .before .before .before .before .before .before .before .before .block-width .ensures) _ (c .before .before .before .before .before .before .before .before .before .before .before .block-height .ensures) (q .fits) _ (c .before .before .before .before .before .before .before .before .before .before .saturating-dec .ensures) (q .short) (c .before .before .before .before .before .before .before .before .before .before .before .before .before .before .before .before .before .before .before .before .before .before .before .args .out .now) (c .before .before .before .before .before .before .before .before .before .if1 .left) (length (c .before .before .before .before .before .before .before .fill .last .0)) same _ refl in
+    (c .before .before .before .before .before .before .before .before .before .before .before .before .before .before .before .before .before .entry-at .ensures) _ (c .before .before .before .before .before .before .before .before .before .before .before .before .before .before .allotted-at .ensures .0) _ (c .before .before .before .before .before .before .before .before .before .before .before .before .before .flags-of .ensures) (c .before .before .before .before .before .before .before .before .before .before .before .before .before .before .allotted-at .ensures .1) _ (c .before .before .before .before .before .before .before .before .before .before .before .before .block-width .ensures) _ (c .before .before .before .before .before .before .before .before .before .before .before .block-height .ensures) (q .fits) _ (c .before .before .before .before .before .before .before .before .before .before .saturating-dec .ensures) (q .short) (c .before .before .before .before .before .before .before .before .before .before .before .before .before .before .before .before .before .before .before .before .before .before .before .args .out .now) (c .before .before .before .before .before .before .before .before .before .if1 .left) (length (c .before .before .before .before .before .before .before .end-lines .last .0)) same _ refl in
     alone-whole (q .begins) _
-    (c .before .before .before .before .before .before .before .before .before .before .before .before .before .before .before .before .before .entry-at .ensures) _ (c .before .before .before .before .before .before .before .before .before .before .before .before .before .before .allotted-at .ensures .0) _ (c .before .before .before .before .before .before .before .before .before .before .before .before .before .flags-of .ensures) (c .before .before .before .before .before .before .before .before .before .before .before .before .before .before .allotted-at .ensures .1) _ (c .before .before .before .before .before .before .before .before .before .before .before .before .block-width .ensures) _ (c .before .before .before .before .before .before .before .before .before .before .before .block-height .ensures) (q .fits) _ (c .before .before .before .before .before .before .before .before .before .before .saturating-dec .ensures) (q .short) (c .before .before .before .before .before .before .before .before .before .before .before .before .before .before .before .before .before .before .before .before .before .before .before .args .out .now) (c .before .before .before .before .before .before .before .before .before .if1 .left) (length (c .before .before .before .before .before .before .before .fill .last .0)) same _ refl _ _ (c .before .before .before .before .before .before .before .fill .ensures .out-is) (c .before .before .paint-leaves .ensures p)
+    (c .before .before .before .before .before .before .before .before .before .before .before .before .before .before .before .before .before .entry-at .ensures) _ (c .before .before .before .before .before .before .before .before .before .before .before .before .before .before .allotted-at .ensures .0) _ (c .before .before .before .before .before .before .before .before .before .before .before .before .before .flags-of .ensures) (c .before .before .before .before .before .before .before .before .before .before .before .before .before .before .allotted-at .ensures .1) _ (c .before .before .before .before .before .before .before .before .before .before .before .before .block-width .ensures) _ (c .before .before .before .before .before .before .before .before .before .before .before .block-height .ensures) (q .fits) _ (c .before .before .before .before .before .before .before .before .before .before .saturating-dec .ensures) (q .short) (c .before .before .before .before .before .before .before .before .before .before .before .before .before .before .before .before .before .before .before .before .before .before .before .args .out .now) (c .before .before .before .before .before .before .before .before .before .if1 .left) (length (c .before .before .before .before .before .before .before .end-lines .last .0)) same _ refl _ _ (c .before .before .before .before .before .before .before .end-lines .ensures) (c .before .before .paint-leaves .ensures p)
 
 pub print-block-spec : {M : Type 1} → statement M
 print-block-spec =
@@ -104,7 +111,7 @@ print-block-spec =
     (λ c κs. search needs)
     (λ c. search needs)
     returns
-    (λ c κs. search needs)
+    end-lines-requires
     slice-write-leaf
     slice-reshare-prefix-paint-leaves
     slice-aggregate-paint-leaves

@@ -71,8 +71,8 @@ returns-2 c = print-refused (c .refused2 .ensures) (sheet-no (took (c .before .b
     (c .before .before .before .before .natural-at .ensures .0) (c .before .before .before .frame-of .ensures) _ _ (c .before .before .refusal-of .ensures)
     (c .before .if2 .taken))
 
-fill-requires : tie.Need-fill-requires
-fill-requires c κs =
+end-lines-requires : tie.Need-end-lines-requires
+end-lines-requires c κs =
     let e = c .before in
     let k = took (e .before .before .before) in
     let ze = e .before .before .before .natural-at .ensures .0 in
@@ -174,7 +174,7 @@ returns-3 c =
     let es = listing kf _ _ g (le-refl 5120) _ _ _
     (c .before .before .before .before .before .before .before .before .before .before .before .walk-tree .ensures (walk-ready kf _ _ g (le-refl 5120))) in
     sheet-answers k ze fe o n be le _
-    (c .before .before .before .before .before .before .before .before .before .before .before .before .before .before .before .before .before .margin-before .last .0) _ _ _ _ _ _ es (c .before .before .before .before .before .before .before .before .before .before .before .before .before .before .before .before .before .before .before .before .before .before .fill .ensures .out-is) (c .before .before .before .before .before .before .before .before .before .before .before .before .before .before .before .before .before .margin-before .ensures .out-is) l (part-to-end (c .before .before .before .before .before .before .before .before .before .before .before .before .before .before .before .before .before .margin-before .last .0) (c .before .before .before .before .before .before .before .before .before .before .before .before .before .before .before .before .before .margin-before .result))
+    (c .before .before .before .before .before .before .before .before .before .before .before .before .before .before .before .before .before .margin-before .last .0) _ _ _ _ _ _ es (c .before .before .before .before .before .before .before .before .before .before .before .before .before .before .before .before .before .before .before .before .before .before .end-lines .ensures) (c .before .before .before .before .before .before .before .before .before .before .before .before .before .before .before .before .before .margin-before .ensures .out-is) l (part-to-end (c .before .before .before .before .before .before .before .before .before .before .before .before .before .before .before .before .before .margin-before .last .0) (c .before .before .before .before .before .before .before .before .before .before .before .before .before .before .before .before .before .margin-before .result))
     (c .before .before .before .before .before .before .paint-leaves .ensures (sheet-paints k ze fe o n be le _ _ es))
     (part-back (c .before .before .before .before .before .before .before .before .before .before .before .before .before .before .before .before .before .margin-before .last .0) (c .before .before .before .before .before .before .paint-leaves .last .1 .1 .1 .1 .1 .0) (c .before .before .before .before .before .before .before .before .before .before .before .before .before .before .before .before .before .margin-before .result)) (c .before .before .margin-after .ensures)
 
@@ -191,7 +191,7 @@ print-sheet-spec =
     (λ c κs. search needs)
     (λ c κs. search needs)
     returns-2
-    fill-requires
+    end-lines-requires
     margin-before-requires
     slice-aggregate-walk-tree
     (λ c κs. search needs)

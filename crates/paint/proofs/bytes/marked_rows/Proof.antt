@@ -1,74 +1,57 @@
-use Prim.Native.Nat.{_+_, _-_, _*_, _≤_}
-use native.Mathlib.Nat.{sub-zero}
+use mathlib.Core.Path.{_≡_, refl}
+use Prim.Native.Nat.{_+_, _-_, _*_}
 use native.Mathlib.Numerals.{add-one}
 use native.Mathlib.Omega.{arith}
 use mathlib.Core.List.{_∷_}
-use lib.ListN.{length, replicate, length-set, length-replicate}
-use borrow.Author.Needs.{needs}
+use lib.ListN.{length, replicate, length-set}
 use Rattle.paint.specs.Contracts.{pasted}
-use Rattle.paint.proofs.LinesLeft.{LinesLeft, left-start, left-step, left-done, line-room, left-next, rows-more, rows-none}
+use Rattle.paint.proofs.LinesLeft.{RowsLeft, rows-start, rows-step, rows-done, some-left, line-room, left-next}
 use Rattle.paint.proofs.bytes.marked_rows.Statement.{statement}
 use Rattle.paint.proofs.bytes.marked_rows.Tie as tie
 
 -- the lines still to come make the whole
 abbrev Inv-loop : tie.InvT-loop
-Inv-loop out₀ at stride n w mark p₀ i₀ out p i =
-    (i ≤ n) × LinesLeft (pasted out₀ at stride (replicate n (mark ∷ replicate w 32))) (length out₀) (at + n * stride) out p stride (1 + w)
-    (replicate (n - i) (mark ∷ replicate w 32))
+Inv-loop out₀ at stride n w mark end p₀ out p =
+    (end ≡ at + n * stride)
+    × RowsLeft (pasted out₀ at stride (replicate n (mark ∷ replicate w 32))) (length out₀) (at + n * stride) out p stride (1 + w) (mark ∷ replicate w 32)
 
 abbrev μ-loop : tie.MeasureT-loop
-μ-loop out₀ at stride n w mark p₀ i₀ out p i = n - i
+μ-loop out₀ at stride n w mark end p₀ out p = end - p
+
+mul-end : tie.Need-mul-end Inv-loop μ-loop
+mul-end c = omega (arith, c .before .pre .1 .small)
+
+add-end : tie.Need-add-end Inv-loop μ-loop
+add-end c = omega (arith, c .before .pre .1 .small)
 
 loop-holds : tie.Need-loop-holds Inv-loop μ-loop
-loop-holds c = (omega arith, rw sub-zero (left-start _ _ _ _ _ _ (length-replicate _ _) (c .before .pre)))
+loop-holds c = (refl, rows-start _ _ _ _ _ _ (c .before .pre .1))
 
 slice-write-out : tie.Need-slice-write-out Inv-loop μ-loop
-slice-write-out c =
-    let a = c .before .before .before .args in
-    let k = c .before .loop in
-    omega (arith, line-room (rows-more (a .mark ∷ replicate (a .w) 32) (a .n) (k .i) (omega arith) (k .inv .1)))
+slice-write-out c = let k = c .before .loop in omega (arith, line-room (some-left (k .inv .1) (omega (arith, k .inv .0))))
 
 add-fill : tie.Need-add-fill Inv-loop μ-loop
-add-fill c =
-    let a = c .before .before .before .before .args in
-    let k = c .before .before .loop in
-    omega (arith, rows-more (a .mark ∷ replicate (a .w) 32) (a .n) (k .i) (omega arith) (k .inv .1) .room .small)
+add-fill c = let k = c .before .before .loop in omega (arith, some-left (k .inv .1) (omega (arith, k .inv .0)) .room .small)
 
 fill-requires : tie.Need-fill-requires Inv-loop μ-loop
-fill-requires c κs =
-    let a = c .before .before .before .before .args in
-    let k = c .before .before .loop in
-    let m = rows-more (a .mark ∷ replicate (a .w) 32) (a .n) (k .i) (omega arith) (k .inv .1) in
-    rw length-set (omega (arith, line-room m))
+fill-requires c κs = let k = c .before .before .loop in rw length-set (omega (arith, line-room (some-left (k .inv .1) (omega (arith, k .inv .0)))))
 
 add-p : tie.Need-add-p Inv-loop μ-loop
-add-p c =
-    let a = c .before .before .before .before .before .before .before .args in
-    let k = c .before .before .before .before .before .loop in
-    let m = rows-more (a .mark ∷ replicate (a .w) 32) (a .n) (k .i) (omega arith) (k .inv .1) in
-    omega (arith, left-next m)
-
-add-i : tie.Need-add-i Inv-loop μ-loop
-add-i c = search needs
+add-p c = let k = c .before .before .before .before .before .loop in omega (arith, left-next (some-left (k .inv .1) (omega (arith, k .inv .0))))
 
 loop-less : tie.Need-loop-less Inv-loop μ-loop
-loop-less c = search needs
+loop-less c = omega (arith, c .before .before .before .before .before .before .before .pre .0)
 
 loop-again : tie.Need-loop-again Inv-loop μ-loop
 loop-again c =
-    let a = c .before .before .before .before .before .before .before .args in
     let k = c .before .before .before .before .before .loop in
-    let m = rows-more (a .mark ∷ replicate (a .w) 32) (a .n) (k .i) (omega arith) (k .inv .1) in
-    (omega arith, rw (c .before .before .fill .ensures .out-is, add-one (k .p)) (left-step _ _ m))
+    (k .inv .0, rw (c .before .before .fill .ensures .out-is, add-one (k .p)) (rows-step (k .inv .1) (omega (arith, k .inv .0))))
 
 same-length : tie.Need-same-length Inv-loop μ-loop
-same-length c = c .before .loop .inv .1 .long
+same-length c = c .before .loop .inv .1 .left .long
 
 returns : tie.Need-returns Inv-loop μ-loop
-returns c =
-    let a = c .before .before .before .args in
-    let k = c .before .loop in
-    left-done (rows-none (a .mark ∷ replicate (a .w) 32) (a .n) (k .i) (omega arith) (k .inv .1))
+returns c = let k = c .before .loop in rows-done (c .before .before .before .pre .0) (k .inv .1) (omega (arith, k .inv .0))
 
 pub marked-rows-spec : {M : Type 1} → statement M
 marked-rows-spec =
@@ -76,12 +59,13 @@ marked-rows-spec =
     (tie.spec
     Inv-loop
     μ-loop
+    mul-end
+    add-end
     loop-holds
     slice-write-out
     add-fill
     fill-requires
     add-p
-    add-i
     loop-less
     loop-again
     same-length
