@@ -6,11 +6,11 @@ use mathlib.Core.List.{List, map}
 use lib.ListN.{length, getD, length-map}
 use lib.Dec.{eqb}
 use Rattle.common.specs.Choice.{pick, both}
-use Rattle.settings.specs.declared.Settings.{Settings}
 use Rattle.splits.specs.Splits.{named}
+use Rattle.settings.specs.declared.Settings.{Settings}
+use Rattle.text.specs.Text.{lines, textWidth, textHeight}
 use Rattle.sizes.specs.declared.Size.{Size}
 use Rattle.sizes.specs.Sizes.{sep}
-use Rattle.sizes.specs.Text.{lines, textWidth, textHeight}
 use Rattle.block.specs.declared.Flags.{Flags}
 use Rattle.block.specs.Block.{Leaf, mark, topLeft, topRight, bottomLeft, edge, slackBefore, indent, textLine, body, topLine, middle, bottomLine, block}
 use Rattle.alike.proofs.ReplacedBytes.{lines-recast, width-recast, height-recast}

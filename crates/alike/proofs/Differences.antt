@@ -6,10 +6,11 @@ use mathlib.Core.List.{List, [], _∷_, _++_}
 use lib.ListN.{length, getD, List·getD-append, List·getD-eq-default}
 use lib.Seq.{getD-append-add}
 use Rattle.common.proofs.Either.{either}
-use Rattle.block.specs.Content.{sideBySide, joinLines}
-use Rattle.block.proofs.Dimensions.{Dims, dims-paired, byte-left, byte-right, byte-above, byte-below}
 use Rattle.common.proofs.Every.{every-at}
+use Rattle.text.specs.Text.{joinLines}
+use Rattle.block.specs.Content.{sideBySide}
 use Rattle.block.specs.Promises.{byteAt}
+use Rattle.block.proofs.Dimensions.{Dims, dims-paired, byte-left, byte-right, byte-above, byte-below}
 use Rattle.paint.proofs.Feeds.{feeds-at}
 
 -- ---- one line

@@ -8,39 +8,39 @@ use lib.ListN.{length, take, drop, length-map}
 use lib.Seq.{take-at, drop-at}
 use lib.Dec.{eqb, ltb}
 use Rattle.common.specs.Choice.{pick}
+use Rattle.common.specs.Sums.{greatest}
 use Rattle.settings.specs.declared.Settings.{Settings}
 use Rattle.tree.specs.Tree.{nodes}
 use Rattle.tree.specs.Reading.{ReadOne, readTree}
 use Rattle.tree.specs.Accepted.{bytesOf}
+use Rattle.text.specs.Text.{joinLines}
 use Rattle.sizes.specs.declared.Size.{Size}
-use Rattle.sizes.specs.Text.{greatest}
 use Rattle.sizes.specs.Collecting.{sizeWidth}
 use Rattle.sizes.specs.Sizes.{naturals}
 use Rattle.sizes.specs.Input.{Input, refused, given}
+use Rattle.drafts.specs.Store.{isName, tagFor, fieldsOf, draftOf, returnFound, returnIn, returnOf}
+use Rattle.block.specs.Block.{block}
+use Rattle.fold.specs.declared.Tried.{Tried}
+use Rattle.fold.specs.Fold.{columns, find}
+use Rattle.fold.specs.Answers.{listedTrees, list?, counts, writes, foldCells, foldOf}
 use Rattle.collector.specs.declared.SizeRecord.{SizeRecord}
 use Rattle.collector.specs.Records.{recordsOf, collectOf}
 use Rattle.collector.proofs.Zipped.{records-length}
-use Rattle.block.specs.Content.{joinLines}
-use Rattle.block.specs.Block.{block}
+use Rattle.blank.specs.Blank.{blanked, cellFlags, dotsFor, allCells, blankTo, blankIn, blankOf}
 use Rattle.layout.specs.Walk.{Placed, leafOf, leaves}
 use Rattle.frame.specs.Frame.{tooLarge}
 use Rattle.frame.specs.Printer.{printTo}
+use Rattle.widen.specs.Widening.{Need, nearestList, treeNeeds}
+use Rattle.widen.specs.Listing.{nodesOf, lettersOf}
+use Rattle.widen.specs.Answers.{noNearest, nearestTo, nearestOf}
 use Rattle.leaf.specs.declared.LeafRecord.{LeafRecord}
 use Rattle.leaf.specs.Answers.{leafNumbered, printFound, leafPrintOf}
 use Rattle.sheet.specs.Sheet.{sheet}
 use Rattle.sheet.specs.Answers.{sheetOf}
 use Rattle.places.specs.declared.LeafPlace.{LeafPlace}
 use Rattle.places.specs.Together.{wordOf, firstFault, findsOf}
-use Rattle.fold.specs.declared.Tried.{Tried}
-use Rattle.fold.specs.Fold.{columns, find}
-use Rattle.fold.specs.Answers.{listedTrees, list?, counts, writes, foldCells, foldOf}
-use Rattle.widen.specs.Widening.{Need, nearestList, treeNeeds}
-use Rattle.widen.specs.Listing.{nodesOf, lettersOf}
-use Rattle.widen.specs.Answers.{noNearest, nearestTo, nearestOf}
-use Rattle.drafts.specs.Store.{isName, tagFor, fieldsOf, draftOf, returnFound, returnIn, returnOf}
 use Rattle.c_encoding.specs.Numbers.{refusal, written, offered, sizeNumbers, sizesGiven, recordNumbers, recordGiven}
 use Rattle.c_encoding.specs.Places.{placeNumbers, placeGiven}
-use Rattle.blank.specs.Blank.{blanked, cellFlags, dotsFor, allCells, blankTo, blankIn, blankOf}
 use Rattle.alike.specs.Lent.{Lent, BothAnswer, Equal, BothCollect, BothPrint, BothFind, BothFold, BothReturn, BothBlank, BothNearest, BothGive}
 
 -- ---- one law for all

@@ -9,7 +9,7 @@ use lib.ListN.{length}
 use lib.Dec.{eqb}
 use Rattle.common.specs.Choice.{pick}
 use Rattle.tree.specs.Tree.{Axis, Tree, Trees, cell, group, none, more}
-use Rattle.sizes.specs.Text.{onto, lines, lineLengths}
+use Rattle.text.specs.Text.{onto, lines, lineLengths}
 use Rattle.blank.specs.Alike.{recast, recast*, covered, masked, Alike}
 use Rattle.alike.specs.Lines.{SameLines, SameLines*}
 use Rattle.alike.proofs.ReplacedBytes.{lengths-recast}

@@ -14,14 +14,14 @@ use Rattle.common.specs.Choice.{pick}
 use Rattle.settings.specs.declared.Settings.{Settings}
 use Rattle.settings.specs.Promises.{Ranges}
 use Rattle.tree.specs.Tree.{Tree, Trees, cell, group, none, more}
+use Rattle.text.specs.Text.{lines}
 use Rattle.sizes.specs.Input.{Input, refused, given, inputOf}
 use Rattle.sizes.proofs.MeasuredInput.{takes}
-use Rattle.sizes.specs.Text.{lines}
+use Rattle.blank.specs.Alike.{recast, recast*, covered, masked}
 use Rattle.sheet.specs.Sheet.{sheet}
 use Rattle.sheet.specs.Answers.{sheetOf}
-use Rattle.sheet.proofs.Calls.{sheet-printed}
 use Rattle.sheet.specs.Promises.{bytesWritten}
-use Rattle.blank.specs.Alike.{recast, recast*, covered, masked}
+use Rattle.sheet.proofs.Calls.{sheet-printed}
 use Rattle.alike.specs.Own.{leafBytes, SheetOwn, LeafOwn}
 use Rattle.alike.specs.Layout.{SheetPlace, BlockPlace, SheetText, LeafText}
 use Rattle.alike.proofs.RelatedBytes.{Over, over-length, over-at}

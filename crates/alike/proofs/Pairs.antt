@@ -16,11 +16,11 @@ use Rattle.tree.specs.Planning.{Plan, Plans, PlanOne, wholeIn}
 use Rattle.tree.proofs.SameReading.{read-same}
 use Rattle.tree.proofs.PlainPlans.{planOf, plansOf, plan-is}
 use Rattle.tree.proofs.Fronts.{contents-length}
-use Rattle.sizes.specs.Text.{lineLengths}
+use Rattle.text.specs.Text.{lineLengths}
 use Rattle.sizes.specs.Input.{inputOf, settingsInput}
+use Rattle.blank.specs.Alike.{recast, recast*, covered, masked, Alike}
 use Rattle.plan.specs.Answers as plan
 use Rattle.plan.specs.Answers.{planInput}
-use Rattle.blank.specs.Alike.{recast, recast*, covered, masked, Alike}
 use Rattle.alike.specs.Pairs as pairs
 use Rattle.alike.specs.Pairs.{AlikeBytes, SameFront, afterElement, AlikeTrees, planRecast, planRecast*, planMasked, PlanTexts, PlanTexts*, AlikePlans, SameRead, SameInput, SamePlanInput}
 use Rattle.alike.proofs.Lines.{alike-lines}

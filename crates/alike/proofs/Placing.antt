@@ -10,18 +10,19 @@ use lib.ListN.{getD, getElem?}
 use lib.Dec.{eqb, ltb}
 use borrow.Author.Tests.{ltb-false}
 use Rattle.common.specs.Choice.{pick}
+use Rattle.common.proofs.Elems.{elem-none}
+use Rattle.common.proofs.Every.{every-elem}
 use Rattle.settings.specs.declared.Settings.{Settings}
 use Rattle.settings.specs.declared.Margin.{Margin}
 use Rattle.tree.specs.Tree.{Tree}
+use Rattle.text.specs.Text.{joinLines}
 use Rattle.sizes.specs.Sizes.{leafSize}
 use Rattle.sizes.specs.Contracts.{Fits}
-use Rattle.common.proofs.Elems.{elem-none}
-use Rattle.block.specs.Content.{joinLines}
 use Rattle.block.specs.Block.{block}
-use Rattle.block.proofs.Dimensions.{Dims}
-use Rattle.common.proofs.Every.{every-elem}
 use Rattle.block.specs.Promises.{byteAt}
+use Rattle.block.proofs.Dimensions.{Dims}
 use Rattle.block.proofs.Dims.{block-dims}
+use Rattle.blank.specs.Alike.{recast}
 use Rattle.layout.specs.Walk.{Placed, leafOf, walk, root, leaves, insideW, insideH}
 use Rattle.layout.specs.Promises.{heightAt, widthAt}
 use Rattle.layout.proofs.Fit.{LeafFits, leaves-fit}
@@ -33,7 +34,6 @@ use Rattle.sheet.specs.Promises.{edgedAt}
 use Rattle.sheet.proofs.Margins.{margined-dims, margined-at, margined-byte}
 use Rattle.sheet.proofs.Content.{sheet-dims, sheet-shows}
 use Rattle.sheet.proofs.Tiling.{Covers, tiling}
-use Rattle.blank.specs.Alike.{recast}
 use Rattle.alike.specs.Own.{foundBytes, leafBytes}
 use Rattle.alike.specs.Layout.{TextPlace, SheetPlace, BlockPlace}
 use Rattle.alike.proofs.ReplacedBytes.{natural-recast, leaf-size-recast}

@@ -7,15 +7,15 @@ use mathlib.Core.List.{List, [], _∷_, _++_, map}
 use lib.ListN.{length, getD, take, drop, length-map, length-drop}
 use lib.Dec.{eqb, ltb, leb}
 use Rattle.common.specs.Choice.{pick, both}
+use Rattle.tree.specs.declared.Header.{Header}
+use Rattle.tree.specs.declared.Header.the-variants.{Fault, Element}
 use Rattle.tree.specs.Tree.{Axis, across, down}
 use Rattle.tree.specs.Bytes.{lengthAt, tagOf, axisOf}
 use Rattle.tree.specs.Promises.{contents}
 use Rattle.tree.specs.Reading.{isText}
 use Rattle.tree.specs.Planning.{Plan, Plans, PlanOne, PlanAll, lastTag, headerIn, isRange, cellIn, rangeIn, groupIn, moreIn, elementIn, sequenceIn, wholeIn}
-use Rattle.tree.specs.declared.Header.{Header}
-use Rattle.tree.specs.declared.Header.the-variants.{Fault, Element}
 use Rattle.tree.proofs.Limits.{opened, by-front, followed, by-first}
-use Rattle.sizes.specs.Text.{lineLengths}
+use Rattle.text.specs.Text.{lineLengths}
 use Rattle.blank.specs.Alike.{covered}
 use Rattle.alike.specs.Pairs as pairs
 use Rattle.alike.specs.Pairs.{AlikeBytes, SameFront, afterElement, planRecast, planRecast*, planMasked}

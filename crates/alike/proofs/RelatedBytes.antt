@@ -7,7 +7,8 @@ use mathlib.Core.List.{List, [], _∷_, _++_, map}
 use lib.ListN.{length, getD, replicate}
 use Rattle.common.specs.Choice.{pick}
 use Rattle.splits.specs.Splits.{isNamed}
-use Rattle.block.specs.Content.{sideBySide, column, ruled, joinLines}
+use Rattle.text.specs.Text.{joinLines}
+use Rattle.block.specs.Content.{sideBySide, column, ruled}
 
 module _ (R : ℕ → ℕ → Type 0) where
   -- byte by byte

@@ -6,10 +6,11 @@ use mathlib.Core.List.{List, [], _∷_, map}
 use lib.ListN.{length, length-map}
 use lib.Dec.{eqb}
 use Rattle.common.specs.Choice.{pick}
+use Rattle.common.specs.Sums.{greatest}
 use Rattle.settings.specs.declared.Settings.{Settings}
 use Rattle.tree.specs.Tree.{Axis, Tree, Trees, cell, group, none, more, empty?, count, nodes, nodes*}
+use Rattle.text.specs.Text.{onto, lines, lineLengths, textWidth, textHeight}
 use Rattle.sizes.specs.declared.Size.{Size}
-use Rattle.sizes.specs.Text.{onto, lines, greatest, lineLengths, textWidth, textHeight}
 use Rattle.sizes.specs.Sizes.{leafSize, natural, naturals, allot, spareOf, Sizes, sizes, sizes*, treeSizes}
 use Rattle.blank.specs.Alike.{recast, recast*}
 

@@ -6,19 +6,20 @@ use mathlib.Core.List.{List, [], _∷_, _++_, map}
 use lib.ListN.{length, getD, replicate, length-replicate, length-map, List·getD-append}
 use lib.Seq.{getD-append-add}
 use Rattle.common.specs.Choice.{pick}
+use Rattle.common.proofs.Every.{every-at, every-elem}
 use Rattle.settings.specs.declared.Settings.{Settings}
 use Rattle.tree.specs.Tree.{Tree}
+use Rattle.text.specs.Text.{lines, textWidth, textHeight}
+use Rattle.text.proofs.Measured.{lines-width, lines-height}
 use Rattle.sizes.specs.declared.Size.{Size}
-use Rattle.sizes.specs.Text.{lines, textWidth, textHeight}
 use Rattle.sizes.specs.Sizes.{sep, leafSize}
 use Rattle.sizes.specs.Contracts.{Fits}
 use Rattle.block.specs.Block.{Leaf, slackBefore, indent, textLine, body, topLine, middle, block, blockHeight, blockWidth}
-use Rattle.block.proofs.Dimensions.{byte-left, byte-right}
-use Rattle.common.proofs.Every.{every-at, every-elem}
 use Rattle.block.specs.Promises.{byteAt}
-use Rattle.block.proofs.TextLine.{before-le, mode-le, lines-width, lines-height}
-use Rattle.paint.proofs.Feeds.{feeds-at}
+use Rattle.block.proofs.Dimensions.{byte-left, byte-right}
+use Rattle.block.proofs.TextLine.{before-le, mode-le}
 use Rattle.block.proofs.Dims.{body-dims, left-dims, middle-dims, block-dims}
+use Rattle.paint.proofs.Feeds.{feeds-at}
 use Rattle.layout.specs.Walk.{leafOf, leaves}
 use Rattle.layout.specs.Promises.{heightAt, widthAt}
 use Rattle.layout.proofs.Fit.{LeafFits, leaves-fit}

@@ -8,16 +8,16 @@ use lib.ListN.{length, getD, replicate, length-append, length-replicate, length-
 use lib.Dec.{eqb}
 use Rattle.common.specs.Choice.{pick}
 use Rattle.settings.specs.declared.Settings.{Settings}
+use Rattle.text.specs.Text.{lines, textWidth, textHeight}
+use Rattle.text.proofs.JoinedLines.{Free, NoFeed, none, more, no-feed-lines}
 use Rattle.sizes.specs.declared.Size.{Size}
-use Rattle.sizes.specs.Text.{lines, textWidth, textHeight}
 use Rattle.sizes.specs.Sizes.{sep, leafSize}
 use Rattle.sizes.specs.Contracts.{Fits}
 use Rattle.block.specs.Block.{Leaf, mark, slackBefore, indent, textLine, body, topLine, middle, bottomLine, block, blockWidth}
-use Rattle.block.proofs.Dimensions.{Dims, dims-paired, dims-move}
 use Rattle.block.specs.Promises.{byteAt}
+use Rattle.block.proofs.Dimensions.{Dims, dims-paired, dims-move}
 use Rattle.block.proofs.TextLine.{text-dims}
 use Rattle.block.proofs.Dims.{body-dims, left-dims, edges-dims, middle-dims}
-use Rattle.block.proofs.NoFeed.{Free, NoFeed, none, more, no-feed-lines}
 use Rattle.alike.specs.Layout.{TextPlace}
 use Rattle.alike.proofs.ReplacedBytes.{lines-recast, width-recast, height-recast, leaf-size-recast}
 use Rattle.alike.proofs.Blocks.{withText}

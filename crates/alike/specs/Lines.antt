@@ -2,7 +2,7 @@
 -- same length". `alike-is` (proofs/Lines) says that these are the trees that are `Alike`.
 use mathlib.Core.Path.{_≡_}
 use Rattle.tree.specs.Tree.{Tree, Trees, cell, group, none, more}
-use Rattle.sizes.specs.Text.{lineLengths}
+use Rattle.text.specs.Text.{lineLengths}
 
 unfoldable mutual
   unfolding lineLengths

@@ -11,14 +11,14 @@ use lib.ListN.{getD}
 use Rattle.common.specs.Choice.{pick}
 use Rattle.settings.specs.declared.Settings.{Settings}
 use Rattle.tree.specs.Tree.{Tree, Trees, cell, group, none, more, nodes}
+use Rattle.text.specs.Text.{joinLines}
 use Rattle.sizes.specs.Input.{Input, refused, given}
-use Rattle.block.specs.Content.{joinLines}
 use Rattle.block.specs.Block.{block}
+use Rattle.blank.specs.Alike.{covered, masked, Alike}
 use Rattle.layout.specs.Walk.{Placed, leafOf, leaves}
 use Rattle.frame.specs.Frame.{tooLarge}
 use Rattle.leaf.specs.Answers.{leafNumbered}
 use Rattle.sheet.specs.Sheet.{sheet}
-use Rattle.blank.specs.Alike.{covered, masked, Alike}
 
 -- the bytes of the block of the leaf with that node number
 abbrev pub foundBytes : Settings → Option Placed → List ℕ

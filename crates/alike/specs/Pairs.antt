@@ -12,12 +12,12 @@ use Rattle.tree.specs.Bytes.{lengthAt, tagOf}
 use Rattle.tree.specs.Reading.{isText, ReadOne}
 use Rattle.tree.specs.Promises.{Texts, Encodes, contents, PlanEncodes}
 use Rattle.tree.specs.Planning.{Plan, Plans}
-use Rattle.sizes.specs.Text.{lineLengths}
+use Rattle.text.specs.Text.{lineLengths}
 use Rattle.sizes.specs.Input.{Input, refused, given, inputOf}
-use Rattle.plan.specs.Answers.{PlanInput}
 use Rattle.drafts.specs.Store.{tagIn, fieldsOf, StoreAnswer}
 use Rattle.drafts.specs.Promises.{DraftCall, save, forget, return}
 use Rattle.blank.specs.Alike.{covered, Alike}
+use Rattle.plan.specs.Answers.{PlanInput}
 
 -- ---- bytes, of a tree or of none
 

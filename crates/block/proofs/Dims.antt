@@ -7,8 +7,8 @@ use mathlib.Core.List.{List, [], _∷_}
 use lib.ListN.{length, replicate, length-append, length-replicate}
 use Rattle.common.specs.Choice.{pick}
 use Rattle.settings.specs.declared.Settings.{Settings}
+use Rattle.text.specs.Text.{lines, textHeight}
 use Rattle.sizes.specs.declared.Size.{Size}
-use Rattle.sizes.specs.Text.{lines, textHeight}
 use Rattle.sizes.specs.Sizes.{sep, leafSize}
 use Rattle.sizes.specs.Contracts.{Fits}
 use Rattle.sizes.proofs.Heights.{leaf-height}

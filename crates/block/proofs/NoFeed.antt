@@ -1,32 +1,19 @@
--- No line of a block holds a 0A, so that the lines joined by 0A are parted into the same lines again.
-use mathlib.Core.Path.{_≡_, refl, ap, _∙_}
+-- No line of a block holds a 0A.
 use mathlib.Core.Logic.{_≢_}
 use Prim.Native.Nat.{ℕ, zero, suc, _-_}
-use native.Mathlib.Omega.{arith}
 use mathlib.Core.Bool.{Bool, true, false, not}
-use mathlib.Core.List.{List, [], _∷_, _++_, map}
-use lib.ListN.{length, getD, replicate}
-use lib.Dec.{eqb}
-use borrow.Author.Tests.{ne-eqb, eqb-false}
+use mathlib.Core.List.{List}
+use lib.ListN.{length, getD}
 use Rattle.common.specs.Choice.{pick, both}
-use Rattle.settings.specs.declared.Settings.{Settings}
 use Rattle.splits.specs.Splits.{named, isNamed}
+use Rattle.settings.specs.declared.Settings.{Settings}
+use Rattle.text.specs.Text.{textWidth, textHeight}
+use Rattle.text.proofs.JoinedLines.{Free, NoFeed, free-append, free-replicate, free-spaces, more, no-feed-append, no-feed-lines, no-feed-map, no-feed-replicate, none}
 use Rattle.sizes.specs.declared.Size.{Size}
 use Rattle.sizes.specs.Sizes.{sep}
-use Rattle.sizes.specs.Text.{onto, lines, textWidth, textHeight}
 use Rattle.block.specs.declared.Flags.{Flags}
-use Rattle.block.specs.Content.{sideBySide, column, ruled, joinLines}
+use Rattle.block.specs.Content.{sideBySide, column, ruled}
 use Rattle.block.specs.Block.{Leaf, mark, topLeft, topRight, bottomLeft, edge, slackBefore, indent, textLine, body, topLine, middle, bottomLine, block}
-
--- no byte is 0A
-pub data Free : List ℕ → Type 0 where
-  none : Free []
-  more : {b : ℕ} {l : List ℕ} → b ≢ 10 → Free l → Free (b ∷ l)
-
--- no line holds a 0A
-pub data NoFeed : List (List ℕ) → Type 0 where
-  none : NoFeed []
-  more : {l : List ℕ} {x : List (List ℕ)} → Free l → NoFeed x → NoFeed (l ∷ x)
 
 -- no mark and no fill is 0A: they are hex 20 to 7E
 pub record NoFeedMarks (s : Settings) : Type 0 where
@@ -34,17 +21,6 @@ pub record NoFeedMarks (s : Settings) : Type 0 where
   pub fills : (i : ℕ) → getD (s .fills) i 0 ≢ 10
 
 -- ---- one line
-
-free-append : {l m : List ℕ} → Free l → Free m → Free (l ++ m)
-free-append none k = k
-free-append (more p h) k = more p (free-append h k)
-
-free-replicate : (n : ℕ) {b : ℕ} → b ≢ 10 → Free (replicate n b)
-free-replicate zero p = none
-free-replicate (suc n) p = more p (free-replicate n p)
-
-free-spaces : (n : ℕ) → Free (replicate n 32)
-free-spaces n = free-replicate n (λ e. omega arith)
 
 free-pick : (c : Bool) {a b : ℕ} → a ≢ 10 → b ≢ 10 → pick c a b ≢ 10
 free-pick true p q = p
@@ -62,33 +38,11 @@ unfolding column
 free-column n none = none
 free-column n (more p h) = more (free-replicate n p) (free-column n h)
 
-pub no-feed-append : {x y : List (List ℕ)} → NoFeed x → NoFeed y → NoFeed (x ++ y)
-no-feed-append none k = k
-no-feed-append (more p h) k = more p (no-feed-append h k)
-
 pub no-feed-paired : {x y : List (List ℕ)} → NoFeed x → NoFeed y → NoFeed (sideBySide x y)
 unfolding sideBySide
 no-feed-paired none k = k
 no-feed-paired (more p h) none = more p h
 no-feed-paired (more p h) (more q k) = more (free-append p q) (no-feed-paired h k)
-
-no-feed-replicate : (n : ℕ) {l : List ℕ} → Free l → NoFeed (replicate n l)
-no-feed-replicate zero p = none
-no-feed-replicate (suc n) p = more p (no-feed-replicate n p)
-
-no-feed-map : (f : List ℕ → List ℕ) → ((l : List ℕ) → Free l → Free (f l)) → {x : List (List ℕ)} → NoFeed x → NoFeed (map f x)
-no-feed-map f g none = none
-no-feed-map f g (more {l = l} p h) = more (g l p) (no-feed-map f g h)
-
-pub no-feed-lines : (t : List ℕ) → NoFeed (lines t)
-unfolding lines onto
-no-feed-lines [] = more none none
-no-feed-lines (b ∷ t) = go (eqb b 10) (no-feed-lines t) (eqb-false b 10)
-  where
-    go : (c : Bool) {ls : List (List ℕ)} → NoFeed ls → (c ≡ false → b ≢ 10) → NoFeed (pick c ([] ∷ ls) (onto b ls))
-    go true h k = more none h
-    go false none k = more (more (k refl) none) none
-    go false (more p h) k = more (more (k refl) p) h
 
 -- ---- the block
 
@@ -163,19 +117,3 @@ module _ (s : Settings) (p : NoFeedMarks s) where
       (no-feed-replicate (pick (l .flags .«last_row») (sep s) 0) (free-bottom l)))
 
 -- ---- parted at each 0A
-
-lines-free : {l : List ℕ} → Free l → lines l ≡ l ∷ []
-unfolding lines onto
-lines-free none = refl
-lines-free (more {b = b} p h) = rw (ne-eqb b 10 p, lines-free h)
-
-lines-next : {l : List ℕ} (t : List ℕ) → Free l → lines (l ++ (10 ∷ t)) ≡ l ∷ lines t
-unfolding lines onto
-lines-next t none = refl
-lines-next t (more {b = b} p h) = rw (ne-eqb b 10 p, lines-next t h)
-
--- lines without 0A, joined by it and parted at each
-pub lines-feeds : {l : List ℕ} {x : List (List ℕ)} → NoFeed (l ∷ x) → lines (joinLines (l ∷ x)) ≡ l ∷ x
-unfolding joinLines
-lines-feeds (more p none) = lines-free p
-lines-feeds {l} (more p (more {l = m} {x = x} q h)) = lines-next (joinLines (m ∷ x)) p ∙ ap (λ (y : List (List ℕ)). l ∷ y) (lines-feeds (more q h))

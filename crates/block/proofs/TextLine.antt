@@ -1,19 +1,19 @@
 -- A text line between its marks: its indent and its length.
 use mathlib.Core.Path.{_≡_, _∙_}
-use Prim.Native.Nat.{ℕ, _+_, _-_, _≤_, max}
+use Prim.Native.Nat.{ℕ, _+_, _-_, _≤_}
 use native.Mathlib.Nat.{le-refl}
 use native.Mathlib.Omega.{arith}
 use mathlib.Core.Bool.{Bool, true, false}
-use mathlib.Core.List.{List, [], _∷_, map}
+use mathlib.Core.List.{List, map}
 use lib.ListN.{length, length-append, length-replicate, length-map}
 use Rattle.common.specs.Choice.{pick}
+use Rattle.common.proofs.Every.{every-image, every-map}
 use Rattle.settings.specs.declared.Settings.{Settings}
 use Rattle.settings.specs.declared.Alignment.{Alignment}
-use Rattle.sizes.specs.Text.{lines, greatest, lineLengths, textWidth, textHeight}
+use Rattle.text.specs.Text.{lines, textWidth, textHeight}
+use Rattle.text.proofs.Measured.{lines-height, lines-width}
 use Rattle.block.specs.Block.{slackBefore, indent, textLine}
-use Rattle.common.specs.Every.{Every}
 use Rattle.block.proofs.Dimensions.{Dims}
-use Rattle.common.proofs.Every.{every-image, every-map}
 
 -- ---- the indent
 
@@ -40,23 +40,6 @@ module _ (s : Settings) (inner widest : ℕ) (l : List ℕ) (h : length l ≤ wi
   text-line-length = let f = indent-fits in simp (length-append, length-replicate) (omega arith)
 
 -- ---- all lines of a text
-
-longest : (ls : List (List ℕ)) → Every (λ l. length l ≤ greatest (map length ls)) ls
-unfolding greatest
-longest [] = tt
-longest (l ∷ ls) = (
-  omega arith,
-  every-map (λ m. length m ≤ greatest (map length ls)) (λ m. length m
-      ≤ max (length l) (greatest (map length ls))) (λ m h. omega arith) ls (longest ls),
-)
-
-pub lines-width : (t : List ℕ) → Every (λ l. length l ≤ textWidth t) (lines t)
-unfolding textWidth lineLengths
-lines-width t = longest (lines t)
-
-pub lines-height : (t : List ℕ) → length (lines t) ≡ textHeight t
-unfolding textHeight lineLengths
-lines-height t = rw (length-map (lines t) length)
 
 pub text-dims : (s : Settings) (t : List ℕ) (inner : ℕ) → textWidth t ≤ inner
     → Dims (map (textLine s inner (textWidth t)) (lines t)) (textHeight t) (s .left + inner + s .right)

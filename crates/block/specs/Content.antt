@@ -1,4 +1,4 @@
--- Contents: lines of bytes, side by side, one under another, and joined by 0A.
+-- Contents: lines of bytes, side by side and one under another.
 use Prim.Native.Nat.{ℕ, zero, suc}
 use mathlib.Core.List.{List, [], _∷_, _++_}
 use lib.ListN.{replicate}
@@ -21,9 +21,3 @@ unfoldable pub ruled : List ℕ → ℕ → ℕ → ℕ → ℕ → List ℕ
 unfolding isNamed
 ruled ns b c i zero = []
 ruled ns b c i (suc n) = pick (isNamed i ns) b c ∷ ruled ns b c (suc i) n
-
--- the lines joined by 0A, none at the end
-unfoldable pub joinLines : List (List ℕ) → List ℕ
-joinLines [] = []
-joinLines (l ∷ []) = l
-joinLines (l ∷ m ∷ ls) = l ++ (10 ∷ joinLines (m ∷ ls))

@@ -3,3 +3,4 @@ pub mod Either
 pub mod Elems
 pub mod Stores
 pub mod Every
+pub mod Sums

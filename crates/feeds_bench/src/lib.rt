@@ -116,6 +116,6 @@ pub extern "C" fn leg_measure_words(text: &[u8]) -> u64 {
     if 65536 <= text.len() {
         return 0;
     }
-    let z = sizes::measure::text_size(text);
+    let z = text::measure::text_size(text);
     answer(z.width, z.height)
 }

@@ -7,16 +7,16 @@ use lib.ListN.{length, drop}
 use lib.Dec.{ltb}
 use borrow.Author.Tests.{lt-ltb, le-ltb, le-leb, lt-leb}
 use Rattle.common.specs.Choice.{pick}
+use Rattle.common.specs.Sums.{greatest}
 use Rattle.settings.specs.declared.Settings.{Settings}
 use Rattle.sizes.specs.declared.Size.{Size}
-use Rattle.sizes.specs.Text.{greatest}
 use Rattle.fold.specs.declared.Tried.{Tried}
 use Rattle.fold.specs.declared.run.Run.{Run}
 use Rattle.fold.specs.Fold.{columns, fitting, tallest, try, tryDown, find, missed}
 use Rattle.fold.specs.Answers.{noFolds, counts, finds}
 use Rattle.fold.specs.Contracts.{Cells, Runs, ColumnsRoom, Range, Narrow}
-use Rattle.fold.proofs.Columns.{tallest-low}
 use Rattle.fold.specs.Promises.{Least}
+use Rattle.fold.proofs.Columns.{tallest-low}
 use Rattle.fold.proofs.Least.{fold-least}
 
 -- ---- one try

@@ -6,12 +6,12 @@ use mathlib.Core.List.{List, [], _∷_, _++_, append-nil}
 use lib.ListN.{length, set, take, length-append}
 use lib.Seq.{take-at}
 use Rattle.settings.specs.declared.Settings.{Settings}
+use Rattle.text.specs.Text.{joinLines}
 use Rattle.sizes.specs.declared.Size.{Size}
 use Rattle.sizes.specs.Sizes.{leafSize}
 use Rattle.sizes.specs.Contracts.{SmallSize, Fits}
 use Rattle.sizes.specs.Listed.{allottedAt}
 use Rattle.block.specs.declared.Flags.{Flags}
-use Rattle.block.specs.Content.{joinLines}
 use Rattle.block.specs.Block.{block, blockHeight, blockWidth}
 use Rattle.paint.specs.Contracts.{Room, fed}
 use Rattle.paint.proofs.Room.{room-feeds}

@@ -12,9 +12,9 @@ use Rattle.common.specs.Choice.{pick}
 use Rattle.settings.specs.declared.Settings.{Settings}
 use Rattle.tree.specs.Tree.{Tree, cell, group, Trees, more, nodes}
 use Rattle.tree.proofs.Fronts.{nodes-low, LeafIs, a-cell, an-empty, leaf-nodes}
+use Rattle.text.specs.Text.{joinLines}
 use Rattle.sizes.specs.Input.{Input, refused, given, inputOf}
 use Rattle.sizes.proofs.MeasuredInput.{input-refusal}
-use Rattle.block.specs.Content.{joinLines}
 use Rattle.block.specs.Block.{block}
 use Rattle.layout.specs.Walk.{Placed, leafOf, leaves}
 use Rattle.layout.proofs.Named.{leaf-node, node-leaf}

@@ -18,7 +18,7 @@ ghost use mathlib.Core.Path.{_≡_};
 ghost use Prim.Native.Nat.{_≤_};
 ghost use lib.ListN.{length};
 ghost use Rattle.sizes.specs.Input.{inputOf};
-ghost use Rattle.block.specs.Content.{joinLines};
+ghost use Rattle.text.specs.Text.{joinLines};
 ghost use Rattle.block.specs.Block as blocks;
 ghost use Rattle.layout.specs.Walk.{leafOf};
 ghost use Rattle.frame.specs.Printer.{printTo};

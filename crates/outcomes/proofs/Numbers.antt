@@ -11,6 +11,13 @@ use mathlib.Core.List.{List, [], _∷_, _++_, map}
 use lib.ListN.{length, drop}
 use lib.Dec.{ltb, leb, eqb}
 use Rattle.common.specs.Choice.{pick, both}
+use Rattle.common.specs.Sums.{greatest}
+use Rattle.splits.specs.declared.SplitList.{SplitList}
+use Rattle.splits.specs.declared.CutParts.{CutParts}
+use Rattle.splits.specs.declared.ShortParts.{ShortParts}
+use Rattle.splits.specs.Splits.{shortSplits3, shortSplits}
+use Rattle.splits.specs.Lists.{listOf}
+use Rattle.splits.specs.Cuts.{cutAnswered, refusedCut, cutOf, inPlaceCut, answeredShort, refusedShort, shortOf}
 use Rattle.settings.specs.declared.Settings.{Settings}
 use Rattle.settings.specs.declared.Priority.{Priority}
 use Rattle.settings.specs.Reading.{Parsed, readSettings, parsedAnswer as settingsGiven}
@@ -18,29 +25,33 @@ use Rattle.tree.specs.Tree.{Tree, nodes}
 use Rattle.tree.specs.Reading.{ReadOne, readTree, treeAnswer}
 use Rattle.tree.specs.Accepted.{bytesOf, element}
 use Rattle.tree.specs.Planning.{PlanOne, readPlan}
+use Rattle.tree.specs.Promises.{PlanRefusal}
 use Rattle.tree.proofs.Sound.{tree-refusal}
 use Rattle.tree.proofs.PlanSound.{plan-refusal}
-use Rattle.tree.specs.Promises.{PlanRefusal}
-use Rattle.splits.specs.declared.SplitList.{SplitList}
-use Rattle.splits.specs.declared.CutParts.{CutParts}
-use Rattle.splits.specs.declared.ShortParts.{ShortParts}
-use Rattle.splits.specs.Splits.{shortSplits3, shortSplits}
-use Rattle.splits.specs.Lists.{listOf}
-use Rattle.splits.specs.Cuts.{cutAnswered, refusedCut, cutOf, inPlaceCut, answeredShort, refusedShort, shortOf}
-use Rattle.sizes.specs.Text.{greatest}
+use Rattle.text.specs.Text.{joinLines}
 use Rattle.sizes.specs.declared.sharing.Shared.{Shared}
 use Rattle.sizes.specs.Sizes.{naturals, share}
 use Rattle.sizes.specs.Collecting.{sizeWidth}
 use Rattle.sizes.specs.Sharing.{shareOf}
 use Rattle.sizes.specs.Input.{Input, refused, given, inputOf}
 use Rattle.sizes.proofs.MeasuredInput.{input-refusal}
+use Rattle.drafts.specs.Store.{isName, tagFor, hasTag, fieldsOf, fieldBytes, storeOf, withoutTag, draftOf, StoreAnswer, DraftOut, saveTree, saveIn, saveOf, forgetIn, forgetOf, noReturn, returnFound, returnIn, returnOf}
+use Rattle.block.specs.Block.{block}
+use Rattle.fold.specs.Fold.{columns, find, missed}
+use Rattle.fold.specs.Answers.{listedTrees, list?, Folds, noFolds, counts, finds, foldCells, foldOf}
 use Rattle.collector.specs.declared.SizeRecord.{SizeRecord}
 use Rattle.collector.specs.Records.{recordsOf, Outcome, noCollected, collectOf}
-use Rattle.block.specs.Content.{joinLines}
-use Rattle.block.specs.Block.{block}
+use Rattle.blank.specs.Blank.{blanked, dotsFor, oneOf, allCells, cellFlags, Blanks, noBlank, blankTo, blankIn, blankOf}
+use Rattle.typed.specs.Typed.{typedOf}
+use Rattle.typed.proofs.Answered.{typed-cases}
+use Rattle.typed.proofs.Faults.{fault-at}
 use Rattle.layout.specs.Walk.{Placed, leafOf, leaves, insideW, insideH}
 use Rattle.frame.specs.Frame.{W, H, tooLarge}
 use Rattle.frame.specs.Printer.{Prints, noPrint, printTo}
+use Rattle.widen.specs.Widening.{treeNeeds, nearestList}
+use Rattle.widen.specs.Listing.{nodesOf, lettersOf}
+use Rattle.widen.specs.Answers.{Nearests, noNearest, nearestOf}
+use Rattle.plan.specs.Answers.{planSettingsInput, planInput, plannedOf}
 use Rattle.leaf.specs.declared.LeafRecord.{LeafRecord}
 use Rattle.leaf.specs.Answers.{leafNumbered, noLeafRecord, recordFound, leafRecordOf, printFound, leafPrintOf}
 use Rattle.sheet.specs.Sheet.{sheet}
@@ -50,17 +61,6 @@ use Rattle.places.specs.declared.area.Area.{Area}
 use Rattle.places.specs.Words.{lineOf, columnOf}
 use Rattle.places.specs.Places.{among, ownerOf, areas, faultOf, noLeafPlace, leafPlaceFound, leafPlaceIn, leafPlaceOf}
 use Rattle.places.specs.Together.{located, wordOf, firstFault, Finds, noFinds, findsTo, findsIn, findsOf}
-use Rattle.fold.specs.Fold.{columns, find, missed}
-use Rattle.fold.specs.Answers.{listedTrees, list?, Folds, noFolds, counts, finds, foldCells, foldOf}
-use Rattle.plan.specs.Answers.{planSettingsInput, planInput, plannedOf}
-use Rattle.widen.specs.Widening.{treeNeeds, nearestList}
-use Rattle.widen.specs.Listing.{nodesOf, lettersOf}
-use Rattle.widen.specs.Answers.{Nearests, noNearest, nearestOf}
-use Rattle.drafts.specs.Store.{isName, tagFor, hasTag, fieldsOf, fieldBytes, storeOf, withoutTag, draftOf, StoreAnswer, DraftOut, saveTree, saveIn, saveOf, forgetIn, forgetOf, noReturn, returnFound, returnIn, returnOf}
-use Rattle.blank.specs.Blank.{blanked, dotsFor, oneOf, allCells, cellFlags, Blanks, noBlank, blankTo, blankIn, blankOf}
-use Rattle.typed.specs.Typed.{typedOf}
-use Rattle.typed.proofs.Answered.{typed-cases}
-use Rattle.typed.proofs.Faults.{fault-at}
 use Rattle.outcomes.specs.Promises.{Among, inputIn, ofSettings, ofTree, ofCut, ofShare, ofSizes, ofRecord, ofLeaf, ofSheet, ofPlace, ofPlaces, ofFold, ofPlan, ofSave, ofForget, ofReturn, ofBlank, ofTyped, CallNumbers}
 use Rattle.outcomes.specs.Figures.{settings-met, tree-met, cut-met, kept-met, short-met, share-met, collect-met, record-met, leaf-met, sheet-met, place-met, places-met, fold-met, plan-met, nearest-met, save-met, forget-met, return-met, blank-met}
 use Rattle.outcomes.specs.TypedFigures.{typed-met}

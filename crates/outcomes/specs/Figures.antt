@@ -7,33 +7,33 @@ use mathlib.Core.List.{List, [], _∷_, _++_, map}
 use lib.ListN.{replicate}
 use lib.Dec.{ltb}
 use Rattle.common.specs.Choice.{pick}
+use Rattle.common.specs.Sums.{greatest}
+use Rattle.splits.specs.declared.SplitList.{SplitList}
+use Rattle.splits.specs.Figures.{allTrue}
+use Rattle.splits.specs.Lists.{splitList}
+use Rattle.splits.specs.Cuts.{cutOf, inPlaceCut, shortOf}
 use Rattle.settings.specs.declared.Priority.{Priority}
 use Rattle.settings.specs.Reading.{readSettings}
 use Rattle.tree.specs.Tree.{nodes, count}
 use Rattle.tree.specs.Reading.{readTree, readElement, headerOf, isText}
 use Rattle.tree.specs.Planning.{wholeIn, elementIn, headerIn}
-use Rattle.splits.specs.declared.SplitList.{SplitList}
-use Rattle.splits.specs.Figures.{allTrue}
-use Rattle.splits.specs.Lists.{splitList}
-use Rattle.splits.specs.Cuts.{cutOf, inPlaceCut, shortOf}
-use Rattle.sizes.specs.Text.{greatest}
 use Rattle.sizes.specs.Sizes.{sep, naturals, treeSizes}
 use Rattle.sizes.specs.Input.{inputOf}
+use Rattle.drafts.specs.Store.{saveOf, forgetOf, returnOf}
+use Rattle.fold.specs.Fold.{folded, columns}
+use Rattle.fold.specs.Answers.{cells?, list?, foldCells, foldOf}
+use Rattle.fold.specs.Answers as fold
 use Rattle.collector.specs.declared.SizeRecord.{SizeRecord}
 use Rattle.collector.specs.Below.{belows}
 use Rattle.collector.specs.Records.{zipped, collectOf}
+use Rattle.blank.specs.Blank.{blankOf}
+use Rattle.widen.specs.Widening.{needs, treeNeeds, ofNumber, nearestFrom, nearestList}
+use Rattle.widen.specs.Answers.{nearestOf}
+use Rattle.plan.specs.Answers.{planInput}
 use Rattle.leaf.specs.Answers.{leafRecordOf, leafPrintOf}
 use Rattle.sheet.specs.Answers.{sheetOf}
 use Rattle.places.specs.Places.{leafPlaceOf}
 use Rattle.places.specs.Together.{findsOf}
-use Rattle.fold.specs.Fold.{folded, columns}
-use Rattle.fold.specs.Answers.{cells?, list?, foldCells, foldOf}
-use Rattle.fold.specs.Answers as fold
-use Rattle.plan.specs.Answers.{planInput}
-use Rattle.widen.specs.Widening.{needs, treeNeeds, ofNumber, nearestFrom, nearestList}
-use Rattle.widen.specs.Answers.{nearestOf}
-use Rattle.drafts.specs.Store.{saveOf, forgetOf, returnOf}
-use Rattle.blank.specs.Blank.{blankOf}
 use Rattle.c_encoding.specs.Numbers.{refusal, written, readGiven, sizeNumbers, sizesGiven, recordGiven}
 use Rattle.c_encoding.specs.Cuts.{refusedBy, splits3Given, refusalTwo, writtenTwo, keptGiven, lentGiven, shortGiven, splitsGiven}
 use Rattle.c_encoding.specs.Places.{placeGiven}

@@ -4,7 +4,7 @@ use Prim.Native.Nat.{ℕ, zero, suc, _*_}
 use mathlib.Core.List.{List, [], _∷_, _++_}
 use lib.ListN.{replicate}
 use Rattle.tree.specs.Accepted.{bytesOf}
-use Rattle.sizes.specs.Text.{lines, onto}
+use Rattle.text.specs.Text.{lines, onto}
 use Rattle.typed.specs.Text.{byteOf, textFrom}
 use Rattle.typed.specs.Line.{withoutReturn, spaces, sameBytes, plainLine, oneLineOf}
 use Rattle.typed.specs.Scan.{placeFault, scanFrom}

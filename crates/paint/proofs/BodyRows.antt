@@ -5,14 +5,14 @@ use native.Mathlib.Omega.{arith}
 use mathlib.Core.List.{List, _++_, map, append-assoc}
 use lib.ListN.{getD, replicate}
 use Rattle.settings.specs.declared.Settings.{Settings}
+use Rattle.text.specs.Text.{lines, textWidth, textHeight}
 use Rattle.sizes.specs.declared.Size.{Size}
-use Rattle.sizes.specs.Text.{lines, textWidth, textHeight}
 use Rattle.sizes.specs.Sizes.{leafSize}
 use Rattle.sizes.specs.Contracts.{Fits}
-use Rattle.paint.specs.declared.body.BodyRows.{BodyRows}
 use Rattle.block.specs.Block.{textLine, body}
-use Rattle.paint.specs.Contracts.{Room, bodyRowsOf}
 use Rattle.block.proofs.TextLine.{before-le}
+use Rattle.paint.specs.declared.body.BodyRows.{BodyRows}
+use Rattle.paint.specs.Contracts.{Room, bodyRowsOf}
 use Rattle.paint.proofs.Room.{room-first, room-then}
 
 pub natural-wide : (s : Settings) (t : List ℕ) (n : Size) → n ≡ leafSize s t → s .left + s .right ≤ n .width

@@ -5,13 +5,13 @@ use native.Mathlib.Omega.{arith}
 use mathlib.Core.List.{List, [], _∷_, _++_, append-assoc}
 use lib.ListN.{length, getD, take, drop, replicate, length-append, length-drop, take-append-drop, List·getD-append}
 use lib.Seq.{sets, sets-eq, take-at, drop-at, drop-drop, length-take-le, getD-append-add}
-use Rattle.block.specs.Content.{joinLines}
 use Rattle.paint.specs.Contracts.{pasted, fed}
 use Rattle.common.proofs.Stores.{sets-append, sets-sets}
 use Rattle.paint.proofs.Pasted.{sets-pasted}
 use Rattle.common.specs.Every.{Every}
-use Rattle.block.proofs.Dimensions.{Dims}
+use Rattle.text.specs.Text.{joinLines}
 use Rattle.block.specs.Promises.{byteAt}
+use Rattle.block.proofs.Dimensions.{Dims}
 
 -- ---- their length and their places
 

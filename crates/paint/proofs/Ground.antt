@@ -5,20 +5,20 @@ use native.Mathlib.Omega.{arith}
 use mathlib.Core.List.{List, [], _∷_, _++_, map, append-assoc}
 use lib.ListN.{length, drop, getD, replicate, length-append, length-replicate, replicate-append-replicate}
 use lib.Seq.{sets, length-sets}
-use Rattle.settings.specs.declared.Settings.{Settings}
-use Rattle.sizes.specs.declared.Size.{Size}
-use Rattle.text.specs.Contracts.{firstFeed}
-use Rattle.sizes.specs.Text.{lines, textHeight}
 use Rattle.common.proofs.Either.{either}
-use Rattle.sizes.proofs.Lines.{linesFrom, rest-none, rest-next, line-in}
-use Rattle.paint.specs.declared.body.BodyRows.{BodyRows}
-use Rattle.block.specs.Block.{indent, textLine, body}
-use Rattle.paint.specs.Contracts.{pasted, Room, spaceLines, clear, ground, groundLines, Blank, Turned, LaidOver}
-use Rattle.block.proofs.Dimensions.{Dims, paired-same, dims-append, dims-lines, dims-replicate}
 use Rattle.common.proofs.Stores.{sets-within}
+use Rattle.settings.specs.declared.Settings.{Settings}
+use Rattle.text.specs.Contracts.{firstFeed}
+use Rattle.text.specs.Text.{lines, textHeight}
+use Rattle.text.proofs.Lines.{linesFrom, rest-none, rest-next, line-in}
+use Rattle.text.proofs.Measured.{lines-height}
+use Rattle.sizes.specs.declared.Size.{Size}
+use Rattle.block.specs.Block.{indent, textLine, body}
+use Rattle.block.proofs.Dimensions.{Dims, paired-same, dims-append, dims-lines, dims-replicate}
+use Rattle.paint.specs.declared.body.BodyRows.{BodyRows}
+use Rattle.paint.specs.Contracts.{pasted, Room, spaceLines, clear, ground, groundLines, Blank, Turned, LaidOver}
 use Rattle.paint.proofs.Pasted.{pasted-append, sets-pasted, pasted-beside, pasted-over}
 use Rattle.paint.proofs.Room.{room-head, room-next, room-tail}
-use Rattle.block.proofs.TextLine.{lines-height}
 use Rattle.paint.proofs.BodyRows.{BodyFits}
 
 -- ---- the ground

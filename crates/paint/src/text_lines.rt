@@ -6,7 +6,7 @@ ghost use lib.ListN.{length, drop};
 ghost use lib.Seq.{sets};
 ghost use Rattle.common.specs.Choice.{pick};
 ghost use Rattle.text.specs.Contracts.{firstFeed};
-ghost use Rattle.sizes.specs.Text.{lines, textWidth, textHeight};
+ghost use Rattle.text.specs.Text.{lines, textWidth, textHeight};
 ghost use Rattle.block.specs.Block.{slackBefore, indent, textLine};
 ghost use Rattle.paint.specs.Contracts.{Room, clear, LaidOver};
 use crate::bytes;

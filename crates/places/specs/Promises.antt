@@ -8,8 +8,8 @@ use lib.ListN.{length, getD, drop}
 use Rattle.common.specs.Every.{Every}
 use Rattle.settings.specs.declared.Settings.{Settings}
 use Rattle.tree.specs.Tree.{Tree, nodes}
+use Rattle.text.specs.Text.{lines}
 use Rattle.sizes.specs.Input.{given, inputOf, Input}
-use Rattle.sizes.specs.Text.{lines}
 use Rattle.layout.specs.Walk.{insideW, insideH, Placed}
 use Rattle.layout.specs.Promises.{heightAt, widthAt, LeafAt}
 use Rattle.frame.specs.Frame.{W, H, tooLarge}

@@ -5,12 +5,12 @@ use native.Mathlib.Omega.{arith}
 use mathlib.Core.Bool.{true, false}
 use mathlib.Core.List.{List, [], _∷_, map}
 use lib.ListN.{length}
+use Rattle.common.specs.Sums.{total, greatest}
 use Rattle.settings.specs.declared.Settings.{Settings}
 use Rattle.tree.specs.Tree as tree
 use Rattle.tree.specs.Tree.{Axis, across, down, Tree, Trees}
 use Rattle.tree.specs.Planning.{Plan, Plans}
 use Rattle.sizes.specs.declared.Size.{Size}
-use Rattle.sizes.specs.Text.{total, greatest}
 use Rattle.sizes.specs.Sizes.{sep, along, beside, sized, spanned, leafSize, natural, naturals}
 use Rattle.sizes.specs.Contracts.{Fits}
 use Rattle.sizes.proofs.Fill.{fits-refl}

@@ -7,6 +7,7 @@ use mathlib.Core.List.{List, [], _∷_, map}
 use lib.ListN.{length, getD, take, drop, length-drop}
 use lib.Seq.{getD-drop}
 use Rattle.common.specs.Choice.{pick}
+use Rattle.common.specs.Sums.{total}
 use Rattle.settings.specs.declared.Settings.{Settings}
 use Rattle.settings.specs.Promises.{Ranges}
 use Rattle.tree.specs.Tree.{Axis, across, down}
@@ -14,7 +15,6 @@ use Rattle.tree.specs.Bytes.{lengthAt}
 use Rattle.tree.specs.Promises.{contents, PlanEncodes, PlanEncodesAll, GotPlan}
 use Rattle.tree.specs.Planning.{Plan, Plans}
 use Rattle.tree.proofs.PlanSound.{plan-whole}
-use Rattle.sizes.specs.Text.{total}
 use Rattle.sizes.specs.Sizes.{along, sep}
 use Rattle.sizes.proofs.Bounds.{each, leaf-le, sep-le, span-le}
 use Rattle.sizes.proofs.Limits.{contents-le, each-small}

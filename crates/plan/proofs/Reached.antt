@@ -6,13 +6,14 @@ use mathlib.Core.Bool.{Bool, true, false}
 use mathlib.Core.List.{List, [], _∷_, _++_, map}
 use lib.ListN.{length, replicate, length-replicate}
 use Rattle.common.specs.Choice.{pick}
+use Rattle.common.specs.Sums.{greatest}
 use Rattle.settings.specs.declared.Settings.{Settings}
 use Rattle.tree.specs.Tree as tree
 use Rattle.tree.specs.Tree.{Tree, Trees}
 use Rattle.tree.specs.Reading.{isText}
 use Rattle.tree.specs.Promises.{Texts, Texts*, GoodRange, Allowed, Allowed*}
 use Rattle.tree.specs.Planning.{Plan, Plans}
-use Rattle.sizes.specs.Text.{onto, lines, greatest, lineLengths, textWidth, textHeight}
+use Rattle.text.specs.Text.{onto, lines, lineLengths, textWidth, textHeight}
 use Rattle.sizes.specs.Sizes.{leafSize, natural, naturals}
 use Rattle.plan.specs.Promises.{WithinRange, Chooses, Chooses*}
 use Rattle.plan.specs.Ends.{noPlans?, rangeSize, endSize, endSizes}

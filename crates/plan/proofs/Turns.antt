@@ -5,17 +5,17 @@ use native.Mathlib.Omega.{arith}
 use mathlib.Core.Bool.{Bool, true, false}
 use mathlib.Core.List.{List, map}
 use lib.ListN.{length, take, drop, getD, length-drop}
+use Rattle.common.specs.Sums.{total, greatest}
 use Rattle.settings.specs.declared.Settings.{Settings}
+use Rattle.tree.specs.declared.front.Front.{Front}
 use Rattle.tree.specs.Tree.{Axis, across, down}
 use Rattle.tree.specs.Bytes.{lengthAt, axisOf}
 use Rattle.tree.specs.Contracts.{frontOf}
-use Rattle.tree.specs.declared.front.Front.{Front}
 use Rattle.tree.specs.Planning.{Plan, Plans}
 use Rattle.tree.specs.Promises.{PlanEncodes, PlanEncodesAll}
 use Rattle.tree.proofs.PlanSound.{plan-whole}
 use Rattle.sizes.specs.declared.Size.{Size}
 use Rattle.sizes.specs.declared.natural.Span.{Span}
-use Rattle.sizes.specs.Text.{total, greatest}
 use Rattle.sizes.specs.Sizes.{along, beside, sized, sep, spanned, leafSize}
 use Rattle.sizes.specs.Contracts.{withChild, spanOf, WideChild, WideSpan}
 use Rattle.sizes.proofs.Fill.{along-sized, beside-sized}

@@ -8,7 +8,7 @@ use Rattle.settings.specs.Reading.{Parsed, readSettings}
 use Rattle.tree.specs.Tree.{Tree, Trees}
 use Rattle.tree.specs.Promises.{Texts, GotPlan}
 use Rattle.tree.specs.Planning.{Plan, Plans}
-use Rattle.sizes.specs.Text.{textWidth, textHeight}
+use Rattle.text.specs.Text.{textWidth, textHeight}
 use Rattle.frame.specs.Frame.{W, H}
 use Rattle.plan.specs.declared.Planned.{Planned}
 use Rattle.plan.specs.Answers.{PlanInput, planInput}

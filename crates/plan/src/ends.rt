@@ -2,10 +2,10 @@
 use settings::Settings;
 use sizes::Size;
 use sizes::axis::separator;
-use sizes::measure::text_size;
 use sizes::natural::Span;
 use sizes::natural::span_size;
 use sizes::natural::with_child;
+use text::measure::text_size;
 ghost use mathlib.Core.Path.{_≡_};
 ghost use Prim.Native.Nat.{_+_, _<_};
 ghost use lib.ListN.{length};

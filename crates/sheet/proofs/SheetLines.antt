@@ -7,16 +7,16 @@ use mathlib.Core.Bool.{Bool, true, false}
 use mathlib.Core.List.{List, [], _∷_, _++_, map}
 use lib.ListN.{length, getD, replicate, List·getD-eq-default}
 use Rattle.common.specs.Choice.{pick}
+use Rattle.common.proofs.Either.{either}
 use Rattle.settings.specs.declared.Settings.{Settings}
 use Rattle.settings.specs.declared.Margin.{Margin}
 use Rattle.settings.specs.Promises.{Bounded, Printable, Ranges}
 use Rattle.tree.specs.Tree.{Tree}
-use Rattle.sizes.specs.Text.{lines}
-use Rattle.common.proofs.Either.{either}
+use Rattle.text.specs.Text.{lines, joinLines}
+use Rattle.text.proofs.JoinedLines.{Free, NoFeed, no-feed-append, lines-feeds}
 use Rattle.sizes.proofs.Heights.{natural-height}
-use Rattle.block.specs.Content.{joinLines}
 use Rattle.block.specs.Block.{block}
-use Rattle.block.proofs.NoFeed.{NoFeedMarks, Free, NoFeed, no-feed-append, no-feed-paired, block-no-feed, lines-feeds}
+use Rattle.block.proofs.NoFeed.{NoFeedMarks, no-feed-paired, block-no-feed}
 use Rattle.layout.specs.Walk.{Placed, leafOf, walk, root, insideW, insideH}
 use Rattle.layout.proofs.Laid.{Laid, one, side, under, root-laid}
 use Rattle.sheet.specs.Sheet.{between, margined, sheetLines, sheet}

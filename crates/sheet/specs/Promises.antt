@@ -9,9 +9,8 @@ use Rattle.common.specs.Choice.{pick}
 use Rattle.settings.specs.declared.Settings.{Settings}
 use Rattle.settings.specs.declared.Margin.{Margin}
 use Rattle.tree.specs.Tree.{Tree}
+use Rattle.text.specs.Text.{lines, joinLines}
 use Rattle.sizes.specs.Input.{given, inputOf}
-use Rattle.sizes.specs.Text.{lines}
-use Rattle.block.specs.Content.{joinLines}
 use Rattle.block.specs.Promises.{byteAt}
 use Rattle.layout.specs.Walk.{walk, root, insideW, insideH}
 use Rattle.frame.specs.Frame.{tooLarge}

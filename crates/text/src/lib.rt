@@ -1,5 +1,6 @@
 // The line feeds of a text counted, and its longest line measured, in one pass from its beginning: eight bytes as one 64-bit word where eight
 // remain, the tail byte by byte.
+pub mod measure;
 mod seen;
 mod words;
 

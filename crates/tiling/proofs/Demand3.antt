@@ -11,23 +11,29 @@ use lib.Seq.{take-append-seam}
 use lib.Dec.{ltb}
 use borrow.Author.Tests.{ltb-false, le-ltb}
 use Rattle.common.specs.Choice.{pick}
+use Rattle.common.specs.Sums.{total}
+use Rattle.common.proofs.Elems.{elem-none, elem-in}
+use Rattle.common.proofs.Every.{every-elem}
+use Rattle.splits.specs.Lists.{listOf, splitList}
 use Rattle.settings.specs.declared.Settings.{Settings}
 use Rattle.settings.specs.Promises.{Ranges}
 use Rattle.tree.specs.Tree.{Axis, across, down, Tree, group, Trees, more, count, nodes}
 use Rattle.tree.specs.Promises.{subtrees, childNodes}
 use Rattle.tree.proofs.Fronts.{nodes-low, LeafIs, a-cell, an-empty, leaf-nodes}
-use Rattle.splits.specs.Lists.{listOf, splitList}
+use Rattle.text.specs.Text.{lines, joinLines}
 use Rattle.sizes.specs.declared.Size.{Size}
-use Rattle.sizes.specs.Text.{lines, total}
 use Rattle.sizes.specs.Sizes.{sep, beside, natural, Sizes, treeSizes}
 use Rattle.sizes.specs.Input.{given, inputOf}
-use Rattle.common.proofs.Elems.{elem-none, elem-in}
+use Rattle.sizes.specs.Promises.{sizesAt}
 use Rattle.sizes.proofs.Heights.{leaf-height}
 use Rattle.sizes.proofs.Nodes.{subtrees-length, sizes-at, part-whole, part-own, tree-naturals}
-use Rattle.sizes.specs.Promises.{sizesAt}
 use Rattle.sizes.proofs.Within.{tree-sizes-length}
 use Rattle.sizes.proofs.Listed.{groups-filled, row-filled, column-filled}
 use Rattle.sizes.proofs.MeasuredInput.{takes}
+use Rattle.block.specs.declared.Flags.{Flags}
+use Rattle.block.specs.Block.{block, blockHeight, blockWidth}
+use Rattle.block.specs.Promises.{byteAt}
+use Rattle.block.proofs.Dimensions.{Dims}
 use Rattle.collector.specs.declared.SizeRecord.{SizeRecord}
 use Rattle.collector.specs.Below.{belows}
 use Rattle.collector.specs.Records.{Outcome, collectOf}
@@ -35,12 +41,6 @@ use Rattle.collector.specs.Promises.{noSizeRecord, sizesOf, belowIn, SizesColle
 use Rattle.collector.proofs.Zipped.{noSizes}
 use Rattle.collector.proofs.Siblings.{below-at}
 use Rattle.collector.proofs.Written.{collected}
-use Rattle.block.specs.declared.Flags.{Flags}
-use Rattle.block.specs.Content.{joinLines}
-use Rattle.block.specs.Block.{block, blockHeight, blockWidth}
-use Rattle.block.proofs.Dimensions.{Dims}
-use Rattle.common.proofs.Every.{every-elem}
-use Rattle.block.specs.Promises.{byteAt}
 use Rattle.layout.specs.Walk.{Placed, leafOf, leaves, insideW, insideH}
 use Rattle.layout.specs.Contracts.{placeOf}
 use Rattle.layout.specs.Promises.{Place, startAt, heightAt, widthAt, LeafAt, allottedIn}
@@ -59,12 +59,12 @@ use Rattle.leaf.proofs.Numbers.{childless}
 use Rattle.leaf.proofs.LeafNumbers.{leaf-found, found-leaf}
 use Rattle.sheet.specs.Answers.{sheetOf}
 use Rattle.sheet.specs.Sheet.{sheet}
+use Rattle.sheet.specs.Promises.{SheetOf}
 use Rattle.sheet.proofs.SheetLines.{block-parted}
 use Rattle.sheet.proofs.Bytes.{leaf-dims}
 use Rattle.sheet.proofs.Tiling.{Covers}
 use Rattle.sheet.proofs.Demand3.{covered-once, sheet-rectangle, place-owned}
 use Rattle.sheet.proofs.Calls.{sheet-printed, leaf-written}
-use Rattle.sheet.specs.Promises.{SheetOf}
 use Rattle.tiling.specs.Promises.{sizesWritten, allottedWritten, linesIn, byteIn, Rectangle, OneNode, leafText, startIn, blockLines, blockColumns, BlockCovers, leafSeen, insideLines, insideColumns, InRectangle, Tiles, Sharing, Tiled, SharedOut}
 
 -- ---- entries of lists

@@ -10,18 +10,19 @@ use mathlib.Core.List.{List, [], map}
 use lib.ListN.{length, getD, getElem?, take}
 use Rattle.common.specs.Choice.{pick}
 use Rattle.common.specs.Every.{Every}
+use Rattle.common.specs.Sums.{total}
+use Rattle.splits.specs.Lists.{listOf}
 use Rattle.settings.specs.declared.Settings.{Settings}
 use Rattle.tree.specs.Tree.{Axis, across, down, Tree, cell, group, Trees, count, nodes}
 use Rattle.tree.specs.Promises.{subtrees, childNodes}
-use Rattle.splits.specs.Lists.{listOf}
+use Rattle.text.specs.Text.{lines}
 use Rattle.sizes.specs.declared.Size.{Size}
-use Rattle.sizes.specs.Text.{lines, total}
 use Rattle.sizes.specs.Sizes.{sep, natural}
 use Rattle.sizes.specs.Input.{given, inputOf}
+use Rattle.block.specs.Block.{Leaf, block}
 use Rattle.collector.specs.declared.SizeRecord.{SizeRecord}
 use Rattle.collector.specs.Records.{Outcome, collectOf}
 use Rattle.collector.specs.Promises.{noSizeRecord}
-use Rattle.block.specs.Block.{Leaf, block}
 use Rattle.layout.specs.Promises.{Place, origin, startAt}
 use Rattle.frame.specs.Promises.{byteCount}
 use Rattle.frame.specs.Printer.{Prints}

@@ -10,21 +10,21 @@ use lib.Dec.{eqb}
 use borrow.Author.Tests.{eqb-true, eqb-false}
 use Rattle.common.specs.Choice.{pick}
 use Rattle.common.specs.Every.{Every}
+use Rattle.common.proofs.Every.{every-front, every-back}
 use Rattle.tree.specs.Tree as tree
 use Rattle.tree.specs.Tree.{Axis, across, down, Tree, Trees, none, more, nodes, nodes*}
 use Rattle.tree.specs.Reading.{isText, one, readTree}
 use Rattle.tree.specs.Accepted.{bytesOf}
 use Rattle.tree.specs.Promises.{Texts, Texts*, depth, depth*}
 use Rattle.tree.proofs.Complete.{tree-bytes}
-use Rattle.sizes.specs.Text.{lines}
-use Rattle.common.proofs.Every.{every-front, every-back}
+use Rattle.text.specs.Text.{lines}
+use Rattle.typed.specs.declared.scan.ScanState.{ScanState}
 use Rattle.typed.specs.Text.{Text, wrong, text, typedText}
 use Rattle.typed.specs.Line.{Item, cell, group, ownText, OneLine, skip, fault, node, isRow, isColumn, levelOf, cellAt, plainLine, oneLineOf, withoutReturn, spaces}
 use Rattle.typed.specs.Scan.{TypedNode, stopped, found, placeFault, nextOf, scanFrom, noneYet, scanLines}
 use Rattle.typed.specs.Contracts.{totalOf, Chained}
 use Rattle.typed.specs.Typed.{parent, push, treesAt, rootOf}
 use Rattle.typed.specs.Promises.{typedNodes, typedNodes*}
-use Rattle.typed.specs.declared.scan.ScanState.{ScanState}
 use Rattle.typed.proofs.Texts.{FairIs, texts-fair}
 use Rattle.typed.proofs.Scanned.{scan-skip, scan-fault, scan-node, scan-refused}
 use Rattle.typed.proofs.Built.{Suits, suits, far-none, none-replicate, levels-17, Rooted, one-root-of, root-found, flat-is, flatOf-length}

@@ -6,7 +6,7 @@ use native.Mathlib.Nat.{zero-add}
 use mathlib.Core.List.{List, [], _∷_, _++_, map, append-assoc, append-nil}
 use lib.ListN.{length, getD, set, replicate, length-append}
 use Rattle.common.specs.Every.{Every}
-use Rattle.sizes.specs.Text.{total}
+use Rattle.common.specs.Sums.{total}
 use Rattle.common.proofs.Either.{either}
 use Rattle.tree.specs.Tree.{Tree, Trees, none, more}
 use Rattle.tree.specs.Accepted.{bytesOf, bytesOf*}

@@ -2,7 +2,7 @@
 use mathlib.Core.Path.{_≡_, refl}
 use mathlib.Core.List.{[], _∷_}
 use Rattle.tree.specs.Accepted.{bytesOf}
-use Rattle.sizes.specs.Text.{lines, onto}
+use Rattle.text.specs.Text.{lines, onto}
 use Rattle.typed.specs.Text.{byteOf, textFrom}
 use Rattle.typed.specs.Line.{withoutReturn, spaces, sameBytes, plainLine, oneLineOf}
 use Rattle.typed.specs.Scan.{placeFault, scanFrom}

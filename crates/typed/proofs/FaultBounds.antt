@@ -8,8 +8,9 @@ use lib.ListN.{length, getD, take, length-map, length-take}
 use lib.Dec.{ltb, eqb}
 use borrow.Author.Tests.{ltb-false}
 use Rattle.common.specs.Choice.{pick}
-use Rattle.sizes.specs.Text.{lines, greatest, lineLengths, textWidth, textHeight}
-use Rattle.sizes.proofs.Bounds.{width-le, height-le}
+use Rattle.common.specs.Sums.{greatest}
+use Rattle.text.specs.Text.{lines, lineLengths, textWidth, textHeight}
+use Rattle.text.proofs.Measured.{width-le, height-le}
 use Rattle.typed.specs.Line.{withoutReturn}
 use Rattle.typed.specs.Typed.{TypedOutcome, typedOf}
 use Rattle.typed.proofs.Answered.{typed-cases}

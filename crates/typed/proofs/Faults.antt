@@ -9,13 +9,12 @@ use lib.ListN.{length, getD}
 use lib.Dec.{eqb, ltb, leb}
 use borrow.Author.Tests.{eqb-true, eqb-false}
 use Rattle.common.specs.Choice.{pick, both}
-use Rattle.sizes.specs.Text.{lines}
-use Rattle.sizes.proofs.Heights.{text-height}
-use Rattle.block.proofs.TextLine.{lines-height}
+use Rattle.text.specs.Text.{lines}
+use Rattle.text.proofs.Measured.{text-height, lines-height}
+use Rattle.typed.specs.declared.scan.ScanState.{ScanState}
 use Rattle.typed.specs.Line.{Item, ownText, OneLine, skip, fault, node, withoutReturn, oneLineOf}
 use Rattle.typed.specs.Scan.{TypedNode, TypedScan, stopped, found, adding, placeFault, nextOf, scanFrom, noneYet, scanLines}
 use Rattle.typed.specs.Promises.{FaultAt}
-use Rattle.typed.specs.declared.scan.ScanState.{ScanState}
 use Rattle.typed.proofs.OneLine.{LineFaultAt, LineIn, line-in-bytes}
 use Rattle.typed.proofs.Scanned.{scan-skip, scan-fault, scan-node, scan-refused}
 

@@ -8,11 +8,11 @@ use lib.ListN.{length}
 use lib.Dec.{eqb}
 use borrow.Author.Tests.{eqb-true, eqb-false}
 use Rattle.common.specs.Choice.{pick}
-use Rattle.sizes.specs.Text.{lines}
+use Rattle.text.specs.Text.{lines}
+use Rattle.typed.specs.declared.scan.ScanState.{ScanState}
 use Rattle.typed.specs.Line.{Item, ownText, OneLine, skip, fault, node, oneLineOf}
 use Rattle.typed.specs.Scan.{TypedNode, TypedScan, stopped, found, adding, placeFault, nextOf, scanFrom, noneYet, scanLines}
 use Rattle.typed.specs.Contracts.{totalOf, Starts, Chained}
-use Rattle.typed.specs.declared.scan.ScanState.{ScanState}
 use Rattle.typed.proofs.Scanned.{scan-skip, scan-fault, scan-node, scan-refused, place-fits, NodeFits}
 use Rattle.typed.proofs.Built.{Deeper, Rooted}
 

@@ -12,24 +12,23 @@ use lib.Dec.{eqb, ltb}
 use borrow.Author.Tests.{eqb-true, ne-eqb, le-ltb, lt-leb, ltb-false}
 use Rattle.common.specs.Choice.{pick, both}
 use Rattle.common.specs.Every.{Every}
+use Rattle.common.proofs.Every.{every-append, every-replicate}
 use Rattle.tree.specs.Tree as tree
 use Rattle.tree.specs.Tree.{Axis, across, down, Tree, Trees, none, more, nodes, nodes*}
 use Rattle.tree.specs.Reading.{isText, isTextByte}
 use Rattle.tree.specs.Accepted.{bytesOf, bytesOf*}
 use Rattle.tree.specs.Promises.{Texts, Texts*, depth, depth*}
 use Rattle.tree.proofs.Fronts.{nodes-low}
-use Rattle.sizes.specs.Text.{lines}
-use Rattle.block.specs.Content.{joinLines}
-use Rattle.common.proofs.Every.{every-append, every-replicate}
-use Rattle.block.proofs.NoFeed.{Free, NoFeed, lines-feeds}
-use Rattle.typed.specs.Text.{byteOf, text, putting, laterText, textFrom, typedText}
+use Rattle.text.specs.Text.{lines, joinLines}
+use Rattle.text.proofs.JoinedLines.{Free, NoFeed, lines-feeds}
 use Rattle.typed.specs.declared.typed_text.Byte.the-variants.{Put}
+use Rattle.typed.specs.declared.scan.ScanState.{ScanState}
+use Rattle.typed.specs.Text.{byteOf, text, putting, laterText, textFrom, typedText}
 use Rattle.typed.specs.Line.{Item, axisWord, cell, group, ownText, node, spaces, sameBytes, levelOf, plainLine, plainOf, oneLineOf, withoutReturn}
 use Rattle.typed.specs.Scan.{TypedNode, TypedScan, found, adding, placeFault, nextOf, scanFrom, noneYet, scanLines}
 use Rattle.typed.specs.Contracts.{totalOf}
 use Rattle.typed.specs.Typed.{push, treesAt, firstOf, rootOf, typedRefusal, typedAccepted, outcomeOf, typedOf}
 use Rattle.typed.specs.Promises.{typedNodes, typedNodes*, escaped, typedBody, typedLine, typeOf}
-use Rattle.typed.specs.declared.scan.ScanState.{ScanState}
 use Rattle.typed.proofs.Texts.{text-put, text-escape}
 use Rattle.typed.proofs.Scanned.{scan-node, place-fits}
 use Rattle.typed.proofs.Built.{none-replicate}

@@ -10,17 +10,17 @@ use lib.Seq.{getD-set-same, getD-set-other, getD-append-seam, length-take-le}
 use lib.Dec.{eqb, ltb, leb}
 use borrow.Author.Tests.{eq-eqb, ne-eqb, ltb-false, leb-false}
 use Rattle.common.specs.Choice.{pick, both}
+use Rattle.common.proofs.Either.{either}
 use Rattle.tree.specs.Tree.{across, down}
 use Rattle.text.specs.Contracts.{firstFeed}
-use Rattle.sizes.proofs.Lines.{linesFrom, rest-none, rest-next, line-from, line-in}
-use Rattle.common.proofs.Either.{either}
-use Rattle.typed.specs.Line.{Item, cell, group, ownText, OneLine, skip, fault, node, oneLineOf}
-use Rattle.typed.specs.Contracts.{itemTag, TextAt, LineTold, lineFault, nextLine, spotFor, noSpot, noNode, SmallLine, Spotted, SpotsHeld, totalOf, ScanTold}
-use Rattle.typed.specs.Scan.{TypedNode, TypedScan, stopped, found, adding, placeFault, levelUnder, nextOf, scanFrom, noneYet, scanLines}
+use Rattle.text.proofs.Lines.{linesFrom, rest-none, rest-next, line-from, line-in}
 use Rattle.typed.specs.declared.line.Line.{Line}
 use Rattle.typed.specs.declared.scan.NodeSpot.{NodeSpot}
 use Rattle.typed.specs.declared.scan.ScanState.{ScanState}
 use Rattle.typed.specs.declared.scan.Scanned.{Scanned}
+use Rattle.typed.specs.Line.{Item, cell, group, ownText, OneLine, skip, fault, node, oneLineOf}
+use Rattle.typed.specs.Contracts.{itemTag, TextAt, LineTold, lineFault, nextLine, spotFor, noSpot, noNode, SmallLine, Spotted, SpotsHeld, totalOf, ScanTold}
+use Rattle.typed.specs.Scan.{TypedNode, TypedScan, stopped, found, adding, placeFault, levelUnder, nextOf, scanFrom, noneYet, scanLines}
 use Rattle.typed.proofs.Texts.{text-short}
 use Rattle.typed.proofs.OneLine.{text-in}
 

@@ -9,8 +9,7 @@ use Rattle.common.specs.Choice.{pick}
 use Rattle.tree.specs.Tree.{Tree, nodes, Trees, cell, group, none, more}
 use Rattle.tree.specs.Reading.{one, readTree}
 use Rattle.tree.specs.Accepted.{bytesOf}
-use Rattle.sizes.specs.Text.{lines}
-use Rattle.block.specs.Content.{joinLines}
+use Rattle.text.specs.Text.{lines, joinLines}
 use Rattle.typed.specs.declared.Typed.{Typed}
 use Rattle.typed.specs.Line.{withoutReturn, Item, axisWord}
 use Rattle.typed.specs.Scan.{found, scanLines, TypedNode}

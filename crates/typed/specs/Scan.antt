@@ -5,9 +5,9 @@ use mathlib.Core.List.{List, [], _∷_}
 use lib.ListN.{length}
 use lib.Dec.{eqb, ltb, leb}
 use Rattle.common.specs.Choice.{pick, both}
-use Rattle.sizes.specs.Text.{lines}
-use Rattle.typed.specs.Line.{Item, cell, group, ownText, skip, fault, node, oneLineOf}
+use Rattle.text.specs.Text.{lines}
 use Rattle.typed.specs.declared.scan.ScanState.{ScanState}
+use Rattle.typed.specs.Line.{Item, cell, group, ownText, skip, fault, node, oneLineOf}
 
 -- a node: its level, the root's being 0, and what it is
 pub record TypedNode : Type 0 where

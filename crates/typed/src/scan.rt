@@ -1,7 +1,7 @@
 // The lines of a typed list, one after the other: the nodes and their levels, or the first fault.
 use super::line::Line;
 use super::line::read_line;
-use sizes::measure::line_end;
+use text::next_feed;
 ghost use mathlib.Core.Path.{_≡_};
 ghost use Prim.Native.Nat.{_+_, _≤_};
 ghost use lib.Dec.{eqb};
@@ -151,7 +151,7 @@ pub fn scan(text: &[u8]) -> Scanned
     let mut lines = 0;
     let mut from = 0;
     while from <= text.len() {
-        let end = line_end(text, from);
+        let end = next_feed(text, from);
         let l = read_line(&text[from..end]);
         lines += 1;
         let k = fault(z, l);

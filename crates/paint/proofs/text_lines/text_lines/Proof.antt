@@ -4,12 +4,12 @@ use native.Mathlib.Omega.{arith}
 use lib.ListN.{length}
 use borrow.Author.Needs.{needs}
 use borrow.Author.Tests.{eqb-true}
-use Rattle.sizes.specs.Text.{lines}
-use Rattle.sizes.proofs.Lines.{linesFrom, rest-next, line-from, line-in}
+use Rattle.common.specs.Every.{Every}
+use Rattle.text.specs.Text.{lines}
+use Rattle.text.proofs.Lines.{linesFrom, rest-next, line-from, line-in}
+use Rattle.text.proofs.Measured.{lines-width, lines-height}
 use Rattle.block.specs.Block.{indent, textLine}
 use Rattle.paint.specs.Contracts.{clear}
-use Rattle.common.specs.Every.{Every}
-use Rattle.block.proofs.TextLine.{lines-width, lines-height}
 use Rattle.paint.proofs.Ground.{more-from, last-end, Still, still-start, still-step, still-done, still-room, still-next, line-over}
 use Rattle.paint.proofs.text_lines.text_lines.Statement.{statement}
 use Rattle.paint.proofs.text_lines.text_lines.Tie as tie

@@ -4,7 +4,7 @@ use native.Mathlib.Omega.{arith}
 use Prim.Native.Nat.{_+_, _-_}
 use mathlib.Core.Logic.{⊎-elim}
 use lib.ListN.{length}
-use Rattle.sizes.proofs.Lines.{line-from, line-in}
+use Rattle.text.proofs.Lines.{line-from, line-in}
 use Rattle.typed.proofs.Scanned.{reading-next, reading-same, reading-room, line-long, Reading, reading-none, numbers-small, reading-stop, reading-empty, reading-all}
 use Rattle.typed.proofs.scan.scan.Statement.{statement}
 use Rattle.typed.proofs.scan.scan.Tie as tie
@@ -21,22 +21,22 @@ no-spots-requires c κs = search needs
 loop-holds : tie.Need-loop-holds Inv-loop μ-loop
 loop-holds c = reading-none _ _ (c .no-spots .ensures)
 
-line-end-requires : tie.Need-line-end-requires Inv-loop μ-loop
-line-end-requires c κs = search needs
+next-feed-requires : tie.Need-next-feed-requires Inv-loop μ-loop
+next-feed-requires c κs = search needs
 
 sub-read-line : tie.Need-sub-read-line Inv-loop μ-loop
-sub-read-line c = line-from _ _ (c .before .loop-test .taken) _ (c .line-end .ensures)
+sub-read-line c = line-from _ _ (c .before .loop-test .taken) _ (c .next-feed .ensures)
 
 part-read-line-start : tie.Need-part-read-line-start Inv-loop μ-loop
 part-read-line-start c = search needs
 
 part-read-line-end : tie.Need-part-read-line-end Inv-loop μ-loop
-part-read-line-end c = line-in _ _ (c .before .loop-test .taken) _ (c .line-end .ensures)
+part-read-line-end c = line-in _ _ (c .before .loop-test .taken) _ (c .next-feed .ensures)
 
 read-line-requires : tie.Need-read-line-requires Inv-loop μ-loop
 read-line-requires c κs =
-    rw (line-long _ _ (c .before .before .loop-test .taken) _ (c .before .line-end .ensures))
-    (omega (arith, line-in _ _ (c .before .before .loop-test .taken) _ (c .before .line-end .ensures)))
+    rw (line-long _ _ (c .before .before .loop-test .taken) _ (c .before .next-feed .ensures))
+    (omega (arith, line-in _ _ (c .before .before .loop-test .taken) _ (c .before .next-feed .ensures)))
 
 add-lines : tie.Need-add-lines Inv-loop μ-loop
 add-lines c = omega (arith, c .before .before .before .before .loop .inv .few)
@@ -44,7 +44,7 @@ add-lines c = omega (arith, c .before .before .before .before .loop .inv .few)
 fault-requires : tie.Need-fault-requires Inv-loop μ-loop
 fault-requires c κs =
     numbers-small _ (c .before .before .before .before .before .before .before .pre) _ _ _ _ (c .before .before .before .before .loop .inv)
-    (c .before .before .before .loop-test .taken) _ (c .before .before .line-end .ensures) _ (c .read-line .ensures) .0
+    (c .before .before .before .loop-test .taken) _ (c .before .before .next-feed .ensures) _ (c .read-line .ensures) .0
 
 stop-at-requires : tie.Need-stop-at-requires Inv-loop μ-loop
 stop-at-requires c κs = search needs
@@ -52,7 +52,7 @@ stop-at-requires c κs = search needs
 returns : tie.Need-returns Inv-loop μ-loop
 returns c = reading-stop _ (c .before .before .before .before .before .before .before .before .before .before .pre) _ _ _ _
     (c .before .before .before .before .before .before .before .loop .inv) (c .before .before .before .before .before .before .loop-test .taken) _
-    (c .before .before .before .before .before .line-end .ensures) _ (c .before .before .before .read-line .ensures) _ (c .before .before .fault .ensures)
+    (c .before .before .before .before .before .next-feed .ensures) _ (c .before .before .before .read-line .ensures) _ (c .before .before .fault .ensures)
     (c .before .if1 .taken) _ (c .stop-at .ensures .0) (c .stop-at .ensures .1) (c .stop-at .ensures .2)
 
 spot-of-requires : tie.Need-spot-of-requires Inv-loop μ-loop
@@ -60,11 +60,11 @@ spot-of-requires c κs = (
   omega arith,
   numbers-small _ (c .before .before .before .before .before .before .before .before .before .before .before .pre) _ _ _ _
       (c .before .before .before .before .before .before .before .before .loop .inv)
-      (c .before .before .before .before .before .before .before .loop-test .taken) _ (c .before .before .before .before .before .before .line-end .ensures) _
+      (c .before .before .before .before .before .before .before .loop-test .taken) _ (c .before .before .before .before .before .before .next-feed .ensures) _
       (c .before .before .before .before .read-line .ensures) .1,
   numbers-small _ (c .before .before .before .before .before .before .before .before .before .before .before .pre) _ _ _ _
       (c .before .before .before .before .before .before .before .before .loop .inv)
-      (c .before .before .before .before .before .before .before .loop-test .taken) _ (c .before .before .before .before .before .before .line-end .ensures) _
+      (c .before .before .before .before .before .before .before .loop-test .taken) _ (c .before .before .before .before .before .before .next-feed .ensures) _
       (c .before .before .before .before .read-line .ensures) .2,
 )
 
@@ -76,7 +76,7 @@ array-set-from-spots c =
     reading-room _ (c .before .before .before .before .before .before .before .before .before .before .before .before .pre) _ _ _ _
     (c .before .before .before .before .before .before .before .before .before .loop .inv)
     (c .before .before .before .before .before .before .before .before .loop-test .taken) _
-    (c .before .before .before .before .before .before .before .line-end .ensures) _ (c .before .before .before .before .before .read-line .ensures) _
+    (c .before .before .before .before .before .before .before .next-feed .ensures) _ (c .before .before .before .before .before .read-line .ensures) _
     (c .before .before .before .before .fault .ensures) (c .before .before .before .if1 .left) (c .before .if2 .taken)
 
 next-requires : tie.Need-next-requires Inv-loop μ-loop
@@ -84,31 +84,31 @@ next-requires c κs =
     numbers-small _ (c .before .before .before .before .before .before .before .before .before .before .before .before .pre) _ _ _ _
     (c .before .before .before .before .before .before .before .before .before .loop .inv)
     (c .before .before .before .before .before .before .before .before .loop-test .taken) _
-    (c .before .before .before .before .before .before .before .line-end .ensures) _ (c .before .before .before .before .before .read-line .ensures) .0
+    (c .before .before .before .before .before .before .before .next-feed .ensures) _ (c .before .before .before .before .before .read-line .ensures) .0
 
 add-from : tie.Need-add-from Inv-loop μ-loop
 add-from c = omega (
   arith,
   line-in _ _ (c .before .before .before .before .before .before .before .loop-test .taken) _
-      (c .before .before .before .before .before .before .line-end .ensures),
+      (c .before .before .before .before .before .before .next-feed .ensures),
 )
 
 loop-less : tie.Need-loop-less Inv-loop μ-loop
 loop-less c = omega (
   arith,
   line-from _ _ (c .before .before .before .before .before .before .before .loop-test .taken) _
-      (c .before .before .before .before .before .before .line-end .ensures),
+      (c .before .before .before .before .before .before .next-feed .ensures),
 )
 
 loop-again : tie.Need-loop-again Inv-loop μ-loop
 loop-again c = ⊎-elim (λ w. reading-next _ (c .before .before .before .before .before .before .before .before .before .before .before .pre) _ _ _ _
     (c .before .before .before .before .before .before .before .before .loop .inv)
-    (c .before .before .before .before .before .before .before .loop-test .taken) _ (c .before .before .before .before .before .before .line-end .ensures) _
+    (c .before .before .before .before .before .before .before .loop-test .taken) _ (c .before .before .before .before .before .before .next-feed .ensures) _
     (c .before .before .before .before .read-line .ensures) _ (c .before .before .before .fault .ensures) _ _ _ (w .3) (w .1 .ensures) (w .4 ∙ w .2 .ensures)
     (c .before .before .if1 .left) (w .0 .taken)) (λ w. reading-same _
     (c .before .before .before .before .before .before .before .before .before .before .before .pre) _ _ _ _
     (c .before .before .before .before .before .before .before .before .loop .inv)
-    (c .before .before .before .before .before .before .before .loop-test .taken) _ (c .before .before .before .before .before .before .line-end .ensures) _
+    (c .before .before .before .before .before .before .before .loop-test .taken) _ (c .before .before .before .before .before .before .next-feed .ensures) _
     (c .before .before .before .before .read-line .ensures) _ (c .before .before .before .fault .ensures) _ _ (w .1) (w .2) (c .before .before .if1 .left)
     (w .0 .left)) (c .if2 .came)
 
@@ -129,7 +129,7 @@ scan-spec =
     μ-loop
     no-spots-requires
     loop-holds
-    line-end-requires
+    next-feed-requires
     sub-read-line
     part-read-line-start
     part-read-line-end

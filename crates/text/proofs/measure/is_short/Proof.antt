@@ -4,9 +4,9 @@ use native.Mathlib.Omega.{arith}
 use lib.ListN.{length}
 use borrow.Author.Tests.{eqb-true}
 use borrow.Author.Needs.{needs}
-use Rattle.sizes.proofs.Lines.{short-size}
-use Rattle.sizes.proofs.measure.is_short.Statement.{statement}
-use Rattle.sizes.proofs.measure.is_short.Tie as tie
+use Rattle.text.proofs.Measured.{short-size}
+use Rattle.text.proofs.measure.is_short.Statement.{statement}
+use Rattle.text.proofs.measure.is_short.Tie as tie
 
 returns : tie.Need-returns
 returns c = λ e. let z : _≡_ {A = ℕ} 0 1 = cc in absurd (omega arith)

@@ -1,27 +1,25 @@
-// The lines of a text, and what a size takes from them.
-use super::Size;
+// What a size takes from a text.
+use super::count_feeds;
+use super::next_feed_bytewise;
 ghost use mathlib.Core.Path.{_≡_};
-ghost use Prim.Native.Nat.{_+_, _≤_, _<_};
-ghost use lib.ListN.{length, drop};
+ghost use Prim.Native.Nat.{_+_, _<_};
+ghost use lib.ListN.{length};
 ghost use mathlib.Core.Bool.{true};
-ghost use Rattle.text.specs.Contracts.{firstFeed};
-ghost use Rattle.sizes.specs.Promises.{textSize};
+ghost use Rattle.text.specs.Promises.{textSize};
 
-// Where the line that starts at `from` ends: at the next line feed, or at the text's end.
-pub fn line_end(text: &[u8], from: usize) -> usize
-    requires { ⌜ from ≤ length (now text) ⌝ }
-    ensures { λ r. ⌜ r ≡ from + firstFeed (drop from (now (text .entry))) ⌝ }
-{
-    text::next_feed(text, from)
+// The letters of a text's longest line, and its line count.
+pub struct TextSize {
+    pub width: usize,
+    pub height: usize,
 }
 
 // The longest line and the line count: `get_text_dimension`. There is one line more than line feeds. It asks that the count fits a number.
-pub fn text_size(text: &[u8]) -> Size
+pub fn text_size(text: &[u8]) -> TextSize
     requires { ⌜ length (now text) + 1 < 18446744073709551616 ⌝ }
     ensures { λ r. ⌜ r ≡ textSize (now (text .entry)) ⌝ }
 {
-    let c = text::count_feeds(text);
-    Size {
+    let c = count_feeds(text);
+    TextSize {
         width: c.longest,
         height: c.feeds + 1,
     }
@@ -35,5 +33,5 @@ pub fn is_short(text: &[u8]) -> bool
     if 8 <= n {
         return false;
     }
-    text::next_feed_bytewise(text, 0) == n
+    next_feed_bytewise(text, 0) == n
 }

@@ -1,8 +1,8 @@
 use native.Mathlib.Omega.{arith}
 use borrow.Author.Needs.{needs}
-use Rattle.sizes.proofs.Lines.{counted-size, counted-few}
-use Rattle.sizes.proofs.measure.text_size.Statement.{statement}
-use Rattle.sizes.proofs.measure.text_size.Tie as tie
+use Rattle.text.proofs.Measured.{counted-size, counted-few}
+use Rattle.text.proofs.measure.text_size.Statement.{statement}
+use Rattle.text.proofs.measure.text_size.Tie as tie
 
 add-t3 : tie.Need-add-t3
 add-t3 c = omega (arith, counted-few _ _ (c .before .count-feeds .ensures))

@@ -1,0 +1,23 @@
+-- The sum and the greatest of a list of numbers.
+use lib.Seq.{drop-cons}
+use native.Mathlib.Numerals.{add-one}
+use mathlib.Core.Path.{_≡_}
+use Prim.Native.Nat.{ℕ, _+_, _≤_, _<_, max}
+use native.Mathlib.Omega.{arith}
+use mathlib.Core.List.{List, [], _∷_}
+use lib.ListN.{length, getD, drop, drop-of-length-le}
+use Rattle.common.specs.Sums.{total, greatest}
+
+pub greatest-le : (ns : List ℕ) → greatest ns ≤ total ns
+unfolding greatest total
+greatest-le [] = omega arith
+greatest-le (n ∷ ns) = omega (arith, greatest-le ns)
+
+-- the greatest of what is left, one number after the other
+pub greatest-next : (hs : List ℕ) (m i : ℕ) → i < length hs → max m (greatest (drop i hs)) ≡ max (max m (getD hs i 0)) (greatest (drop (i + 1) hs))
+unfolding greatest
+greatest-next hs m i h = rw (add-one i, drop-cons hs i 0) (omega arith)
+
+pub greatest-over : (hs : List ℕ) (m i : ℕ) → length hs ≤ i → max m (greatest (drop i hs)) ≡ m
+unfolding greatest
+greatest-over hs m i h = rw (drop-of-length-le hs {i = i} h) (omega arith)
