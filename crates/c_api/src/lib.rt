@@ -18,7 +18,7 @@ ghost use Rattle.c_encoding.specs.Folds.{foundAfter};
 ghost use Rattle.c_encoding.specs.Plans.{endsWord, endsAfter};
 ghost use Rattle.c_encoding.specs.Cuts.{splits3Given, lentGiven, splitsGiven};
 ghost use Rattle.settings.specs.Reading.{priorityOf, readSettings};
-ghost use Rattle.sizes.specs.Sharing.{shareOf};
+ghost use Rattle.sharing.specs.Sharing.{shareOf};
 ghost use Rattle.tree.specs.Reading.{treeAnswer, readTree};
 ghost use Rattle.sizes.specs.Input.{inputOf};
 ghost use Rattle.leaf.specs.Answers.{leafRecordOf, leafPrintOf};
@@ -303,7 +303,7 @@ pub extern "C" fn leg_share(
     ensures shown { λ _. ⌜ now (part .exit) ≡ partAfter spare n (priorityOf priority) index (now (part .entry)) ⌝ }
 {
     let p = settings::priority_of(priority);
-    let s = sizes::sharing::share(spare, n, p, index);
+    let s = sharing::share(spare, n, p, index);
     if s.number != 0 {
         return pack(s.number, 0);
     }

@@ -6,9 +6,8 @@ use native.Mathlib.Omega.{arith}
 use lib.Dec.{ltb}
 use Rattle.common.specs.Choice.{pick}
 use Rattle.settings.specs.declared.Priority.{Priority}
-use Rattle.sizes.specs.Sizes.{share}
-use Rattle.sizes.specs.Sharing.{shareOf}
-use Rattle.sizes.specs.declared.sharing.Shared.{Shared}
+use Rattle.sharing.specs.declared.Shared.{Shared}
+use Rattle.sharing.specs.Sharing.{shareOf, share}
 use Rattle.c_encoding.specs.Words.{packed, partAfter}
 
 stays : (b : Bool) (x old : ℕ) (r : Shared) → r ≡ pick b (record { number = 0; part = x }) (record { number = 11; part = 0 }) → (r .number ≡ 0 → ⊥)

@@ -12,12 +12,6 @@ use lib.ListN.{length, drop}
 use lib.Dec.{ltb, leb, eqb}
 use Rattle.common.specs.Choice.{pick, both}
 use Rattle.common.specs.Sums.{greatest}
-use Rattle.splits.specs.declared.SplitList.{SplitList}
-use Rattle.splits.specs.declared.CutParts.{CutParts}
-use Rattle.splits.specs.declared.ShortParts.{ShortParts}
-use Rattle.splits.specs.Splits.{shortSplits3, shortSplits}
-use Rattle.splits.specs.Lists.{listOf}
-use Rattle.splits.specs.Cuts.{cutAnswered, refusedCut, cutOf, inPlaceCut, answeredShort, refusedShort, shortOf}
 use Rattle.settings.specs.declared.Settings.{Settings}
 use Rattle.settings.specs.declared.Priority.{Priority}
 use Rattle.settings.specs.Reading.{Parsed, readSettings, parsedAnswer as settingsGiven}
@@ -28,20 +22,26 @@ use Rattle.tree.specs.Planning.{PlanOne, readPlan}
 use Rattle.tree.specs.Promises.{PlanRefusal}
 use Rattle.tree.proofs.Sound.{tree-refusal}
 use Rattle.tree.proofs.PlanSound.{plan-refusal}
+use Rattle.splits.specs.declared.SplitList.{SplitList}
+use Rattle.splits.specs.declared.CutParts.{CutParts}
+use Rattle.splits.specs.declared.ShortParts.{ShortParts}
+use Rattle.splits.specs.Splits.{shortSplits3, shortSplits}
+use Rattle.splits.specs.Lists.{listOf}
+use Rattle.splits.specs.Cuts.{cutAnswered, refusedCut, cutOf, inPlaceCut, answeredShort, refusedShort, shortOf}
 use Rattle.text.specs.Text.{joinLines}
-use Rattle.sizes.specs.declared.sharing.Shared.{Shared}
-use Rattle.sizes.specs.Sizes.{naturals, share}
+use Rattle.drafts.specs.Store.{isName, tagFor, hasTag, fieldsOf, fieldBytes, storeOf, withoutTag, draftOf, StoreAnswer, DraftOut, saveTree, saveIn, saveOf, forgetIn, forgetOf, noReturn, returnFound, returnIn, returnOf}
+use Rattle.sharing.specs.declared.Shared.{Shared}
+use Rattle.sharing.specs.Sharing.{shareOf, share}
+use Rattle.sizes.specs.Sizes.{naturals}
 use Rattle.sizes.specs.Collecting.{sizeWidth}
-use Rattle.sizes.specs.Sharing.{shareOf}
 use Rattle.sizes.specs.Input.{Input, refused, given, inputOf}
 use Rattle.sizes.proofs.MeasuredInput.{input-refusal}
-use Rattle.drafts.specs.Store.{isName, tagFor, hasTag, fieldsOf, fieldBytes, storeOf, withoutTag, draftOf, StoreAnswer, DraftOut, saveTree, saveIn, saveOf, forgetIn, forgetOf, noReturn, returnFound, returnIn, returnOf}
-use Rattle.block.specs.Block.{block}
 use Rattle.fold.specs.Fold.{columns, find, missed}
 use Rattle.fold.specs.Answers.{listedTrees, list?, Folds, noFolds, counts, finds, foldCells, foldOf}
 use Rattle.collector.specs.declared.SizeRecord.{SizeRecord}
 use Rattle.collector.specs.Records.{recordsOf, Outcome, noCollected, collectOf}
 use Rattle.blank.specs.Blank.{blanked, dotsFor, oneOf, allCells, cellFlags, Blanks, noBlank, blankTo, blankIn, blankOf}
+use Rattle.block.specs.Block.{block}
 use Rattle.typed.specs.Typed.{typedOf}
 use Rattle.typed.proofs.Answered.{typed-cases}
 use Rattle.typed.proofs.Faults.{fault-at}

@@ -10,20 +10,20 @@ use Rattle.settings.specs.Reading.{readSettings, settingsAnswer, priorityOf}
 use Rattle.tree.specs.Reading.{readTree, treeAnswer}
 use Rattle.splits.specs.declared.SplitList.{SplitList}
 use Rattle.splits.specs.Cuts.{cutOf, inPlaceCut, shortOf}
+use Rattle.drafts.specs.Store.{saveOf, forgetOf, returnOf}
+use Rattle.sharing.specs.Sharing.{shareOf}
 use Rattle.sizes.specs.Input.{Input, inputOf}
-use Rattle.sizes.specs.Sharing.{shareOf}
+use Rattle.fold.specs.Answers.{foldOf}
 use Rattle.collector.specs.declared.SizeRecord.{SizeRecord}
 use Rattle.collector.specs.Records.{collectOf}
+use Rattle.blank.specs.Blank.{oneOf, blankOf}
+use Rattle.typed.specs.Typed.{typedOf}
+use Rattle.widen.specs.Answers.{nearestOf}
+use Rattle.plan.specs.Answers.{planInput, plannedOf}
 use Rattle.leaf.specs.Answers.{leafRecordOf, leafPrintOf}
 use Rattle.sheet.specs.Answers.{sheetOf}
 use Rattle.places.specs.Places.{leafPlaceOf}
 use Rattle.places.specs.Together.{findsOf}
-use Rattle.fold.specs.Answers.{foldOf}
-use Rattle.plan.specs.Answers.{planInput, plannedOf}
-use Rattle.widen.specs.Answers.{nearestOf}
-use Rattle.drafts.specs.Store.{saveOf, forgetOf, returnOf}
-use Rattle.blank.specs.Blank.{oneOf, blankOf}
-use Rattle.typed.specs.Typed.{typedOf}
 use Rattle.c_encoding.specs.Words.{packed, typedWord}
 use Rattle.c_encoding.specs.Promises.{numberIn}
 use Rattle.c_encoding.specs.Numbers.{settingsGiven, marginGiven, sizesGiven, recordGiven}

@@ -1,7 +1,6 @@
 // The sharing helper, called for each child and for one more: each run of equal answers in one line.
 use settings::Priority;
-use sizes::sharing;
-use sizes::sharing::Shared;
+use sharing::Shared;
 use test_lines::tell;
 
 fn same(a: Shared, b: Shared) -> bool {

@@ -1,0 +1,2 @@
+-- What the proofs of several functions, and the layers above, use.
+pub mod Shares
