@@ -12,7 +12,7 @@ use Rattle.tree.specs.Accepted.{bytesOf}
 use Rattle.blank.specs.Alike.{recast, recast*, covered, masked, Alike}
 use Rattle.blank.specs.Blank.{shownByte, blanked, blanked*}
 use Rattle.blank.specs.Paper.{inTexts, inTexts*}
-use Rattle.blank.proofs.Exact.{tree-exact}
+use Rattle.tree.proofs.Exact.{tree-exact}
 use Rattle.blank.proofs.BlankedTree.{blanked-outside}
 use Rattle.alike.specs.Pairs.{AlikeTrees}
 

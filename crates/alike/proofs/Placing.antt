@@ -1,7 +1,7 @@
 -- The sheets, and the blocks, of a tree with its texts' bytes replaced in two ways differ just where the layout puts the texts (`SheetPlace`, `BlockPlace`).
 use mathlib.Core.Path.{_≡_, refl, sym, ap, _∙_}
 use mathlib.Core.Logic.{_≢_}
-use Prim.Native.Nat.{ℕ, zero, suc, _+_, _-_, _*_, _<_}
+use Prim.Native.Nat.{ℕ, _+_, _-_, _*_, _<_}
 use native.Mathlib.Omega.{arith}
 use mathlib.Core.Bool.{Bool, true, false}
 use mathlib.Core.Option.{Option, some, none}
@@ -10,7 +10,7 @@ use lib.ListN.{getD, getElem?}
 use lib.Dec.{eqb, ltb}
 use borrow.Author.Tests.{ltb-false}
 use Rattle.common.specs.Choice.{pick}
-use Rattle.common.proofs.Elems.{elem-none}
+use Rattle.common.proofs.Elems.{elem-map, elem-unmap}
 use Rattle.common.proofs.Every.{every-elem}
 use Rattle.settings.specs.declared.Settings.{Settings}
 use Rattle.settings.specs.declared.Margin.{Margin}
@@ -18,11 +18,11 @@ use Rattle.tree.specs.Tree.{Tree}
 use Rattle.text.specs.Text.{joinLines}
 use Rattle.sizes.specs.Sizes.{leafSize}
 use Rattle.sizes.specs.Contracts.{Fits}
+use Rattle.blank.specs.Alike.{recast}
 use Rattle.block.specs.Block.{block}
 use Rattle.block.specs.Promises.{byteAt}
 use Rattle.block.proofs.Dimensions.{Dims}
 use Rattle.block.proofs.Dims.{block-dims}
-use Rattle.blank.specs.Alike.{recast}
 use Rattle.layout.specs.Walk.{Placed, leafOf, walk, root, leaves, insideW, insideH}
 use Rattle.layout.specs.Promises.{heightAt, widthAt}
 use Rattle.layout.proofs.Fit.{LeafFits, leaves-fit}
@@ -79,19 +79,6 @@ module _ (m : Margin) {x y : List (List ℕ)} {h w : ℕ} (c : Dims x h w) (d : 
       let e : byteAt (margined m w x) (m .top + p .line) (m .left + p .column) ≡ byteAt (margined m w y) (m .top + p .line) (m .left + p .column) =
       rw (p .line-is, p .column-is) at r in
       p .differ (sym (margined-at m c (p .line) (p .column) k l) ∙ e ∙ margined-at m d (p .line) (p .column) k l)
-
--- ---- entries of a list that is mapped
-
-module _ {A B : Type 0} (f : A → B) where
-  elem-map : (xs : List A) (i : ℕ) (x : A) → getElem? xs i ≡ some x → getElem? (map f xs) i ≡ some (f x)
-  elem-map [] i x e = elem-none i x e
-  elem-map (y ∷ xs) zero x e = let z : y ≡ x = cc in ap (λ v. some (f v)) z
-  elem-map (y ∷ xs) (suc i) x e = elem-map xs i x e
-
-  elem-unmap : {X : Type 0} (xs : List A) (i : ℕ) (y : B) → getElem? (map f xs) i ≡ some y → ((x : A) → getElem? xs i ≡ some x → f x ≡ y → X) → X
-  elem-unmap [] i y e k = elem-none i y e
-  elem-unmap (x ∷ xs) zero y e k = k x refl (cc)
-  elem-unmap (x ∷ xs) (suc i) y e k = elem-unmap xs i y e k
 
 -- ---- one way of replacing the bytes
 

@@ -1,12 +1,13 @@
 -- What is printed where the layout puts a text (`TextPlace`, `SheetPlace`) is that byte of the text.
 use mathlib.Core.Path.{_≡_, refl, sym, ap, _∙_}
-use Prim.Native.Nat.{ℕ, zero, suc, _+_, _-_, _≤_, _<_}
+use Prim.Native.Nat.{ℕ, _+_, _-_, _≤_, _<_}
 use native.Mathlib.Omega.{arith}
-use mathlib.Core.List.{List, [], _∷_, _++_, map}
+use mathlib.Core.List.{List, [], _++_, map}
 use lib.ListN.{length, getD, replicate, length-replicate, length-map, List·getD-append}
 use lib.Seq.{getD-append-add}
 use Rattle.common.specs.Choice.{pick}
 use Rattle.common.proofs.Every.{every-at, every-elem}
+use Rattle.common.proofs.Elems.{map-at}
 use Rattle.settings.specs.declared.Settings.{Settings}
 use Rattle.tree.specs.Tree.{Tree}
 use Rattle.text.specs.Text.{lines, textWidth, textHeight}
@@ -33,11 +34,6 @@ behind : {A : Type 0} (a b c : List A) (d : A) {n m i : ℕ} (k : ℕ) → lengt
 behind a b c d {i = i} k e f g =
     let q : i ≡ length a + (length b + k) = omega arith in
     rw q (getD-append-add a (b ++ c) (length b + k) d ∙ getD-append-add b c k d)
-
-line-at : (g : List ℕ → List ℕ) (ls : List (List ℕ)) (i : ℕ) → i < length ls → getD (map g ls) i [] ≡ g (getD ls i [])
-line-at g [] i h = absurd (omega arith)
-line-at g (l ∷ ls) zero h = refl
-line-at g (l ∷ ls) (suc i) h = line-at g ls i (omega arith)
 
 module _ (s : Settings) (l : Leaf) (fits : Fits (leafSize s (l .text)) (l .size)) where
   abbrev t : List ℕ
@@ -69,7 +65,7 @@ module _ (s : Settings) (l : Leaf) (fits : Fits (leafSize s (l .text)) (l .size)
       (behind (replicate (slackBefore (s .vertical) slack) (replicate (z .width) 32)) (replicate (s .top) (replicate (z .width) (getD (s .fills) 2 0))) _ [] r
       (length-replicate (slackBefore (s .vertical) slack) _) (length-replicate (s .top) _) (omega arith)
       ∙ List·getD-append ls _ [] r long
-      ∙ line-at (textLine s inner (textWidth t)) (lines t) r h)
+      ∙ map-at (textLine s inner (textWidth t)) (lines t) r [] [] h)
 
   middle-at : (i c : ℕ) → i < z .height → c < z .width → byteAt (middle s l) i (sep s + c) ≡ byteAt (body s t z) i c
   unfolding middle

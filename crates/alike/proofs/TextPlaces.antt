@@ -7,6 +7,7 @@ use mathlib.Core.List.{List, [], _∷_, _++_, map, append-assoc}
 use lib.ListN.{length, getD, replicate, length-append, length-replicate, length-map}
 use lib.Dec.{eqb}
 use Rattle.common.specs.Choice.{pick}
+use Rattle.common.proofs.Elems.{map-at}
 use Rattle.settings.specs.declared.Settings.{Settings}
 use Rattle.text.specs.Text.{lines, textWidth, textHeight}
 use Rattle.text.proofs.JoinedLines.{Free, NoFeed, none, more, no-feed-lines}
@@ -24,11 +25,6 @@ use Rattle.alike.proofs.Blocks.{withText}
 use Rattle.alike.proofs.Differences.{part-found, part-shown, Differ, Apart, apart-through, apart-move, apart-under, apart-over, apart-right, apart-left}
 
 -- ---- one line
-
-map-at : (f : ℕ → ℕ) (l : List ℕ) (i : ℕ) → i < length l → getD (map f l) i 0 ≡ f (getD l i 0)
-map-at f [] i h = absurd (omega arith)
-map-at f (b ∷ l) zero h = refl
-map-at f (b ∷ l) (suc i) h = map-at f l i (omega arith)
 
 free-at : {l : List ℕ} → Free l → (i : ℕ) → i < length l → getD l i 0 ≢ 10
 free-at none i h = absurd (omega arith)
@@ -72,8 +68,8 @@ module _ (s : Settings) (f g : ℕ → ℕ) (two : (b : ℕ) → b ≢ 10 → f 
         at = p .byte;
         is = omega (arith, p .is, ahead-length l);
         within = omega (arith, p .within, length-map l f);
-        differ = λ d. two (getD l (p .byte) 0) (free-at k (p .byte) (p .within)) (sym (map-at f l (p .byte) (p .within)) ∙ d
-            ∙ map-at g l (p .byte) (p .within));
+        differ = λ d. two (getD l (p .byte) 0) (free-at k (p .byte) (p .within)) (sym (map-at f l (p .byte) 0 0 (p .within)) ∙ d
+            ∙ map-at g l (p .byte) 0 0 (p .within));
       })
       (sym (ap (λ x. getD x j 0) (line-is f l)) ∙ e ∙ ap (λ x. getD x j 0) (line-is g l))
 

@@ -19,7 +19,7 @@ use Rattle.sizes.specs.Input.{given}
 use Rattle.sheet.specs.Sheet.{sheet}
 use Rattle.frame.specs.Frame.{tooLarge}
 use Rattle.blank.specs.Alike.{Alike}
-use Rattle.blank.proofs.Lengths.{is-bytes-in, bytes-length}
+use Rattle.tree.proofs.Lengths.{is-bytes-in, bytes-length}
 use Rattle.typed.specs.Promises.{typeOf}
 use Rattle.typed.specs.Typed.{typedRefusal, typedAccepted, typedOf}
 use Rattle.typed.proofs.RoundTrip.{round-trip}

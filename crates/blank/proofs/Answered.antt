@@ -1,19 +1,20 @@
 -- The answer for every input, by what the calls say of the tree and of the numbers.
 use mathlib.Core.Path.{_≡_, refl, sym, ap, ap₂, _∙_}
-use Prim.Native.Nat.{ℕ, zero, suc, _+_, _≤_, _<_}
+use Prim.Native.Nat.{ℕ, suc, _+_, _≤_, _<_}
 use native.Mathlib.Omega.{arith}
 use mathlib.Core.Bool.{Bool, true, false}
-use mathlib.Core.List.{List, [], _∷_, _++_, map}
-use lib.ListN.{length, getD, replicate}
+use mathlib.Core.List.{List, [], _∷_, map}
+use lib.ListN.{length}
 use lib.Seq.{sets}
 use borrow.Author.Tests.{lt-ltb, le-ltb}
 use Rattle.common.specs.Arrays.{padded}
+use Rattle.common.proofs.Stores.{sets-front}
+use Rattle.common.proofs.Padded.{padded-at}
 use Rattle.tree.specs.declared.ReadTree.{ReadTree}
 use Rattle.tree.specs.Tree.{Tree, Trees, cell, group, none, more, nodes, nodes*}
 use Rattle.tree.specs.Reading.{ReadOne, readTree, treeAnswer}
 use Rattle.tree.specs.Accepted.{bytesOf}
 use Rattle.tree.proofs.Sound.{tree-sound, tree-refusal}
-use Rattle.common.proofs.Stores.{sets-front}
 use Rattle.blank.specs.Blank.{shownByte, blanked, blanked*, cellFlags, dotsFor, allCells, noBlank, blankTo, blankOf}
 use Rattle.blank.specs.Contracts.{ReadElements, isDotted, DotsAre}
 use Rattle.blank.proofs.Lengths.{blanked-length}
@@ -34,20 +35,10 @@ module _ (f g : ℕ → Bool) (h : (n : ℕ) → n < 512 → f n ≡ g n) where
 
 -- ---- the flags in their array
 
-zero-at : (m k : ℕ) → getD (replicate {A = ℕ} m 0) k 0 ≡ 0
-zero-at zero k = refl
-zero-at (suc m) zero = refl
-zero-at (suc m) (suc k) = zero-at m k
-
-flag-at : (cs : List ℕ) (m k : ℕ) → getD (cs ++ replicate m 0) k 0 ≡ getD cs k 0
-flag-at [] m k = zero-at m k
-flag-at (c ∷ cs) m zero = refl
-flag-at (c ∷ cs) m (suc k) = flag-at cs m k
-
 padded-cells : (cs ns : List ℕ) → allCells (padded cs) ns ≡ allCells cs ns
 unfolding allCells
 padded-cells cs [] = refl
-padded-cells cs (k ∷ ks) = rw (flag-at cs _ k, padded-cells cs ks)
+padded-cells cs (k ∷ ks) = rw (padded-at cs _ k, padded-cells cs ks)
 
 -- ---- the tree
 

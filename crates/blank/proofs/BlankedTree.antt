@@ -15,7 +15,8 @@ use Rattle.tree.specs.Promises.{Texts, Texts*, depth, depth*}
 use Rattle.blank.specs.Alike.{recast, recast*, covered, masked, Alike}
 use Rattle.blank.specs.Blank.{shownByte, blanked, blanked*}
 use Rattle.blank.specs.Paper.{inTexts, inTexts*}
-use Rattle.blank.proofs.Lengths.{bytes*-length, blanked*-bytes-in}
+use Rattle.blank.proofs.Lengths.{blanked*-bytes-in}
+use Rattle.tree.proofs.Lengths.{bytes*-length}
 
 -- ---- one byte: a dot may stand in a text, and a line feed stays
 

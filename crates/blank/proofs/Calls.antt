@@ -20,7 +20,7 @@ use Rattle.blank.specs.Blank.{blanked, cellFlags, dotsFor, allCells, Bla
 use Rattle.blank.specs.declared.Blanked.{Blanked}
 use Rattle.blank.specs.Paper.{blankWritten, PaperRead, PaperOf}
 use Rattle.blank.proofs.Lengths.{blanked-length}
-use Rattle.blank.proofs.Exact.{tree-exact}
+use Rattle.tree.proofs.Exact.{tree-exact}
 use Rattle.blank.proofs.BlankedTree.{blanked-nodes, blanked-depth, blanked-texts, blanked-alike, blanked-outside}
 
 -- a number that is no Cell's is 9, an output that is too short 8

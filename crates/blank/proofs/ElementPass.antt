@@ -15,9 +15,9 @@ use Rattle.tree.specs.Tree.{Tree, Trees, cell, group, none, more, nodes, nodes*
 use Rattle.tree.specs.Bytes.{lengthAt}
 use Rattle.tree.specs.Promises.{Encodes, EncodesAll}
 use Rattle.tree.specs.Accepted.{bytesOf, bytesOf*}
-use Rattle.sizes.proofs.Passing.{Passing, begin, Some, turn, over}
+use Rattle.tree.proofs.Passing.{Passing, begin, Some, turn, over}
 use Rattle.common.proofs.Stores.{sets-append}
-use Rattle.sizes.proofs.Numbers.{sets-padded}
+use Rattle.common.proofs.Padded.{sets-padded}
 use Rattle.blank.specs.Blank.{blanked, blanked*, shownByte, cellFlags, cellFlags*}
 use Rattle.blank.specs.Contracts.{textAt, isDotted, ReadElements}
 use Rattle.blank.proofs.Flat.{joined, insideTree, front-in, after-are, after-nodes, after-flags, after-bytes}

@@ -16,7 +16,8 @@ use Rattle.tree.specs.Accepted.{bytesOf, bytesOf*}
 use Rattle.tree.proofs.Fronts.{is-whole, contents-length, tag-low}
 use Rattle.blank.specs.Blank.{blanked, blanked*, shownByte, cellFlags, cellFlags*}
 use Rattle.blank.specs.Contracts.{textAt}
-use Rattle.blank.proofs.Lengths.{are-bytes-in, bytes*-length, blanked*-bytes-in}
+use Rattle.blank.proofs.Lengths.{blanked*-bytes-in}
+use Rattle.tree.proofs.Lengths.{are-bytes-in, bytes*-length}
 
 unfoldable pub joined : Trees → Trees → Trees
 joined none us = us

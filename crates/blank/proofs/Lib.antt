@@ -4,6 +4,5 @@ pub mod ShownBytes
 pub mod NamedCells
 pub mod ElementPass
 pub mod Answered
-pub mod Exact
 pub mod BlankedTree
 pub mod Calls

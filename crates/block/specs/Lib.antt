@@ -1,3 +1,4 @@
+pub mod Flags
 pub mod Content
 pub mod Block
 pub mod Promises

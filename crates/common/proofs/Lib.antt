@@ -4,3 +4,4 @@ pub mod Elems
 pub mod Stores
 pub mod Every
 pub mod Sums
+pub mod Padded

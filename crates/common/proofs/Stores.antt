@@ -2,11 +2,12 @@
 use mathlib.Core.Path.{_≡_, refl, ap, _∙_}
 use Prim.Native.Nat.{ℕ, suc, _+_, _<_, _≤_, zero, _-_, _/_}
 use native.Mathlib.Omega.{arith}
-use native.Mathlib.Nat.{add-zero, sub-zero, le-refl}
+use native.Mathlib.Nat.{add-zero, le-refl}
 use mathlib.Core.List.{List, [], _∷_, _++_}
 use lib.ListN.{length, set, drop, getD, take, replicate, length-take, length-drop}
-use lib.Seq.{sets, set-comm, sets-eq, set-set, drop-drop, take-add, take-all, length-take-le}
+use lib.Seq.{sets, getD-set-same, getD-set-other, set-comm, sets-eq, set-set, drop-drop, take-add, take-all, length-take-le}
 use native.Mathlib.Numerals.{add-one}
+use Rattle.common.proofs.Padded.{take-replicate, drop-replicate}
 
 -- a place before the others may be stored to last
 pub set-sets : (vs l : List ℕ) (i j v : ℕ) → i < j → set (sets l j vs) i v ≡ sets (set l i v) j vs
@@ -64,21 +65,11 @@ pub two-copies : (k : ℕ) (l o : List ℕ) (at : ℕ) → k ≤ length l → le
     → sets (sets o at (take k l)) (at + (length l - k)) (take k (drop (length l - k) l)) ≡ sets o at l
 two-copies k l o at h i = rw (take-all k (drop (length l - k) l) (rw length-drop (omega arith))) (sets-overlap (length l - k) k l o at (omega arith))
 
-take-same : (k n b : ℕ) → k ≤ n → take k (replicate n b) ≡ replicate k b
-take-same zero n b h = refl
-take-same (suc k) zero b h = absurd (omega arith)
-take-same (suc k) (suc n) b h = rw (take-same k n b (omega arith))
-
-drop-same : (k n b : ℕ) → drop k (replicate n b) ≡ replicate (n - k) b
-drop-same zero n b = rw sub-zero
-drop-same (suc k) zero b = let e : 0 - suc k ≡ 0 = omega arith in rw e
-drop-same (suc k) (suc n) b = let e : suc n - suc k ≡ n - k = omega arith in rw e (drop-same k n b)
-
 pub two-same : (k n b : ℕ) (o : List ℕ) (at : ℕ) → k ≤ n → n ≤ k + k
     → sets (sets o at (replicate k b)) (at + (n - k)) (replicate k b) ≡ sets o at (replicate n b)
 two-same k n b o at h i =
     let e : n - (n - k) ≡ k = omega arith in
-    rw (take-same k n b h, drop-same (n - k) n b, e) at (sets-overlap (n - k) k (replicate n b) o at (omega arith))
+    rw (take-replicate k n b h, drop-replicate (n - k) n b, e) at (sets-overlap (n - k) k (replicate n b) o at (omega arith))
 
 -- ---- few
 
@@ -113,3 +104,10 @@ eight-stores s o at from h =
     rw (t, sets-append (take 4 (drop from s)) (take 4 (drop (from + 4) s)) o at, length-take-le 4 (drop from s) (rw length-drop (omega arith)))
 
 -- ---- what each place holds
+
+pub sets-below : (vs l : List ℕ) (i j : ℕ) → j < i → getD (sets l i vs) j 0 ≡ getD l j 0
+sets-below [] l i j h = refl
+sets-below (v ∷ vs) l i j h = sets-below vs (set l i v) (suc i) j (omega arith) ∙ getD-set-other l i j v 0 (λ e. omega arith)
+
+pub sets-first : (v : ℕ) (vs l : List ℕ) (i j : ℕ) → j ≡ i → i < length l → getD (sets l i (v ∷ vs)) j 0 ≡ v
+sets-first v vs l i j e h = rw e (sets-below vs (set l i v) (suc i) i (omega arith) ∙ getD-set-same l i v 0 h)

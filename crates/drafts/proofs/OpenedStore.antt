@@ -1,6 +1,6 @@
 -- What the calls do on a store that was opened for a name.
 use mathlib.Core.Path.{_≡_, refl, sym, ap, _∙_}
-use Prim.Native.Nat.{ℕ, zero, suc, _+_, _-_, _≤_, _<_}
+use Prim.Native.Nat.{ℕ, _+_, _-_, _≤_, _<_}
 use native.Mathlib.Omega.{arith}
 use mathlib.Core.Bool.{Bool, true, false}
 use mathlib.Core.List.{List, [], _∷_, _++_, append-assoc, append-nil}
@@ -9,26 +9,22 @@ use lib.ListN.{length, take, drop, replicate, length-drop, length-append}
 use lib.Seq.{paste, take-all, take-at, drop-append-add}
 use borrow.Author.Tests.{lt-ltb, le-ltb}
 use Rattle.common.specs.Choice.{pick}
+use Rattle.common.proofs.Padded.{drop-replicate}
+use Rattle.tree.specs.declared.ReadTree.{ReadTree}
 use Rattle.tree.specs.Reading.{ReadOne, readTree, treeAnswer}
 use Rattle.tree.specs.Accepted.{element}
-use Rattle.tree.specs.declared.ReadTree.{ReadTree}
 use Rattle.tree.proofs.Sound.{tree-refusal, tree-sound}
-use Rattle.drafts.specs.Store.{isName, tagFor, hasTag, fieldsOf, fieldBytes, storeOf, withoutTag, draftOf, StoreAnswer, saveTree, saveIn, saveOf, forgetIn, forgetOf, noReturn, returnFound, returnIn, returnOf}
-use Rattle.drafts.specs.Contracts.{noField, fieldFrom, scanOf, refusedOpen, openedOf}
-use Rattle.drafts.specs.Promises.{TreeRead, Field, Fields, Formed}
 use Rattle.drafts.specs.declared.scan.FieldAt.{FieldAt}
 use Rattle.drafts.specs.declared.scan.Scan.{Scan}
 use Rattle.drafts.specs.declared.Opened.{Opened}
+use Rattle.drafts.specs.Store.{isName, tagFor, hasTag, fieldsOf, fieldBytes, storeOf, withoutTag, draftOf, StoreAnswer, saveTree, saveIn, saveOf, forgetIn, forgetOf, noReturn, returnFound, returnIn, returnOf}
+use Rattle.drafts.specs.Contracts.{noField, fieldFrom, scanOf, refusedOpen, openedOf}
+use Rattle.drafts.specs.Promises.{TreeRead, Field, Fields, Formed}
 use Rattle.drafts.proofs.Formed.{store-parsed, FieldIn, field-in, field-absent, used-and-zeros, zeros-behind, at-within, at-used, gap-store, body-is, others-is, size-low}
 
 fields-mid : (front : List (List ℕ)) (f : List ℕ) (back : List (List ℕ)) → Fields (front ++ (f ∷ back)) → Field f
 fields-mid [] f back k = k .0
 fields-mid (g ∷ front) f back k = fields-mid front f back (k .2)
-
-drop-zeros : (k m : ℕ) → drop {A = ℕ} m (replicate k 0) ≡ replicate (k - m) 0
-drop-zeros k zero = let e : k ≡ k - 0 = omega arith in ap (λ (j : ℕ). replicate j 0) e
-drop-zeros zero (suc m) = let e : 0 ≡ 0 - suc m = omega arith in ap (λ (j : ℕ). replicate j 0) e
-drop-zeros (suc k) (suc m) = let e : k - m ≡ suc k - suc m = omega arith in drop-zeros k m ∙ ap (λ (j : ℕ). replicate j 0) e
 
 joined-more : (fs : List (List ℕ)) (f : List ℕ) → fieldBytes (fs ++ (f ∷ [])) ≡ fieldBytes fs ++ f
 unfolding fieldBytes
@@ -43,7 +39,7 @@ put-store n fs f m q h =
     let a : take (length (fieldBytes fs)) (fieldBytes fs ++ replicate (n - length (fieldBytes fs)) 0) ≡ fieldBytes fs =
     take-at (fieldBytes fs) (replicate (n - length (fieldBytes fs)) 0) (length (fieldBytes fs)) refl in
     let b : drop (length (fieldBytes fs) + m) (fieldBytes fs ++ replicate (n - length (fieldBytes fs)) 0) ≡ replicate (n - length (fieldBytes fs) - m) 0 =
-    drop-append-add (fieldBytes fs) (replicate (n - length (fieldBytes fs)) 0) m ∙ drop-zeros (n - length (fieldBytes fs)) m in
+    drop-append-add (fieldBytes fs) (replicate (n - length (fieldBytes fs)) 0) m ∙ drop-replicate m (n - length (fieldBytes fs)) 0 in
     let l : length (fieldBytes fs ++ f) ≡ length (fieldBytes fs) + length f = length-append (fieldBytes fs) f in
     let z : n - length (fieldBytes fs) - m ≡ n - length (fieldBytes fs ++ f) = omega arith in
     rw (a, b, joined-more fs f, z) (sym (append-assoc (fieldBytes fs) f (replicate (n - length (fieldBytes fs ++ f)) 0)))

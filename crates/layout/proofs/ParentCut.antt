@@ -11,7 +11,7 @@ use Rattle.settings.specs.declared.Settings.{Settings}
 use Rattle.tree.specs.Tree.{Axis, across, down, Tree, cell, group, Trees, none, more, empty?, count, nodes, nodes*}
 use Rattle.splits.specs.Splits.{Cut, shortSplits3, pairOf, noPair}
 use Rattle.sizes.specs.Sizes.{along, sep, allot, spareOf, childSize, Sizes, sizes, sizes*, treeSizes}
-use Rattle.common.proofs.Elems.{elem-none, elem-same, elem-first, elem-cases}
+use Rattle.common.proofs.Elems.{elem-none, elem-same, elem-first, elem-cases, entry-at}
 use Rattle.sizes.proofs.Fill.{along-sized}
 use Rattle.sizes.proofs.Nodes.{subtrees, subtrees*, subtrees-length, childNodes, RecordsFrom, part-whole, part-tail, part-own, child-part, rest-part}
 use Rattle.common.specs.Every.{Every}
@@ -20,7 +20,7 @@ use Rattle.layout.specs.Walk.{Context, Placed, child, leafWalked, alongL
 use Rattle.layout.specs.Promises.{contexts, contexts*, contextAt, leftAfter, LeafAt, extentIn}
 use Rattle.layout.proofs.Laid.{child-size, join-leaves}
 use Rattle.layout.proofs.Numbered.{child-node, none-leaves}
-use Rattle.layout.proofs.Sublists.{Stand, stand-first, stand-rest, stand-front, stand-back, stand-whole, entry-at}
+use Rattle.layout.proofs.Sublists.{Stand, stand-first, stand-rest, stand-front, stand-back, stand-whole}
 
 -- ---- the contexts of a tree's nodes
 

@@ -22,7 +22,7 @@ ghost use Rattle.text.specs.Text.{joinLines};
 ghost use Rattle.block.specs.Block as blocks;
 ghost use Rattle.layout.specs.Walk.{leafOf};
 ghost use Rattle.frame.specs.Printer.{printTo};
-ghost use Rattle.leaf.specs.Answers.{noFlags, noLeafRecord, placedRecord, leafRecordOf, leafPrintOf};
+ghost use Rattle.leaf.specs.Answers.{noLeafRecord, placedRecord, leafRecordOf, leafPrintOf};
 ghost use Rattle.leaf.specs.Contracts.{noSought, ShowsLeaf, Seeks};
 
 // A leaf's record: node, allotted size, both split lists as handed to the leaf, eight flags, the pair of the cut that its parent made for it; or a refusal with
@@ -37,27 +37,12 @@ pub struct LeafRecord {
     pub pair: CutPair,
 }
 
-fn no_flags() -> Flags
-    ensures { λ r. ⌜ r ≡ noFlags ⌝ }
-{
-    Flags {
-        first_row: false,
-        last_row: false,
-        first_col: false,
-        last_col: false,
-        no_right: false,
-        lean_top: false,
-        top_left: false,
-        top_intersection: false,
-    }
-}
-
 fn no_record(number: u8) -> LeafRecord
     ensures { λ r. ⌜ r ≡ noLeafRecord number ⌝ }
 {
     let h = splits::no_pieces();
     let v = splits::no_pieces();
-    let flags = no_flags();
+    let flags = block::no_flags();
     let size = Size {
         width: 0,
         height: 0,

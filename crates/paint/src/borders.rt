@@ -9,9 +9,9 @@ ghost use Rattle.block.specs.Block.{edge};
 ghost use Rattle.paint.specs.Paint.{Wrote};
 ghost use Rattle.paint.specs.Contracts.{pasted, Room, spaceLines, bordersOf, topOf, leftOf, rightOf, bottomOf};
 use crate::bytes;
-use crate::marks;
 use block::Flags;
 use settings::Settings;
+use settings::marks;
 
 // The fifteen marks with the leaf's own corners, and whether its right and bottom sides print.
 pub struct Borders {

@@ -2,7 +2,6 @@
 mod body;
 mod borders;
 pub mod bytes;
-mod marks;
 mod text_lines;
 
 ghost use mathlib.Core.Path.{_≡_};

@@ -1,8 +1,7 @@
 -- What the sheet printer's answer, in an output with room for every sheet, says of what the program prints.
 use mathlib.Core.Path.{_≡_, refl, sym, _∙_}
-use Prim.Native.Nat.{ℕ, _+_, _-_, _*_, _≤_, _<_, min}
+use Prim.Native.Nat.{ℕ, _+_, _-_, _≤_, _<_, min}
 use native.Mathlib.Omega.{arith}
-use native.Mathlib.Nat.{mul-le-mul}
 use mathlib.Core.Bool.{Bool, true, false}
 use mathlib.Core.List.{List, [], _∷_, _++_}
 use lib.ListN.{length, take, drop, set, length-set, length-append, length-drop, drop-of-length-le}
@@ -18,12 +17,11 @@ use Rattle.sizes.specs.Input.{Input, refused, given, inputOf}
 use Rattle.sizes.proofs.MeasuredInput.{input-refusal}
 use Rattle.paint.specs.Paint.{Wrote}
 use Rattle.frame.specs.declared.Written.{Written}
-use Rattle.frame.specs.Frame.{W, H, tooLarge}
+use Rattle.frame.specs.Frame.{tooLarge}
 use Rattle.frame.specs.Printer.{Prints, noPrint, printTo}
-use Rattle.frame.proofs.Sheets.{large-no}
 use Rattle.sheet.specs.Sheet.{sheet}
 use Rattle.sheet.specs.Answers.{sheetOf}
-use Rattle.sheet.proofs.Bytes.{sheet-length}
+use Rattle.sheet.proofs.Bytes.{largest}
 use Rattle.program.specs.Program.{refusedText, printedOf, programOf}
 
 -- a refusal: its number is told, and the output is as it was
@@ -47,14 +45,6 @@ pub record ProgramPrints (text o : List ℕ) (w : Written) (o₁ : List ℕ) : T
 
 abbrev Tells : Input → List ℕ → Prints → Type 0
 Tells i o p = ProgramPrints (printedOf i) o (p .answer) (p .out)
-
--- the largest sheet has 160 lines of 400 columns, with a 0A between them
-pub largest : (s : Settings) (t : Tree) → tooLarge s t ≡ false → length (sheet s t) < 64160
-unfolding tooLarge
-largest s t large =
-    let n = large-no (W s t) (H s t) large in
-    let m : (W s t + 1) * H s t ≤ 401 * 160 = mul-le-mul {n₂ = 401} {m₂ = 160} (omega (arith, n .0)) (n .1) in
-    omega (arith, sheet-length s t)
 
 refusal : (i : Input) (k : ℕ) (o : List ℕ) → 1 ≤ k → k < 10 → printedOf i ≡ refusedText k → Tells i o (noPrint k o)
 refusal i k o low high e = record { no = λ z. record { is = e; digit = high; out = refl }; yes = λ z. absurd (omega (arith, z)) }

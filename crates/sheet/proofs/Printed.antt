@@ -33,7 +33,7 @@ use Rattle.layout.proofs.Fit.{LeafFits, leaves-fit}
 use Rattle.layout.proofs.Inside.{Inside, laid-inside}
 use Rattle.sizes.proofs.Heights.{natural-height}
 use Rattle.sizes.proofs.MeasuredInput.{refuses}
-use Rattle.leaf.proofs.Calls.{Taken, call-takes, call-large, call-frame, call-stride, FitsSheet}
+use Rattle.walk.proofs.Inputs.{Taken, call-takes, call-large, call-frame, call-stride, FitsSheet}
 use Rattle.sheet.specs.Sheet.{sheet}
 use Rattle.sheet.specs.Answers.{sheetOf}
 use Rattle.sheet.specs.Contracts.{refusalOf, leftSide, topSide, insideAt, Framed, beforeOf, afterOf}

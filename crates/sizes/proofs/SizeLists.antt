@@ -6,6 +6,7 @@ use native.Mathlib.Numerals.{add-one}
 use mathlib.Core.List.{List, [], _∷_, _++_}
 use lib.ListN.{length, getD, set, length-set}
 use lib.Seq.{sets, length-sets, getD-set-same, getD-set-other}
+use Rattle.common.proofs.Stores.{sets-first}
 use Rattle.sizes.specs.declared.Size.{Size}
 use Rattle.sizes.specs.Sizes.{Sizes}
 use Rattle.sizes.specs.Listed.{flat}
@@ -92,13 +93,6 @@ holds-kept xs ys l l₁ m node e h = each-with _ _ (λ z n k. rw e (natural-kept
 
 abbrev pub HoldsAll : List Sizes → ℕ → List ℕ → Type 0
 HoldsAll zs node l = Each (λ z n. Here (z .natural) (z .allotted) n l) zs node
-
-sets-below : (vs l : List ℕ) (i j : ℕ) → j < i → getD (sets l i vs) j 0 ≡ getD l j 0
-sets-below [] l i j h = refl
-sets-below (v ∷ vs) l i j h = sets-below vs (set l i v) (suc i) j (omega arith) ∙ getD-set-other l i j v 0 (λ e. omega arith)
-
-sets-first : (v : ℕ) (vs l : List ℕ) (i j : ℕ) → j ≡ i → i < length l → getD (sets l i (v ∷ vs)) j 0 ≡ v
-sets-first v vs l i j e h = rw e (sets-below vs (set l i v) (suc i) i (omega arith) ∙ getD-set-same l i v 0 h)
 
 pub stored-all : (zs : List Sizes) (l : List ℕ) (node : ℕ) → 4 * (node + length zs) ≤ length l → HoldsAll zs node (sets l (4 * node) (flat zs))
 unfolding flat

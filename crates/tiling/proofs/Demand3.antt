@@ -1,25 +1,25 @@
 -- `demand-3`, `demand-3-sizes`: demand 3 about what the calls answer and write.
 use mathlib.Core.Path.{_≡_, refl, sym, ap, _∙_, subst}
 use mathlib.Core.Logic.{_↔_}
-use Prim.Native.Nat.{ℕ, zero, suc, _+_, _-_, _*_, _≤_, _<_}
+use Prim.Native.Nat.{ℕ, suc, _+_, _-_, _*_, _≤_, _<_}
 use native.Mathlib.Omega.{arith}
 use mathlib.Core.Bool.{Bool, true, false}
 use mathlib.Core.Option.{Option, some, none}
-use mathlib.Core.List.{List, [], _∷_, map}
+use mathlib.Core.List.{List, map}
 use lib.ListN.{length, getD, getElem?, take, replicate, List·getD-map}
 use lib.Seq.{take-append-seam}
 use lib.Dec.{ltb}
 use borrow.Author.Tests.{ltb-false, le-ltb}
 use Rattle.common.specs.Choice.{pick}
 use Rattle.common.specs.Sums.{total}
-use Rattle.common.proofs.Elems.{elem-none, elem-in}
+use Rattle.common.proofs.Elems.{elem-none, elem-in, entry-at, elem-at, elem-map}
 use Rattle.common.proofs.Every.{every-elem}
-use Rattle.splits.specs.Lists.{listOf, splitList}
 use Rattle.settings.specs.declared.Settings.{Settings}
 use Rattle.settings.specs.Promises.{Ranges}
 use Rattle.tree.specs.Tree.{Axis, across, down, Tree, group, Trees, more, count, nodes}
 use Rattle.tree.specs.Promises.{subtrees, childNodes}
 use Rattle.tree.proofs.Fronts.{nodes-low, LeafIs, a-cell, an-empty, leaf-nodes}
+use Rattle.splits.specs.Lists.{listOf, splitList}
 use Rattle.text.specs.Text.{lines, joinLines}
 use Rattle.sizes.specs.declared.Size.{Size}
 use Rattle.sizes.specs.Sizes.{sep, beside, natural, Sizes, treeSizes}
@@ -30,10 +30,6 @@ use Rattle.sizes.proofs.Nodes.{subtrees-length, sizes-at, part-whole, part-own,
 use Rattle.sizes.proofs.Within.{tree-sizes-length}
 use Rattle.sizes.proofs.Listed.{groups-filled, row-filled, column-filled}
 use Rattle.sizes.proofs.MeasuredInput.{takes}
-use Rattle.block.specs.declared.Flags.{Flags}
-use Rattle.block.specs.Block.{block, blockHeight, blockWidth}
-use Rattle.block.specs.Promises.{byteAt}
-use Rattle.block.proofs.Dimensions.{Dims}
 use Rattle.collector.specs.declared.SizeRecord.{SizeRecord}
 use Rattle.collector.specs.Below.{belows}
 use Rattle.collector.specs.Records.{Outcome, collectOf}
@@ -41,10 +37,13 @@ use Rattle.collector.specs.Promises.{noSizeRecord, sizesOf, belowIn, SizesColle
 use Rattle.collector.proofs.Zipped.{noSizes}
 use Rattle.collector.proofs.Siblings.{below-at}
 use Rattle.collector.proofs.Written.{collected}
+use Rattle.block.specs.declared.Flags.{Flags}
+use Rattle.block.specs.Block.{block, blockHeight, blockWidth}
+use Rattle.block.specs.Promises.{byteAt}
+use Rattle.block.proofs.Dimensions.{Dims}
 use Rattle.layout.specs.Walk.{Placed, leafOf, leaves, insideW, insideH}
 use Rattle.layout.specs.Contracts.{placeOf}
 use Rattle.layout.specs.Promises.{Place, startAt, heightAt, widthAt, LeafAt, allottedIn}
-use Rattle.layout.proofs.Sublists.{entry-at}
 use Rattle.layout.proofs.Fit.{LeafFits, leaves-fit}
 use Rattle.layout.proofs.Named.{same-leaf, leaf-size, leaf-node, node-leaf}
 use Rattle.layout.proofs.Starts.{root-start, row-start, column-start, leaf-start}
@@ -66,19 +65,6 @@ use Rattle.sheet.proofs.Tiling.{Covers}
 use Rattle.sheet.proofs.Demand3.{covered-once, sheet-rectangle, place-owned}
 use Rattle.sheet.proofs.Calls.{sheet-printed, leaf-written}
 use Rattle.tiling.specs.Promises.{sizesWritten, allottedWritten, linesIn, byteIn, Rectangle, OneNode, leafText, startIn, blockLines, blockColumns, BlockCovers, leafSeen, insideLines, insideColumns, InRectangle, Tiles, Sharing, Tiled, SharedOut}
-
--- ---- entries of lists
-
-module _ {A : Type 0} where
-  elem-at : {X : Type 0} (xs : List A) (i : ℕ) → i < length xs → ((x : A) → getElem? xs i ≡ some x → X) → X
-  elem-at [] i h k = absurd (omega arith)
-  elem-at (x ∷ xs) zero h k = k x refl
-  elem-at (x ∷ xs) (suc i) h k = elem-at xs i (omega arith) k
-
-  elem-map : {B : Type 0} (f : A → B) (xs : List A) (i : ℕ) (x : A) → getElem? xs i ≡ some x → getElem? (map f xs) i ≡ some (f x)
-  elem-map f [] i x e = elem-none i x e
-  elem-map f (y ∷ xs) zero x e = let z : y ≡ x = cc in ap (λ v. some (f v)) z
-  elem-map f (y ∷ xs) (suc i) x e = elem-map f xs i x e
 
 -- ---- what the size collector wrote: the sizes of all nodes, and the counts of nodes below them
 

@@ -14,8 +14,8 @@ use Rattle.tree.specs.Tree.{Tree, nodes}
 use Rattle.tree.specs.Reading.{one, readTree}
 use Rattle.tree.specs.Accepted.{bytesOf}
 use Rattle.tree.proofs.Sound.{tree-sound}
-use Rattle.blank.proofs.Lengths.{is-bytes-in, bytes-length}
-use Rattle.blank.proofs.Exact.{tree-exact}
+use Rattle.tree.proofs.Lengths.{is-bytes-in, bytes-length}
+use Rattle.tree.proofs.Exact.{tree-exact}
 use Rattle.typed.specs.Scan.{TypedNode, found, scanLines}
 use Rattle.typed.specs.Typed.{rootOf, typedRefusal, typedAccepted, typedOf}
 use Rattle.typed.specs.Promises.{TypedTree, TypedBack, Unplaced, FaultAt, FaultPlace, typedNodes}

@@ -20,7 +20,7 @@ use Rattle.frame.specs.Frame.{tooLarge}
 use Rattle.frame.specs.Printer.{noPrint, printTo}
 use Rattle.sheet.specs.Sheet.{sheet}
 use Rattle.sheet.specs.Answers.{sheetOf}
-use Rattle.program.proofs.PrinterAnswer.{largest}
+use Rattle.sheet.proofs.Bytes.{largest}
 use Rattle.typed_program.specs.Words.{faultText}
 use Rattle.settings.specs.Defaults.{defaults, settingsBytes}
 use Rattle.typed.specs.declared.Typed.{Typed}

@@ -5,7 +5,8 @@ use lib.ListN.{length}
 use lib.Seq.{length-take-le}
 use Rattle.sizes.specs.Input.{inputOf}
 use Rattle.sizes.proofs.MeasuredInput.{size-list-length}
-use Rattle.leaf.proofs.Calls.{refuses-input, refuses-large, seeks-none, Taken, taken, call-large, call-stride, FitsSheet, walk-ready, list-end-in, lists, seeks-hit, misses}
+use Rattle.leaf.proofs.Calls.{refuses-input, refuses-large, seeks-none, lists, seeks-hit, misses}
+use Rattle.walk.proofs.Inputs.{Taken, taken, call-large, call-stride, FitsSheet, walk-ready, list-end-in}
 use borrow.Author.Needs.{needs}
 use Rattle.leaf.proofs.seek_leaf.Statement.{statement}
 use Rattle.leaf.proofs.seek_leaf.Tie as tie

@@ -9,7 +9,7 @@ use borrow.Rule.Slice.PartAt.{part-to-end}
 use Rattle.sizes.specs.Input.{inputOf}
 use Rattle.sizes.proofs.MeasuredInput.{size-list-length}
 use Rattle.frame.proofs.Printers.{print-refused}
-use Rattle.leaf.proofs.Calls.{Taken, taken, walk-ready, list-end-in, listing}
+use Rattle.walk.proofs.Inputs.{Taken, taken, walk-ready, list-end-in, entries-listed}
 use Rattle.sheet.specs.Contracts.{refusalOf}
 use Rattle.sheet.proofs.Printed.{sheet-refused, sheet-no, sheet-fits, framed, sheet-fitting, base-in, sheet-paints, sheet-answers}
 use borrow.Author.Needs.{needs}
@@ -151,7 +151,7 @@ paint-leaves-requires c κs =
     (c .before .before .before .before .before .before .before .before .before .before .margin-before .result) l in
     let kf = sheet-fitting k ze fe o n in
     let g = c .before .before .before .before .before .before .separator .ensures .0 in
-    let es = listing kf _ _ g (le-refl 5120) _ _ _ (c .before .before .before .before .walk-tree .ensures (walk-ready kf _ _ g (le-refl 5120))) in
+    let es = entries-listed kf _ _ g (le-refl 5120) _ _ _ (c .before .before .before .before .walk-tree .ensures (walk-ready kf _ _ g (le-refl 5120))) in
     sheet-paints k ze fe o n be le _ _ es
 
 margin-after-requires : tie.Need-margin-after-requires
@@ -171,7 +171,7 @@ returns-3 c =
     let le = part-long (c .before .before .before .before .before .before .before .before .before .before .before .before .before .before .before .before .before .margin-before .last .0) (c .before .before .before .before .before .before .before .before .before .before .before .before .before .before .before .before .before .margin-before .result) l in
     let kf = sheet-fitting k ze fe o n in
     let g = c .before .before .before .before .before .before .before .before .before .before .before .before .before .separator .ensures .0 in
-    let es = listing kf _ _ g (le-refl 5120) _ _ _
+    let es = entries-listed kf _ _ g (le-refl 5120) _ _ _
     (c .before .before .before .before .before .before .before .before .before .before .before .walk-tree .ensures (walk-ready kf _ _ g (le-refl 5120))) in
     sheet-answers k ze fe o n be le _
     (c .before .before .before .before .before .before .before .before .before .before .before .before .before .before .before .before .before .margin-before .last .0) _ _ _ _ _ _ es (c .before .before .before .before .before .before .before .before .before .before .before .before .before .before .before .before .before .before .before .before .before .before .end-lines .ensures) (c .before .before .before .before .before .before .before .before .before .before .before .before .before .before .before .before .before .margin-before .ensures .out-is) l (part-to-end (c .before .before .before .before .before .before .before .before .before .before .before .before .before .before .before .before .before .margin-before .last .0) (c .before .before .before .before .before .before .before .before .before .before .before .before .before .before .before .before .before .margin-before .result))

@@ -2,7 +2,7 @@ use Prim.Native.Nat.{_+_, _-_, _≤_, _<_}
 use native.Mathlib.Omega.{arith}
 use lib.ListN.{length}
 use borrow.Author.Needs.{needs}
-use Rattle.sizes.proofs.Passing.{Some}
+use Rattle.tree.proofs.Passing.{Some}
 use Rattle.blank.specs.Contracts.{ReadElements, textAt}
 use Rattle.blank.proofs.ElementPass.{part, Finding, find-begins, find-in, find-more, find-ends}
 use Rattle.blank.proofs.elements.find_cells.Statement.{statement}

@@ -3,7 +3,7 @@ use Prim.Native.Nat.{_+_, _-_, _≤_, _<_}
 use native.Mathlib.Omega.{arith}
 use lib.ListN.{length, take, drop, length-take}
 use borrow.Author.Needs.{needs}
-use Rattle.sizes.proofs.Passing.{Some}
+use Rattle.tree.proofs.Passing.{Some}
 use Rattle.blank.specs.Contracts.{ReadElements, textAt}
 use Rattle.blank.proofs.ElementPass.{part, PuttingBytes, put-begins, put-in, put-more, put-ends}
 use Rattle.blank.proofs.elements.put_elements.Statement.{statement}
