@@ -20,7 +20,7 @@ use Rattle.sizes.proofs.MeasuredInput.{takes}
 use Rattle.blank.specs.Alike.{recast, recast*, covered, masked}
 use Rattle.sheet.specs.Sheet.{sheet}
 use Rattle.sheet.specs.Answers.{sheetOf}
-use Rattle.sheet.specs.Promises.{bytesWritten}
+use Rattle.frame.specs.Promises.{bytesWritten}
 use Rattle.sheet.proofs.Calls.{sheet-printed}
 use Rattle.alike.specs.Own.{leafBytes, SheetOwn, LeafOwn}
 use Rattle.alike.specs.Layout.{SheetPlace, BlockPlace, SheetText, LeafText}

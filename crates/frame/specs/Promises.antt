@@ -1,5 +1,8 @@
 -- The words of the theorems about this crate's functions.
 use Prim.Native.Nat.{ℕ, _+_, _-_, _*_}
+use mathlib.Core.List.{List}
+use lib.ListN.{take}
+use Rattle.frame.specs.Printer.{Prints}
 
 -- the columns and the 0A after them
 abbrev pub strideOf : ℕ → ℕ
@@ -8,3 +11,7 @@ strideOf w = w + 1
 -- the last line has no 0A
 abbrev pub byteCount : ℕ → ℕ → ℕ
 byteCount w h = strideOf w * h - 1
+
+-- the bytes that a printer wrote
+abbrev pub bytesWritten : Prints → List ℕ
+bytesWritten p = take (p .answer .count) (p .out)

@@ -7,3 +7,4 @@ pub mod Alone
 mod Parts
 pub mod Pair
 pub mod Numbers
+pub mod Written

@@ -1,7 +1,7 @@
 -- The words of the theorems about this crate's functions.
 use Prim.Native.Nat.{ℕ, _+_, _-_, _≤_, _<_}
 use mathlib.Core.List.{List}
-use lib.ListN.{getD, take}
+use lib.ListN.{getD}
 use lib.Dec.{ltb}
 use mathlib.Core.Path.{_≡_}
 use mathlib.Core.Bool.{false}
@@ -14,9 +14,9 @@ use Rattle.sizes.specs.Input.{given, inputOf}
 use Rattle.block.specs.Promises.{byteAt}
 use Rattle.layout.specs.Walk.{walk, root, insideW, insideH}
 use Rattle.frame.specs.Frame.{tooLarge}
-use Rattle.frame.specs.Printer.{Prints}
 use Rattle.sheet.specs.Sheet.{sheet}
 use Rattle.sheet.specs.Answers.{sheetOf}
+use Rattle.frame.specs.Promises.{bytesWritten}
 
 -- the byte at line l, column k, with the margin around h lines of w columns whose bytes `inside` says: a fill, or the byte inside at the place less the margin
 unfoldable pub edgedAt : Margin → ℕ → ℕ → (ℕ → ℕ → ℕ) → ℕ → ℕ → ℕ
@@ -30,10 +30,6 @@ edgedAt m h w inside l k =
 unfoldable pub insideSheet : Settings → Tree → List ℕ
 unfolding joinLines walk root
 insideSheet s t = joinLines (walk s t (root s t) .content)
-
--- the bytes that a printer wrote
-abbrev pub bytesWritten : Prints → List ℕ
-bytesWritten p = take (p .answer .count) (p .out)
 
 -- what it has then shown of the bytes handed in
 pub record SheetOf (bs ts o : List ℕ) : Type 0 where
