@@ -7,12 +7,14 @@ use lib.ListN.{length, take, drop}
 use lib.Seq.{take-at}
 use lib.Dec.{ltb}
 use Rattle.common.specs.Choice.{pick}
+use Rattle.common.specs.Outcome.{Outcome}
 use Rattle.tree.specs.Tree.{Tree}
 use Rattle.tree.specs.Reading.{ReadOne, readTree}
 use Rattle.tree.specs.Accepted.{bytesOf}
 use Rattle.tree.proofs.Sound.{tree-sound}
+use Rattle.blank.specs.declared.Blanked.{Blanked}
 use Rattle.blank.specs.Alike.{covered, masked, Alike}
-use Rattle.blank.specs.Blank.{blanked, cellFlags, dotsFor, allCells, Blanks, noBlank, blankTo, blankIn, blankOf}
+use Rattle.blank.specs.Blank.{blanked, cellFlags, dotsFor, allCells, noBlank, blankTo, blankIn, blankOf}
 use Rattle.blank.proofs.BlankedTree.{blanked-alike}
 use Rattle.blank.proofs.Calls.{blanked-reads}
 use Rattle.alike.specs.Pairs as pairs
@@ -25,9 +27,9 @@ use Rattle.alike.proofs.Pairs.{reads-alike, trees-alike}
 use Rattle.alike.proofs.Lent.{both-through, blank-lent}
 
 -- two trees blanked into one output
-record SameBlanks (x y : Blanks) : Type 0 where
+record SameBlanks (x y : Outcome Blanked (List ℕ)) : Type 0 where
   answer : x .answer ≡ y .answer
-  tree : AlikeBytes (take (x .answer .count) (x .out)) (take (x .answer .count) (y .out))
+  tree : AlikeBytes (take (x .answer .count) (x .memory)) (take (x .answer .count) (y .memory))
 
 -- what is read is whole
 read-whole : (s : List ℕ) (t : Tree) (z n : ℕ) → readTree s ≡ ReadOne.one t z n → TreeBytes s t
@@ -45,8 +47,8 @@ written : {x y : List ℕ} → AlikeBytes x y → (o : List ℕ) → SameBlanks 
 written {x} {y} b o = let e : length y ≡ length x = sym (length-alike b) in rw e (go (ltb (length o) (length x)) e)
   where
     go : (c : Bool) → length y ≡ length x → SameBlanks
-        (pick c (noBlank 8 o) (record { answer = record { number = 0; count = length x }; out = x ++ drop (length x) o }))
-        (pick c (noBlank 8 o) (record { answer = record { number = 0; count = length x }; out = y ++ drop (length x) o }))
+        (pick c (noBlank 8 o) (record { answer = record { number = 0; count = length x }; memory = x ++ drop (length x) o }))
+        (pick c (noBlank 8 o) (record { answer = record { number = 0; count = length x }; memory = y ++ drop (length x) o }))
     go true e = kept 8 o
     go false e = record { answer = refl; tree = rw (take-at x (drop (length x) o) (length x) refl, take-at y (drop (length x) o) (length x) e) b }
 

@@ -10,9 +10,10 @@ use lib.Seq.{take-at}
 use lib.Dec.{eqb, ltb}
 use borrow.Author.Tests.{ltb-false}
 use Rattle.common.specs.Choice.{pick}
+use Rattle.common.specs.Outcome.{Outcome}
 use Rattle.tree.specs.Reading.{ReadOne, readTree}
 use Rattle.tree.specs.Accepted.{element}
-use Rattle.drafts.specs.Store.{StoreAnswer, isName, tagFor, tagIn, hasTag, fieldsOf, fieldBytes, storeOf, withoutTag, draftOf, saveTree, saveIn, saveOf, forgetOf, DraftOut, noReturn, returnFound, returnOf}
+use Rattle.drafts.specs.Store.{isName, tagFor, tagIn, hasTag, fieldsOf, fieldBytes, storeOf, withoutTag, draftOf, saveTree, saveIn, saveOf, forgetOf, noReturn, returnFound, returnOf}
 use Rattle.drafts.specs.declared.Returned.{Returned}
 use Rattle.drafts.specs.Promises.{DraftCall, answerTo, storeAfter, Fields, Formed}
 use Rattle.drafts.proofs.Fields.{read-store, store-of-length, fields-without, without-gone, without-shorter, joined-last, fields-last, element-field}
@@ -26,14 +27,14 @@ use Rattle.alike.proofs.Pairs.{reads-alike}
 use Rattle.alike.proofs.Lent.{both-through, return-lent}
 
 -- the same number, and stores of the form again
-record FormedAnswer (x y : StoreAnswer) : Type 0 where
-  number : x .number ≡ y .number
-  stores : FormedStores (x .store) (y .store)
+record FormedAnswer (x y : Outcome ℕ (List ℕ)) : Type 0 where
+  number : x .answer ≡ y .answer
+  stores : FormedStores (x .memory) (y .memory)
 
 -- two returns into one buffer
-record SameReturn (x y : DraftOut) : Type 0 where
+record SameReturn (x y : Outcome Returned (List ℕ)) : Type 0 where
   answer : x .answer ≡ y .answer
-  draft : AlikeBytes (take (x .answer .count) (x .out)) (take (x .answer .count) (y .out))
+  draft : AlikeBytes (take (x .answer .count) (x .memory)) (take (x .answer .count) (y .memory))
 
 -- ---- fields
 
@@ -125,10 +126,10 @@ module _ {o r : List ℕ} (a : FormedStores o r) where
       rw (a .reads, a .other-reads, e, ← same-has (tagFor n) (a .same)) (go (isName n) (hasTag (tagFor n) fs))
     where
       go : (c d : Bool) → FormedAnswer
-          (pick c (pick d (record { number = 0; store = storeOf (length o) (withoutTag (tagFor n) fs) }) (record { number = 19; store = o }))
-          (record { number = 19; store = o }))
-          (pick c (pick d (record { number = 0; store = storeOf (length o) (withoutTag (tagFor n) gs) }) (record { number = 19; store = r }))
-          (record { number = 19; store = r }))
+          (pick c (pick d (record { answer = 0; memory = storeOf (length o) (withoutTag (tagFor n) fs) }) (record { answer = 19; memory = o }))
+          (record { answer = 19; memory = o }))
+          (pick c (pick d (record { answer = 0; memory = storeOf (length o) (withoutTag (tagFor n) gs) }) (record { answer = 19; memory = r }))
+          (record { answer = 19; memory = r }))
       go true true = record { number = refl; stores = forgotten (tagFor n) }
       go true false = record { number = refl; stores = a }
       go false d = record { number = refl; stores = a }
@@ -143,8 +144,8 @@ module _ {o r : List ℕ} (a : FormedStores o r) where
   returned (a-draft {d} {e} s) out = let l : length e ≡ length d = sym (length-alike s) in rw l (go (ltb (length out) (length d)))
     where
       go : (c : Bool) → SameReturn
-          (pick c (noReturn 8 out) (record { answer = record { number = 0; count = length d }; out = d ++ drop (length d) out }))
-          (pick c (noReturn 8 out) (record { answer = record { number = 0; count = length d }; out = e ++ drop (length d) out }))
+          (pick c (noReturn 8 out) (record { answer = record { number = 0; count = length d }; memory = d ++ drop (length d) out }))
+          (pick c (noReturn 8 out) (record { answer = record { number = 0; count = length d }; memory = e ++ drop (length d) out }))
       go true = nothing 8 out
       go false = record {
         answer = refl;
@@ -184,8 +185,8 @@ module _ {o r : List ℕ} (a : FormedStores o r) where
         (same-last (same-without k (a .same)) pair) (omega (arith, joined-last (withoutTag k fs) (element k p)))
 
     room : (c : Bool) → isName n ≡ true → ltb (length o) (length (fieldBytes (withoutTag k fs)) + (3 + length p)) ≡ c → FormedAnswer
-        (pick c (record { number = 20; store = o }) (record { number = 0; store = storeOf (length o) (withoutTag k fs ++ (element k p ∷ [])) }))
-        (pick c (record { number = 20; store = r }) (record { number = 0; store = storeOf (length o) (withoutTag k gs ++ (element k q ∷ [])) }))
+        (pick c (record { answer = 20; memory = o }) (record { answer = 0; memory = storeOf (length o) (withoutTag k fs ++ (element k p ∷ [])) }))
+        (pick c (record { answer = 20; memory = r }) (record { answer = 0; memory = storeOf (length o) (withoutTag k gs ++ (element k q ∷ [])) }))
     room true name e = record { number = refl; stores = a }
     room false name e = record { number = refl; stores = saved name (ltb-false (length o) (length (fieldBytes (withoutTag k fs)) + (3 + length p)) e) }
 
@@ -201,14 +202,14 @@ module _ {o r : List ℕ} (a : FormedStores o r) where
     unfolding saveOf
     save-formed = rw (a .reads, a .other-reads) (go (isName n) refl)
       where
-        go : (c : Bool) → isName n ≡ c → FormedAnswer (pick c (saveTree o fs k p (readTree p)) (record { number = 19; store = o }))
-            (pick c (saveTree r gs k q (readTree q)) (record { number = 19; store = r }))
+        go : (c : Bool) → isName n ≡ c → FormedAnswer (pick c (saveTree o fs k p (readTree p)) (record { answer = 19; memory = o }))
+            (pick c (saveTree r gs k q (readTree q)) (record { answer = 19; memory = r }))
         go true name = read name (reads-alike b)
         go false name = record { number = refl; stores = a }
 
 -- ---- two stores of the form, or one of any
 
-formed-answer : {x y : StoreAnswer} → FormedAnswer x y → SameStoreAnswer x y
+formed-answer : {x y : Outcome ℕ (List ℕ)} → FormedAnswer x y → SameStoreAnswer x y
 formed-answer k = record { number = k .number; stores = pairs.two-stores (k .stores) }
 
 module _ {p q : List ℕ} (b : AlikeBytes p q) (n : ℕ) where
@@ -225,13 +226,13 @@ module _ {p q : List ℕ} (b : AlikeBytes p q) (n : ℕ) where
   save-draft-alike (pairs.two-stores a) = formed-answer (save-formed a b n)
 
 pub forget-draft-alike : {o r : List ℕ} → AlikeStores o r → (n : ℕ) → SameStoreAnswer (forgetOf o n) (forgetOf r n)
-forget-draft-alike (pairs.one-store o) n = record { number = refl; stores = pairs.one-store (forgetOf o n .store) }
+forget-draft-alike (pairs.one-store o) n = record { number = refl; stores = pairs.one-store (forgetOf o n .memory) }
 forget-draft-alike (pairs.two-stores a) n = formed-answer (forget-formed a n)
 
 pub return-draft-alike : {o r : List ℕ} → AlikeStores o r → (n : ℕ) (out other : List ℕ) → length out ≡ length other
     → BothReturn AlikeBytes out other (returnOf o n out) (returnOf r n other)
 return-draft-alike (pairs.one-store o) n out other e =
-    both-through AlikeBytes out other {y = returnOf o n out} refl (pairs.same (take (returnOf o n out .answer .count) (returnOf o n out .out)))
+    both-through AlikeBytes out other {y = returnOf o n out} refl (pairs.same (take (returnOf o n out .answer .count) (returnOf o n out .memory)))
     (return-lent out out refl o n) (return-lent out other e o n)
 return-draft-alike (pairs.two-stores a) n out other e = return-formed a n out other e
 

@@ -132,10 +132,10 @@ module _ {p q : List ℕ} (b : AlikeBytes p q) where
   leg-blank-alike ns o r e = ap (λ (k : Blanked). packed (k .number) (k .count)) (blank-texts-alike b ns o r e .answer)
 
 module _ {o r : List ℕ} (a : AlikeStores o r) (n : ℕ) where
-  pub leg-save-draft-alike : {p q : List ℕ} → AlikeBytes p q → packed (saveOf o n p .number) 0 ≡ packed (saveOf r n q .number) 0
+  pub leg-save-draft-alike : {p q : List ℕ} → AlikeBytes p q → packed (saveOf o n p .answer) 0 ≡ packed (saveOf r n q .answer) 0
   leg-save-draft-alike b = ap (λ (k : ℕ). packed k 0) (save-draft-alike b n a .number)
 
-  pub leg-forget-draft-alike : packed (forgetOf o n .number) 0 ≡ packed (forgetOf r n .number) 0
+  pub leg-forget-draft-alike : packed (forgetOf o n .answer) 0 ≡ packed (forgetOf r n .answer) 0
   leg-forget-draft-alike = ap (λ (k : ℕ). packed k 0) (forget-draft-alike a n .number)
 
   pub leg-return-draft-alike : (out other : List ℕ) → length out ≡ length other

@@ -2,13 +2,14 @@
 use mathlib.Core.Path.{_≡_, refl, sym, ap, subst, _∙_}
 use Prim.Native.Nat.{ℕ}
 use mathlib.Core.Bool.{Bool, true, false}
-use mathlib.Core.List.{List, [], _∷_, _++_, map}
+use mathlib.Core.List.{List, [], _++_, map}
 use mathlib.Core.Option.{Option, some, none}
 use lib.ListN.{length, take, drop, length-map}
 use lib.Seq.{take-at, drop-at}
 use lib.Dec.{eqb, ltb}
 use Rattle.common.specs.Choice.{pick}
 use Rattle.common.specs.Sums.{greatest}
+use Rattle.common.specs.Outcome.{Outcome}
 use Rattle.settings.specs.declared.Settings.{Settings}
 use Rattle.tree.specs.Tree.{nodes}
 use Rattle.tree.specs.Reading.{ReadOne, readTree}
@@ -58,20 +59,25 @@ module _ {A : Type 0} (Same : List A → List A → Type 0) (o r : List A) where
     other-rest = drop-at y (drop n r) n d;
   }
 
-  pub both-pick : {B R : Type 0} {a : B → R} {l : B → List A} {n : R → ℕ} (c : Bool) {x y u v : B}
-      → BothAnswer a l n Same o r x y → BothAnswer a l n Same o r u v → BothAnswer a l n Same o r (pick c x u) (pick c y v)
+  pub both-pick : {R : Type 0} {n : R → ℕ} (c : Bool) {x y u v : Outcome R (List A)}
+      → BothAnswer n Same o r x y → BothAnswer n Same o r u v → BothAnswer n Same o r (pick c x u) (pick c y v)
   both-pick true p q = p
   both-pick false p q = q
 
   -- x before r, y with the same answer, z as y but for what was lent
-  pub both-through : {B R : Type 0} {a : B → R} {l : B → List A} {n : R → ℕ} {x y z : B} → a x ≡ a y → Same (take (n (a x)) (l x)) (take (n (a x)) (l y))
-      → BothAnswer a l n Equal o o x x → BothAnswer a l n Equal o r y z → BothAnswer a l n Same o r x z
-  both-through {a = a} {l = l} {n = n} {x = x} {y = y} {z = z} e f p q =
-      let m : n (a y) ≡ n (a x) = ap n (sym e) in
-      let g : take (n (a x)) (l y) ≡ take (n (a x)) (l z) = rw m at (q .lent .front) in
+  pub both-through : {R : Type 0} {n : R → ℕ} {x y z : Outcome R (List A)} → x .answer ≡ y .answer
+      → Same (take (n (x .answer)) (x .memory)) (take (n (x .answer)) (y .memory))
+      → BothAnswer n Equal o o x x → BothAnswer n Equal o r y z → BothAnswer n Same o r x z
+  both-through {n = n} {x = x} {y = y} {z = z} e f p q =
+      let m : n (y .answer) ≡ n (x .answer) = ap n (sym e) in
+      let g : take (n (x .answer)) (y .memory) ≡ take (n (x .answer)) (z .memory) = rw m at (q .lent .front) in
       record {
         answer = e ∙ q .answer;
-        lent = record { front = subst (λ (w : List A). Same (take (n (a x)) (l x)) w) g f; rest = p .lent .rest; other-rest = rw m at (q .lent .other-rest) };
+        lent = record {
+          front = subst (λ (w : List A). Same (take (n (x .answer)) (x .memory)) w) g f;
+          rest = p .lent .rest;
+          other-rest = rw m at (q .lent .other-rest);
+        };
       }
 
 -- the same entries
@@ -180,7 +186,7 @@ module _ (o r : List ℕ) (e : length o ≡ length r) where
 
   none-given : (k : ℕ) → BothGive o r (refusal k o) (refusal k r)
   unfolding refusal
-  none-given k = record { word = refl; many = 0; lent = lent-none Equal o r refl }
+  none-given k = record { answer = refl; many = 0; lent = lent-none Equal o r refl }
 
   offer-lent : (count : ℕ) (numbers : List ℕ) → BothGive o r (offered count numbers o) (offered count numbers r)
   unfolding offered written
@@ -188,7 +194,7 @@ module _ (o r : List ℕ) (e : length o ≡ length r) where
     where
       go : (c : Bool) → BothGive o r (pick c (refusal 8 o) (written count numbers o)) (pick c (refusal 8 r) (written count numbers r))
       go true = none-given 8
-      go false = record { word = refl; many = length numbers; lent = lent-same o r (length numbers) numbers refl }
+      go false = record { answer = refl; many = length numbers; lent = lent-same o r (length numbers) numbers refl }
 
   given-pick : (c : Bool) (count k : ℕ) (numbers : List ℕ)
       → BothGive o r (pick c (offered count numbers o) (refusal k o)) (pick c (offered count numbers r) (refusal k r))
@@ -222,15 +228,13 @@ module _ (ns ms ls ks : List ℕ) (e : length ns ≡ length ms) (d : length ls �
           (pick c (noNearest 8 ns ls)
           (record {
             answer = record { number = 0; count = length l };
-            nodes = nodesOf l ++ drop (length l) ns;
-            letters = lettersOf l ++ drop (length l) ls;
+            memory = (nodesOf l ++ drop (length l) ns, lettersOf l ++ drop (length l) ls);
           })))
           (pick b (noNearest 8 ms ks)
           (pick c (noNearest 8 ms ks)
           (record {
             answer = record { number = 0; count = length l };
-            nodes = nodesOf l ++ drop (length l) ms;
-            letters = lettersOf l ++ drop (length l) ks;
+            memory = (nodesOf l ++ drop (length l) ms, lettersOf l ++ drop (length l) ks);
           })))
       go true c = none-near 8
       go false true = none-near 8

@@ -114,7 +114,7 @@ module _ (some : ℕ → Bool) (settings p q : List ℕ) (s : Settings) (t u : T
       let h = alike-in some t u e in
       rw (x, y)
       (both-through (Agree (SheetOwnIn some (given s t))) o r {y = sheetOf (given s u) o} (alike-sheet-answer s t u h o)
-      (λ i d. take-agree (sheetOf (given s t) o .answer .count) (sheetOf (given s t) o .out) (sheetOf (given s u) o .out) i
+      (λ i d. take-agree (sheetOf (given s t) o .answer .count) (sheetOf (given s t) o .memory) (sheetOf (given s u) o .memory) i
       (sheet-outs-by s t u h o i (λ c j. sheets-agree-in some s (a .ranges) t u (a .got .texts) (b .got .texts) e i j (λ z. d (c, z)))))
       (sheet-lent o o refl (given s t)) (sheet-lent o r l (given s u)))
 
@@ -126,26 +126,26 @@ module _ (some : ℕ → Bool) (settings p q : List ℕ) (s : Settings) (t u : T
       let h = alike-in some t u e in
       rw (x, y)
       (both-through (Agree (LeafOwnIn some (given s t) n)) o r {y = leafPrintOf (given s u) n o} (leaf-answers s t u h n o)
-      (λ i d. take-agree (leafPrintOf (given s t) n o .answer .count) (leafPrintOf (given s t) n o .out) (leafPrintOf (given s u) n o .out) i
+      (λ i d. take-agree (leafPrintOf (given s t) n o .answer .count) (leafPrintOf (given s t) n o .memory) (leafPrintOf (given s u) n o .memory) i
       (leaf-outs-by s t u h n o i (λ c j. leaves-agree-in some s (a .ranges) t u (a .got .texts) (b .got .texts) e n i j (λ z. d (c, z)))))
       (leaf-lent o o refl (given s t) n) (leaf-lent o r l (given s u) n))
 
 -- ---- the sheet of what `blank_texts` wrote
 
 -- bytes that were printed: one that is not 0 stands where it stood
-printed-at : (bytes r : List ℕ) (i v : ℕ) → (v ≡ 0 → ⊥) → printTo bytes r .answer .number ≡ 0 → getD bytes i 0 ≡ v → getD (printTo bytes r .out) i 0 ≡ v
+printed-at : (bytes r : List ℕ) (i v : ℕ) → (v ≡ 0 → ⊥) → printTo bytes r .answer .number ≡ 0 → getD bytes i 0 ≡ v → getD (printTo bytes r .memory) i 0 ≡ v
 printed-at bytes r i v k n e = go (ltb (length r) (length bytes)) n (ltb i (length bytes)) refl
   where
     go : (c : Bool) → pick c (noPrint 8 r) (record
-        { answer = record { number = 0; count = length bytes }; out = bytes ++ drop (length bytes) r }) .answer .number ≡ 0 → (d :
+        { answer = record { number = 0; count = length bytes }; memory = bytes ++ drop (length bytes) r }) .answer .number ≡ 0 → (d :
         Bool) → ltb i (length bytes) ≡ d
-        → getD (pick c (noPrint 8 r) (record { answer = record { number = 0; count = length bytes }; out = bytes ++ drop (length bytes) r }) .out) i 0 ≡ v
+        → getD (pick c (noPrint 8 r) (record { answer = record { number = 0; count = length bytes }; memory = bytes ++ drop (length bytes) r }) .memory) i 0 ≡ v
     go true z d h = absurd (omega arith)
     go false z true h = List·getD-append bytes (drop (length bytes) r) 0 i (ltb-true i (length bytes) h) ∙ e
     go false z false h = absurd (k (sym e ∙ List·getD-eq-default bytes 0 (ltb-false i (length bytes) h)))
 
 sheet-dots : (some : ℕ → Bool) (s : Settings) → Ranges s → (t : Tree) → Texts t → (r : List ℕ) → sheetOf (given s (blanked some 0 t)) r .answer .number ≡ 0
-    → (i : ℕ) → SheetOwnIn some (given s t) i → getD (sheetOf (given s (blanked some 0 t)) r .out) i 0 ≡ 46
+    → (i : ℕ) → SheetOwnIn some (given s t) i → getD (sheetOf (given s (blanked some 0 t)) r .memory) i 0 ≡ 46
 unfolding sheetOf
 sheet-dots some s g t x r n i own =
     let u = blanked some 0 t in
@@ -155,7 +155,7 @@ sheet-dots some s g t x r n i own =
 
 pub paper-dots : (tree ns o : List ℕ) → blankOf tree ns o .answer .number ≡ 0 → (settings r : List ℕ)
     → sheetOf (inputOf settings (blankWritten (blankOf tree ns o))) r .answer .number ≡ 0
-    → (i : ℕ) → SheetOwnIn (dotsFor ns) (inputOf settings tree) i → getD (sheetOf (inputOf settings (blankWritten (blankOf tree ns o))) r .out) i 0 ≡ 46
+    → (i : ℕ) → SheetOwnIn (dotsFor ns) (inputOf settings tree) i → getD (sheetOf (inputOf settings (blankWritten (blankOf tree ns o))) r .memory) i 0 ≡ 46
 unfolding inputOf
 paper-dots tree ns o h settings r =
     let k = paper-read tree ns o h in
@@ -165,6 +165,6 @@ paper-dots tree ns o h settings r =
     go : (x : Parsed) → readSettings settings ≡ x → (t : Tree) (z n : ℕ) → Texts t
         → sheetOf (settingsInput x (ReadOne.one (blanked (dotsFor ns) 0 t) z n)) r .answer .number ≡ 0
         → (i : ℕ) → SheetOwnIn (dotsFor ns) (settingsInput x (ReadOne.one t z n)) i
-        → getD (sheetOf (settingsInput x (ReadOne.one (blanked (dotsFor ns) 0 t) z n)) r .out) i 0 ≡ 46
+        → getD (sheetOf (settingsInput x (ReadOne.one (blanked (dotsFor ns) 0 t) z n)) r .memory) i 0 ≡ 46
     go Parsed.refused e t z n x y i own = absurd own
     go (Parsed.read s) e t z n x y i own = sheet-dots (dotsFor ns) s (settings-small settings s e) t x r y i own

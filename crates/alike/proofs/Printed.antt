@@ -10,13 +10,15 @@ use lib.Seq.{length-take-le, getD-take}
 use lib.Dec.{eqb, ltb}
 use borrow.Author.Tests.{ltb-true, ltb-false}
 use Rattle.common.specs.Choice.{pick}
+use Rattle.common.specs.Outcome.{Outcome}
 use Rattle.settings.specs.declared.Settings.{Settings}
 use Rattle.settings.specs.Reading.{settingsEnd}
 use Rattle.tree.specs.Tree.{Tree}
 use Rattle.sizes.specs.Input.{Input, refused, given, inputOf}
 use Rattle.layout.specs.Walk.{Placed, leaves}
+use Rattle.frame.specs.declared.Written.{Written}
 use Rattle.frame.specs.Frame.{tooLarge}
-use Rattle.frame.specs.Printer.{Prints, noPrint, printTo}
+use Rattle.frame.specs.Printer.{noPrint, printTo}
 use Rattle.leaf.specs.Answers.{leafNumbered, printFound, leafPrintOf}
 use Rattle.sheet.specs.Sheet.{sheet}
 use Rattle.sheet.specs.Answers.{sheetOf}
@@ -38,8 +40,8 @@ module _ (o x y : List ℕ) (e : length x ≡ length y) where
   print-answer : printTo x o .answer ≡ printTo y o .answer
   print-answer = rw e (go (ltb (length o) (length y)))
     where
-      go : (c : Bool) → pick c (noPrint 8 o) (record { answer = record { number = 0; count = length y }; out = x ++ drop (length y) o }) .answer
-          ≡ pick c (noPrint 8 o) (record { answer = record { number = 0; count = length y }; out = y ++ drop (length y) o }) .answer
+      go : (c : Bool) → pick c (noPrint 8 o) (record { answer = record { number = 0; count = length y }; memory = x ++ drop (length y) o }) .answer
+          ≡ pick c (noPrint 8 o) (record { answer = record { number = 0; count = length y }; memory = y ++ drop (length y) o }) .answer
       go true = refl
       go false = refl
 
@@ -51,11 +53,11 @@ append-agree (a ∷ x) (b ∷ y) r e zero h = h (omega arith)
 append-agree (a ∷ x) (b ∷ y) r e (suc i) h = append-agree x y r (omega arith) i (λ k. h (omega arith))
 
 print-agree : (o x y : List ℕ) → length x ≡ length y → (i : ℕ) → (i < length x → getD x i 0 ≡ getD y i 0)
-    → getD (printTo x o .out) i 0 ≡ getD (printTo y o .out) i 0
+    → getD (printTo x o .memory) i 0 ≡ getD (printTo y o .memory) i 0
 print-agree o x y e i h = rw e (go (ltb (length o) (length y)))
   where
-    go : (c : Bool) → getD (pick c (noPrint 8 o) (record { answer = record { number = 0; count = length y }; out = x ++ drop (length y) o }) .out) i 0
-        ≡ getD (pick c (noPrint 8 o) (record { answer = record { number = 0; count = length y }; out = y ++ drop (length y) o }) .out) i 0
+    go : (c : Bool) → getD (pick c (noPrint 8 o) (record { answer = record { number = 0; count = length y }; memory = x ++ drop (length y) o }) .memory) i 0
+        ≡ getD (pick c (noPrint 8 o) (record { answer = record { number = 0; count = length y }; memory = y ++ drop (length y) o }) .memory) i 0
     go true = refl
     go false = append-agree x y (drop (length y) o) e i h
 
@@ -65,7 +67,7 @@ some? : Option Placed → Bool
 some? none = false
 some? (some l) = true
 
-abbrev leafTo : Bool → List ℕ → List ℕ → Prints
+abbrev leafTo : Bool → List ℕ → List ℕ → Outcome Written (List ℕ)
 leafTo there x o = pick there (printTo x o) (noPrint 9 o)
 
 found-to : (s : Settings) (o : List ℕ) (x : Option Placed) → printFound s o x ≡ leafTo (some? x) (foundBytes s x) o
@@ -104,20 +106,20 @@ module _ (s : Settings) (t u : Tree) (h : Alike t u) where
   -- where the bytes to print agree
   pub leaf-outs-by : (n : ℕ) (o : List ℕ) (i : ℕ)
       → (tooLarge s t ≡ false → i < length (leafBytes s t n) → getD (leafBytes s t n) i 0 ≡ getD (leafBytes s u n) i 0)
-      → getD (leafPrintOf (given s t) n o .out) i 0 ≡ getD (leafPrintOf (given s u) n o .out) i 0
+      → getD (leafPrintOf (given s t) n o .memory) i 0 ≡ getD (leafPrintOf (given s u) n o .memory) i 0
   unfolding leafPrintOf leafBytes
   leaf-outs-by n o i d =
       rw (found-to s o (leafNumbered n (leaves s t)), found-to s o (leafNumbered n (leaves s u)), large-alike, there-alike n)
       (go (tooLarge s t) refl (some? (leafNumbered n (leaves s t))))
     where
       go : (c : Bool) → tooLarge s t ≡ c → (k : Bool)
-          → getD (pick c (noPrint 6 o) (leafTo k (leafBytes s t n) o) .out) i 0 ≡ getD (pick c (noPrint 6 o) (leafTo k (leafBytes s u n) o) .out) i 0
+          → getD (pick c (noPrint 6 o) (leafTo k (leafBytes s t n) o) .memory) i 0 ≡ getD (pick c (noPrint 6 o) (leafTo k (leafBytes s u n) o) .memory) i 0
       go true e k = refl
       go false e true = print-agree o (leafBytes s t n) (leafBytes s u n) (leaf-lengths s t u h n) i (d e)
       go false e false = refl
 
   leaf-outs : (n : ℕ) (o : List ℕ) (i : ℕ) → (LeafOwn (given s t) n i → ⊥)
-      → getD (leafPrintOf (given s t) n o .out) i 0 ≡ getD (leafPrintOf (given s u) n o .out) i 0
+      → getD (leafPrintOf (given s t) n o .memory) i 0 ≡ getD (leafPrintOf (given s u) n o .memory) i 0
   leaf-outs n o i d = leaf-outs-by n o i (λ e j. leaves-agree s t u h n i j (λ z. d (e, z)))
 
   pub alike-sheet-answer : (o : List ℕ) → sheetOf (given s t) o .answer ≡ sheetOf (given s u) o .answer
@@ -130,16 +132,16 @@ module _ (s : Settings) (t u : Tree) (h : Alike t u) where
       go false e = e
 
   pub sheet-outs-by : (o : List ℕ) (i : ℕ) → (tooLarge s t ≡ false → i < length (sheet s t) → getD (sheet s t) i 0 ≡ getD (sheet s u) i 0)
-      → getD (sheetOf (given s t) o .out) i 0 ≡ getD (sheetOf (given s u) o .out) i 0
+      → getD (sheetOf (given s t) o .memory) i 0 ≡ getD (sheetOf (given s u) o .memory) i 0
   unfolding sheetOf
   sheet-outs-by o i d = rw large-alike (go (tooLarge s t) refl)
     where
       go : (c : Bool) → tooLarge s t ≡ c
-          → getD (pick c (noPrint 6 o) (printTo (sheet s t) o) .out) i 0 ≡ getD (pick c (noPrint 6 o) (printTo (sheet s u) o) .out) i 0
+          → getD (pick c (noPrint 6 o) (printTo (sheet s t) o) .memory) i 0 ≡ getD (pick c (noPrint 6 o) (printTo (sheet s u) o) .memory) i 0
       go true e = refl
       go false e = print-agree o (sheet s t) (sheet s u) (sheet-lengths s t u h) i (d e)
 
-  sheet-outs : (o : List ℕ) (i : ℕ) → (SheetOwn (given s t) i → ⊥) → getD (sheetOf (given s t) o .out) i 0 ≡ getD (sheetOf (given s u) o .out) i 0
+  sheet-outs : (o : List ℕ) (i : ℕ) → (SheetOwn (given s t) i → ⊥) → getD (sheetOf (given s t) o .memory) i 0 ≡ getD (sheetOf (given s u) o .memory) i 0
   sheet-outs o i d = sheet-outs-by o i (λ e j. sheets-agree s t u h i j (λ z. d (e, z)))
 
   -- a sheet and 0A, or a text z where it is too large
@@ -179,18 +181,18 @@ module _ {p q : List ℕ} (b : AlikeBytes p q) (settings : List ℕ) where
   y = inputOf settings q
 
   one-leaf : (n : ℕ) (o : List ℕ)
-      → (leafPrintOf x n o .answer ≡ leafPrintOf y n o .answer) × Agree (LeafOwn x n) (leafPrintOf x n o .out) (leafPrintOf y n o .out)
+      → (leafPrintOf x n o .answer ≡ leafPrintOf y n o .answer) × Agree (LeafOwn x n) (leafPrintOf x n o .memory) (leafPrintOf y n o .memory)
   one-leaf n o = go (inputs-alike b settings)
     where
       go : {x y : Input} → SameInput x y
-          → (leafPrintOf x n o .answer ≡ leafPrintOf y n o .answer) × Agree (LeafOwn x n) (leafPrintOf x n o .out) (leafPrintOf y n o .out)
+          → (leafPrintOf x n o .answer ≡ leafPrintOf y n o .answer) × Agree (LeafOwn x n) (leafPrintOf x n o .memory) (leafPrintOf y n o .memory)
       go (pairs.both-refused k) = (refl, λ i d. refl)
       go (pairs.both-given s t u h) = (leaf-answers s t u h n o, leaf-outs s t u h n o)
 
-  one-sheet : (o : List ℕ) → (sheetOf x o .answer ≡ sheetOf y o .answer) × Agree (SheetOwn x) (sheetOf x o .out) (sheetOf y o .out)
+  one-sheet : (o : List ℕ) → (sheetOf x o .answer ≡ sheetOf y o .answer) × Agree (SheetOwn x) (sheetOf x o .memory) (sheetOf y o .memory)
   one-sheet o = go (inputs-alike b settings)
     where
-      go : {x y : Input} → SameInput x y → (sheetOf x o .answer ≡ sheetOf y o .answer) × Agree (SheetOwn x) (sheetOf x o .out) (sheetOf y o .out)
+      go : {x y : Input} → SameInput x y → (sheetOf x o .answer ≡ sheetOf y o .answer) × Agree (SheetOwn x) (sheetOf x o .memory) (sheetOf y o .memory)
       go (pairs.both-refused k) = (refl, λ i d. refl)
       go (pairs.both-given s t u h) = (alike-sheet-answer s t u h o, sheet-outs s t u h o)
 
@@ -198,14 +200,14 @@ module _ {p q : List ℕ} (b : AlikeBytes p q) (settings : List ℕ) where
   print-leaf-alike n o r e =
       let k = one-leaf n o in
       both-through (Agree (LeafOwn x n)) o r {y = leafPrintOf y n o} (k .0)
-      (λ i d. take-agree (leafPrintOf x n o .answer .count) (leafPrintOf x n o .out) (leafPrintOf y n o .out) i (k .1 i d)) (leaf-lent o o refl x n)
+      (λ i d. take-agree (leafPrintOf x n o .answer .count) (leafPrintOf x n o .memory) (leafPrintOf y n o .memory) i (k .1 i d)) (leaf-lent o o refl x n)
       (leaf-lent o r e y n)
 
   pub print-sheet-alike : (o r : List ℕ) → length o ≡ length r → BothPrint (Agree (SheetOwn x)) o r (sheetOf x o) (sheetOf y r)
   print-sheet-alike o r e =
       let k = one-sheet o in
       both-through (Agree (SheetOwn x)) o r {y = sheetOf y o} (k .0)
-      (λ i d. take-agree (sheetOf x o .answer .count) (sheetOf x o .out) (sheetOf y o .out) i (k .1 i d)) (sheet-lent o o refl x) (sheet-lent o r e y)
+      (λ i d. take-agree (sheetOf x o .answer .count) (sheetOf x o .memory) (sheetOf y o .memory) i (k .1 i d)) (sheet-lent o o refl x) (sheet-lent o r e y)
 
 -- ---- the program
 

@@ -3,23 +3,16 @@ use mathlib.Core.Path.{_≡_}
 use Prim.Native.Nat.{ℕ}
 use mathlib.Core.List.{List}
 use lib.ListN.{getD, take, drop}
+use Rattle.common.specs.Outcome.{Outcome}
 use Rattle.collector.specs.declared.SizeRecord.{SizeRecord}
 use Rattle.collector.specs.declared.Collected.{Collected}
-use Rattle.collector.specs.Records.{Outcome}
 use Rattle.frame.specs.declared.Written.{Written}
-use Rattle.frame.specs.Printer.{Prints}
 use Rattle.places.specs.declared.FoundPlaces.{FoundPlaces}
-use Rattle.places.specs.Together.{Finds}
 use Rattle.fold.specs.declared.Folded.{Folded}
-use Rattle.fold.specs.Answers.{Folds}
-use Rattle.widen.specs.Answers.{Nearests}
+use Rattle.widen.specs.declared.Widened.{Widened}
 use Rattle.drafts.specs.declared.Returned.{Returned}
-use Rattle.drafts.specs.Store.{DraftOut}
 use Rattle.blank.specs.declared.Blanked.{Blanked}
-use Rattle.blank.specs.Blank.{Blanks}
-use Rattle.c_encoding.specs.Numbers.{Gives}
 use Rattle.typed.specs.declared.Typed.{Typed}
-use Rattle.typed.specs.Typed.{TypedOutcome}
 
 -- o and r were lent, and hold x and y afterwards: n entries were written at the front of each, that are so related; past them each is as it was
 pub record Lent {A : Type 0} (Same : List A → List A → Type 0) (n : ℕ) (o r x y : List A) : Type 0 where
@@ -28,10 +21,9 @@ pub record Lent {A : Type 0} (Same : List A → List A → Type 0) (n : ℕ) (o 
   pub other-rest : drop n y ≡ drop n r
 
 -- equal answers, and as many entries written as they count; a refusal counts none
-pub record BothAnswer {A B R : Type 0} (answerIn : B → R) (outIn : B → List A) (count : R → ℕ) (Same : List A → List A → Type 0) (o r : List A) (x y : B) :
-    Type 0 where
-  pub answer : answerIn x ≡ answerIn y
-  pub lent : Lent Same (count (answerIn x)) o r (outIn x) (outIn y)
+pub record BothAnswer {R A : Type 0} (count : R → ℕ) (Same : List A → List A → Type 0) (o r : List A) (x y : Outcome R (List A)) : Type 0 where
+  pub answer : x .answer ≡ y .answer
+  pub lent : Lent Same (count (x .answer)) o r (x .memory) (y .memory)
 
 -- equal entries
 abbrev pub Equal : {A : Type 0} → List A → List A → Type 0
@@ -43,35 +35,35 @@ Agree Own x y = (i : ℕ) → (Own i → ⊥) → getD x i 0 ≡ getD y i 0
 
 -- ---- by the call
 
-abbrev pub BothCollect : List SizeRecord → List SizeRecord → Outcome → Outcome → Type 0
-BothCollect o r x y = BothAnswer (λ (z : Outcome). z .answer) (λ (z : Outcome). z .list) (λ (k : Collected). k .count) Equal o r x y
+abbrev pub BothCollect : List SizeRecord → List SizeRecord → Outcome Collected (List SizeRecord) → Outcome Collected (List SizeRecord) → Type 0
+BothCollect o r x y = BothAnswer (λ (k : Collected). k .count) Equal o r x y
 
-abbrev pub BothPrint : (List ℕ → List ℕ → Type 0) → List ℕ → List ℕ → Prints → Prints → Type 0
-BothPrint Same o r x y = BothAnswer (λ (z : Prints). z .answer) (λ (z : Prints). z .out) (λ (k : Written). k .count) Same o r x y
+abbrev pub BothPrint : (List ℕ → List ℕ → Type 0) → List ℕ → List ℕ → Outcome Written (List ℕ) → Outcome Written (List ℕ) → Type 0
+BothPrint Same o r x y = BothAnswer (λ (k : Written). k .count) Same o r x y
 
-abbrev pub BothFind : List ℕ → List ℕ → Finds → Finds → Type 0
-BothFind o r x y = BothAnswer (λ (z : Finds). z .answer) (λ (z : Finds). z .list) (λ (k : FoundPlaces). k .count) Equal o r x y
+abbrev pub BothFind : List ℕ → List ℕ → Outcome FoundPlaces (List ℕ) → Outcome FoundPlaces (List ℕ) → Type 0
+BothFind o r x y = BothAnswer (λ (k : FoundPlaces). k .count) Equal o r x y
 
-abbrev pub BothFold : List ℕ → List ℕ → Folds → Folds → Type 0
-BothFold o r x y = BothAnswer (λ (z : Folds). z .answer) (λ (z : Folds). z .list) (λ (k : Folded). k .columns) Equal o r x y
+abbrev pub BothFold : List ℕ → List ℕ → Outcome Folded (List ℕ) → Outcome Folded (List ℕ) → Type 0
+BothFold o r x y = BothAnswer (λ (k : Folded). k .columns) Equal o r x y
 
-abbrev pub BothReturn : (List ℕ → List ℕ → Type 0) → List ℕ → List ℕ → DraftOut → DraftOut → Type 0
-BothReturn Same o r x y = BothAnswer (λ (z : DraftOut). z .answer) (λ (z : DraftOut). z .out) (λ (k : Returned). k .count) Same o r x y
+abbrev pub BothReturn : (List ℕ → List ℕ → Type 0) → List ℕ → List ℕ → Outcome Returned (List ℕ) → Outcome Returned (List ℕ) → Type 0
+BothReturn Same o r x y = BothAnswer (λ (k : Returned). k .count) Same o r x y
 
-abbrev pub BothBlank : (List ℕ → List ℕ → Type 0) → List ℕ → List ℕ → Blanks → Blanks → Type 0
-BothBlank Same o r x y = BothAnswer (λ (z : Blanks). z .answer) (λ (z : Blanks). z .out) (λ (k : Blanked). k .count) Same o r x y
+abbrev pub BothBlank : (List ℕ → List ℕ → Type 0) → List ℕ → List ℕ → Outcome Blanked (List ℕ) → Outcome Blanked (List ℕ) → Type 0
+BothBlank Same o r x y = BothAnswer (λ (k : Blanked). k .count) Same o r x y
 
-abbrev pub BothType : (List ℕ → List ℕ → Type 0) → List ℕ → List ℕ → TypedOutcome → TypedOutcome → Type 0
-BothType Same o r x y = BothAnswer (λ (z : TypedOutcome). z .answer) (λ (z : TypedOutcome). z .out) (λ (k : Typed). k .count) Same o r x y
+abbrev pub BothType : (List ℕ → List ℕ → Type 0) → List ℕ → List ℕ → Outcome Typed (List ℕ) → Outcome Typed (List ℕ) → Type 0
+BothType Same o r x y = BothAnswer (λ (k : Typed). k .count) Same o r x y
 
 -- two lists are lent
-pub record BothNearest (ns ms ls ks : List ℕ) (x y : Nearests) : Type 0 where
+pub record BothNearest (ns ms ls ks : List ℕ) (x y : Outcome Widened (List ℕ × List ℕ)) : Type 0 where
   pub answer : x .answer ≡ y .answer
-  pub nodes : Lent Equal (x .answer .count) ns ms (x .nodes) (y .nodes)
-  pub letters : Lent Equal (x .answer .count) ls ks (x .letters) (y .letters)
+  pub nodes : Lent Equal (x .answer .count) ns ms (x .memory .0) (y .memory .0)
+  pub letters : Lent Equal (x .answer .count) ls ks (x .memory .1) (y .memory .1)
 
 -- a C function: equal words, and some numbers written
-pub record BothGive (o r : List ℕ) (x y : Gives) : Type 0 where
-  pub word : x .word ≡ y .word
+pub record BothGive (o r : List ℕ) (x y : Outcome ℕ (List ℕ)) : Type 0 where
+  pub answer : x .answer ≡ y .answer
   pub many : ℕ
-  pub lent : Lent Equal many o r (x .out) (y .out)
+  pub lent : Lent Equal many o r (x .memory) (y .memory)

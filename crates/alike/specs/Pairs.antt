@@ -5,6 +5,7 @@ use mathlib.Core.Bool.{true}
 use mathlib.Core.List.{List, [], _∷_, map}
 use mathlib.Core.Option.{some}
 use lib.ListN.{length, getD, take, drop}
+use Rattle.common.specs.Outcome.{Outcome}
 use Rattle.settings.specs.declared.Settings.{Settings}
 use Rattle.settings.specs.Reading.{settingsEnd}
 use Rattle.tree.specs.Tree.{Axis, Tree}
@@ -14,10 +15,10 @@ use Rattle.tree.specs.Promises.{Texts, Encodes, contents, PlanEncodes}
 use Rattle.tree.specs.Planning.{Plan, Plans}
 use Rattle.text.specs.Text.{lineLengths}
 use Rattle.sizes.specs.Input.{Input, refused, given, inputOf}
-use Rattle.drafts.specs.Store.{tagIn, fieldsOf, StoreAnswer}
+use Rattle.drafts.specs.Store.{tagIn, fieldsOf}
+use Rattle.plan.specs.Answers.{PlanInput}
 use Rattle.drafts.specs.Promises.{DraftCall, save, forget, return}
 use Rattle.blank.specs.Alike.{covered, Alike}
-use Rattle.plan.specs.Answers.{PlanInput}
 
 -- ---- bytes, of a tree or of none
 
@@ -151,9 +152,9 @@ pub data AlikeStores : List ℕ → List ℕ → Type 0 where
   two-stores : {o r : List ℕ} → FormedStores o r → AlikeStores o r
 
 -- the same number, and stores that are again alike
-pub record SameStoreAnswer (x y : StoreAnswer) : Type 0 where
-  pub number : x .number ≡ y .number
-  pub stores : AlikeStores (x .store) (y .store)
+pub record SameStoreAnswer (x y : Outcome ℕ (List ℕ)) : Type 0 where
+  pub number : x .answer ≡ y .answer
+  pub stores : AlikeStores (x .memory) (y .memory)
 
 -- two calls of one kind under one name, of bytes that are alike, with as much lent; two series of such calls
 pub data SameCall : DraftCall → DraftCall → Type 0 where

@@ -93,7 +93,7 @@ module _ (tree ns : List ℕ) (k : TreeHere tree) where
     blank-no-room h l = to-out h ∙ rw (as-long, lt-ltb (length o) (length tree) l)
 
     pub blanks : ok ≡ true → length tree ≤ length o → (ds o₁ : List ℕ) → (ok ≡ true → DotsAre ns ds) → o₁ ≡ sets o 0 (bytesOf (blanked (isDotted ds) 0 t))
-        → blankOf tree ns o ≡ record { answer = record { number = 0; count = length tree }; out = o₁ }
+        → blankOf tree ns o ≡ record { answer = record { number = 0; count = length tree }; memory = o₁ }
     blanks h l ds o₁ d e =
         let s : List ℕ = bytesOf (blanked (dotsFor ns) 0 t) in
         let n : length s ≡ length tree = as-long in

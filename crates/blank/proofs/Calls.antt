@@ -11,12 +11,13 @@ use mir.Syntax.{w8}
 use mir.Val.{Fits}
 use Rattle.common.specs.Choice.{pick}
 use Rattle.common.specs.Every.{Every}
+use Rattle.common.specs.Outcome.{Outcome}
 use Rattle.tree.specs.Tree.{Tree, nodes}
 use Rattle.tree.specs.Reading.{ReadOne, readTree}
 use Rattle.tree.specs.Accepted.{bytesOf}
 use Rattle.tree.proofs.Sound.{tree-sound, tree-refusal}
 use Rattle.tree.proofs.Complete.{tree-bytes}
-use Rattle.blank.specs.Blank.{blanked, cellFlags, dotsFor, allCells, Blanks, noBlank, blankIn, blankOf}
+use Rattle.blank.specs.Blank.{blanked, cellFlags, dotsFor, allCells, noBlank, blankIn, blankOf}
 use Rattle.blank.specs.declared.Blanked.{Blanked}
 use Rattle.blank.specs.Paper.{blankWritten, PaperRead, PaperOf}
 use Rattle.blank.proofs.Lengths.{blanked-length}
@@ -24,7 +25,7 @@ use Rattle.tree.proofs.Exact.{tree-exact}
 use Rattle.blank.proofs.BlankedTree.{blanked-nodes, blanked-depth, blanked-texts, blanked-alike, blanked-outside}
 
 -- a number that is no Cell's is 9, an output that is too short 8
-zero-is : (c d : Bool) (o : List ℕ) (x : Blanks) → pick c (pick d (noBlank 8 o) x) (noBlank 9 o) .answer .number ≡ 0
+zero-is : (c d : Bool) (o : List ℕ) (x : Outcome Blanked (List ℕ)) → pick c (pick d (noBlank 8 o) x) (noBlank 9 o) .answer .number ≡ 0
     → pick c (pick d (noBlank 8 o) x) (noBlank 9 o) ≡ x
 zero-is true true o x h = absurd (omega arith)
 zero-is true false o x h = refl
@@ -104,16 +105,16 @@ each-byte (b ∷ s) h = (omega (arith, h 0), each-byte s (λ i. h (suc i)))
 
 -- what `blank_texts` ensures, from its answer and its output
 pub all-told : (tree ns o : List ℕ) (r : Blanked) (out : List ℕ) → ((i : ℕ) → Fits w8 (getD tree i 0)) → r ≡ blankOf tree ns o .answer
-    → out ≡ blankOf tree ns o .out
-    → (r ≡ blankOf tree ns o .answer) × ((out ≡ blankOf tree ns o .out) × (r .number ≡ 0 → PaperOf tree ns (record { answer = r; out = out })))
+    → out ≡ blankOf tree ns o .memory
+    → (r ≡ blankOf tree ns o .answer) × ((out ≡ blankOf tree ns o .memory) × (r .number ≡ 0 → PaperOf tree ns (record { answer = r; memory = out })))
 all-told tree ns o r out h e d = (
   e,
   (
     d,
     λ z.
         let k : blankOf tree ns o .answer .number ≡ 0 = sym (ap (λ (x : Blanked). x .number) e) ∙ z in
-        let b : _≡_ {A = Blanks} (blankOf tree ns o) (record { answer = r; out = out }) =
-        sym (ap₂ (λ (x : Blanked) (y : List ℕ). record { answer = x; out = y }) e d) in
-        subst (λ (x : Blanks). PaperOf tree ns x) b (paper-made tree ns o (each-byte tree h) k),
+        let b : _≡_ {A = Outcome Blanked (List ℕ)} (blankOf tree ns o) (record { answer = r; memory = out }) =
+        sym (ap₂ (λ (x : Blanked) (y : List ℕ). record { answer = x; memory = y }) e d) in
+        subst (λ (x : Outcome Blanked (List ℕ)). PaperOf tree ns x) b (paper-made tree ns o (each-byte tree h) k),
   ),
 )

@@ -5,6 +5,7 @@ use mathlib.Core.List.{List, [], _∷_, _++_, map}
 use lib.ListN.{length, getD, drop}
 use lib.Dec.{eqb, ltb}
 use Rattle.common.specs.Choice.{pick}
+use Rattle.common.specs.Outcome.{Outcome}
 use Rattle.tree.specs.Tree.{Tree, Trees, cell, group, none, more, nodes}
 use Rattle.tree.specs.Reading.{ReadOne, readTree}
 use Rattle.tree.specs.Accepted.{bytesOf}
@@ -57,27 +58,22 @@ unfoldable pub allCells : List ℕ → List ℕ → Bool
 allCells cs [] = true
 allCells cs (k ∷ ks) = pick (eqb (getD cs k 0) 0) false (allCells cs ks)
 
--- ---- the answer
-
--- the number and the bytes written; what the lent output then holds
-pub record Blanks : Type 0 where
-  pub answer : Blanked
-  pub out : List ℕ
+-- ---- the answer, and what the lent output then holds
 
 -- a refusal writes nothing
-abbrev pub noBlank : ℕ → List ℕ → Blanks
-noBlank k o = record { answer = record { number = k; count = 0 }; out = o }
+abbrev pub noBlank : ℕ → List ℕ → Outcome Blanked (List ℕ)
+noBlank k o = record { answer = record { number = k; count = 0 }; memory = o }
 
 -- 8 where the output is shorter than the tree; its bytes past the tree stay
-abbrev pub blankTo : List ℕ → List ℕ → Blanks
+abbrev pub blankTo : List ℕ → List ℕ → Outcome Blanked (List ℕ)
 blankTo bytes o = pick (ltb (length o) (length bytes)) (noBlank 8 o) (record
-    { answer = record { number = 0; count = length bytes }; out = bytes ++ drop (length bytes) o })
+    { answer = record { number = 0; count = length bytes }; memory = bytes ++ drop (length bytes) o })
 
 -- 9 where a number names no Cell
-abbrev pub blankIn : ReadOne → List ℕ → List ℕ → Blanks
+abbrev pub blankIn : ReadOne → List ℕ → List ℕ → Outcome Blanked (List ℕ)
 blankIn (ReadOne.refused k) ns o = noBlank k o
 blankIn (ReadOne.one t z n) ns o = pick (allCells (cellFlags t) ns) (blankTo (bytesOf (blanked (dotsFor ns) 0 t)) o) (noBlank 9 o)
 
-unfoldable pub blankOf : List ℕ → List ℕ → List ℕ → Blanks
+unfoldable pub blankOf : List ℕ → List ℕ → List ℕ → Outcome Blanked (List ℕ)
 unfolding readTree allCells cellFlags bytesOf blanked dotsFor
 blankOf tree ns o = blankIn (readTree tree) ns o

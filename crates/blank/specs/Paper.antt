@@ -4,10 +4,12 @@ use Prim.Native.Nat.{ℕ, suc, _+_}
 use mathlib.Core.Bool.{Bool, false}
 use mathlib.Core.List.{List, [], _∷_, _++_, map}
 use lib.ListN.{length, getD, take}
+use Rattle.common.specs.Outcome.{Outcome}
 use Rattle.tree.specs.Tree.{Tree, Trees, cell, group, none, more, nodes}
 use Rattle.tree.specs.Reading.{ReadOne, readTree}
+use Rattle.blank.specs.declared.Blanked.{Blanked}
 use Rattle.blank.specs.Alike.{Alike}
-use Rattle.blank.specs.Blank.{blanked, dotsFor, Blanks}
+use Rattle.blank.specs.Blank.{blanked, dotsFor}
 
 -- for each byte of the tree whose first node is n: whether it is in a text that is blanked
 unfoldable mutual
@@ -22,11 +24,11 @@ unfoldable mutual
   inTexts* dots n (more t ts) = inTexts dots n t ++ inTexts* dots (n + nodes t) ts
 
 -- what was written
-abbrev pub blankWritten : Blanks → List ℕ
-blankWritten o = take (o .answer .count) (o .out)
+abbrev pub blankWritten : Outcome Blanked (List ℕ) → List ℕ
+blankWritten o = take (o .answer .count) (o .memory)
 
 -- where the call answers 0
-pub record PaperRead (tree ns : List ℕ) (o : Blanks) : Type 0 where
+pub record PaperRead (tree ns : List ℕ) (o : Outcome Blanked (List ℕ)) : Type 0 where
   pub tree-is : Tree
   pub size : ℕ
   pub count : ℕ
@@ -38,6 +40,6 @@ pub record PaperRead (tree ns : List ℕ) (o : Blanks) : Type 0 where
   pub same-length : length (blankWritten o) ≡ length tree
 
 -- and it is equal outside those texts
-pub record PaperOf (tree ns : List ℕ) (o : Blanks) : Type 0 where
+pub record PaperOf (tree ns : List ℕ) (o : Outcome Blanked (List ℕ)) : Type 0 where
   pub read : PaperRead tree ns o
   pub outside : (i : ℕ) → getD (inTexts (dotsFor ns) 0 (read .tree-is)) i false ≡ false → getD (blankWritten o) i 0 ≡ getD tree i 0

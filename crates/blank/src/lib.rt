@@ -24,8 +24,8 @@ fn refuse(n: u8) -> Blanked
 // The tree with the texts of the Cells that `nodes` names, or of all where it names none, is written to the front of `out`.
 pub fn blank_texts(tree: &[u8], nodes: &[u16], out: &mut [u8]) -> Blanked
     ensures { λ r. ⌜ r ≡ blankOf (now (tree .entry)) (now (nodes .entry)) (now (out .entry)) .answer ⌝ }
-    ensures written { λ _. ⌜ now (out .exit) ≡ blankOf (now (tree .entry)) (now (nodes .entry)) (now (out .entry)) .out ⌝ }
-    ensures paper { λ r. ⌜ (r .number ≡ 0 → PaperOf (now (tree .entry)) (now (nodes .entry)) (record { answer = r; out = now (out .exit) })) ⌝ }
+    ensures written { λ _. ⌜ now (out .exit) ≡ blankOf (now (tree .entry)) (now (nodes .entry)) (now (out .entry)) .memory ⌝ }
+    ensures paper { λ r. ⌜ (r .number ≡ 0 → PaperOf (now (tree .entry)) (now (nodes .entry)) (record { answer = r; memory = now (out .exit) })) ⌝ }
 {
     let read = tree::read_tree(tree);
     let number = read.number;

@@ -31,8 +31,8 @@ ghost use Rattle.widen.specs.Answers.{nearestOf};
 
 #[no_mangle]
 pub extern "C" fn leg_read_settings(bytes: &[u8], out: &mut [u16]) -> u64
-    ensures { λ r. ⌜ r ≡ settingsGiven (readSettings (now (bytes .entry))) (now (out .entry)) .word ⌝ }
-    ensures shown { λ _. ⌜ now (out .exit) ≡ settingsGiven (readSettings (now (bytes .entry))) (now (out .entry)) .out ⌝ }
+    ensures { λ r. ⌜ r ≡ settingsGiven (readSettings (now (bytes .entry))) (now (out .entry)) .answer ⌝ }
+    ensures shown { λ _. ⌜ now (out .exit) ≡ settingsGiven (readSettings (now (bytes .entry))) (now (out .entry)) .memory ⌝ }
 {
     let read = settings::read_settings(bytes);
     if read.number != 0 {
@@ -48,8 +48,8 @@ pub extern "C" fn leg_read_settings(bytes: &[u8], out: &mut [u16]) -> u64
 
 #[no_mangle]
 pub extern "C" fn leg_read_margin(bytes: &[u8], out: &mut [u16]) -> u64
-    ensures { λ r. ⌜ r ≡ marginGiven (readSettings (now (bytes .entry))) (now (out .entry)) .word ⌝ }
-    ensures shown { λ _. ⌜ now (out .exit) ≡ marginGiven (readSettings (now (bytes .entry))) (now (out .entry)) .out ⌝ }
+    ensures { λ r. ⌜ r ≡ marginGiven (readSettings (now (bytes .entry))) (now (out .entry)) .answer ⌝ }
+    ensures shown { λ _. ⌜ now (out .exit) ≡ marginGiven (readSettings (now (bytes .entry))) (now (out .entry)) .memory ⌝ }
 {
     let taken = settings::read_settings(bytes);
     if taken.number != 0 {
@@ -73,8 +73,8 @@ pub extern "C" fn leg_read_tree(tree: &[u8]) -> u64
 
 #[no_mangle]
 pub extern "C" fn leg_sizes(settings: &[u8], tree: &[u8], list: &mut [u16]) -> u64
-    ensures { λ r. ⌜ r ≡ sizesGiven (inputOf (now (settings .entry)) (now (tree .entry))) (now (list .entry)) .word ⌝ }
-    ensures shown { λ _. ⌜ now (list .exit) ≡ sizesGiven (inputOf (now (settings .entry)) (now (tree .entry))) (now (list .entry)) .out ⌝ }
+    ensures { λ r. ⌜ r ≡ sizesGiven (inputOf (now (settings .entry)) (now (tree .entry))) (now (list .entry)) .answer ⌝ }
+    ensures shown { λ _. ⌜ now (list .exit) ≡ sizesGiven (inputOf (now (settings .entry)) (now (tree .entry))) (now (list .entry)) .memory ⌝ }
 {
     let mut four = [0u16; 2048];
     let m = sizes::measure_tree(settings, tree, &mut four);
@@ -91,8 +91,9 @@ pub extern "C" fn leg_sizes(settings: &[u8], tree: &[u8], list: &mut [u16]) -> u
 
 #[no_mangle]
 pub extern "C" fn leg_leaf_record(settings: &[u8], tree: &[u8], node: usize, out: &mut [u16]) -> u64
-    ensures { λ r. ⌜ r ≡ recordGiven (leafRecordOf (inputOf (now (settings .entry)) (now (tree .entry))) node) (now (out .entry)) .word ⌝ }
-    ensures shown { λ _. ⌜ now (out .exit) ≡ recordGiven (leafRecordOf (inputOf (now (settings .entry)) (now (tree .entry))) node) (now (out .entry)) .out ⌝ }
+    ensures { λ r. ⌜ r ≡ recordGiven (leafRecordOf (inputOf (now (settings .entry)) (now (tree .entry))) node) (now (out .entry)) .answer ⌝ }
+    ensures shown { λ _.
+        ⌜ now (out .exit) ≡ recordGiven (leafRecordOf (inputOf (now (settings .entry)) (now (tree .entry))) node) (now (out .entry)) .memory ⌝ }
 {
     let r = leaf::leaf_record(settings, tree, node);
     if r.number != 0 {
@@ -109,7 +110,7 @@ pub extern "C" fn leg_leaf_record(settings: &[u8], tree: &[u8], node: usize, out
 pub extern "C" fn leg_print_leaf(settings: &[u8], tree: &[u8], node: usize, out: &mut [u8]) -> u64
     ensures { λ r. ⌜ r ≡ packed (leafPrintOf (inputOf (now (settings .entry)) (now (tree .entry))) node (now (out .entry)) .answer .number) (leafPrintOf
         (inputOf (now (settings .entry)) (now (tree .entry))) node (now (out .entry)) .answer .count) ⌝ }
-    ensures shown { λ _. ⌜ now (out .exit) ≡ leafPrintOf (inputOf (now (settings .entry)) (now (tree .entry))) node (now (out .entry)) .out ⌝ }
+    ensures shown { λ _. ⌜ now (out .exit) ≡ leafPrintOf (inputOf (now (settings .entry)) (now (tree .entry))) node (now (out .entry)) .memory ⌝ }
 {
     let w = leaf::print_leaf(settings, tree, node, out);
     pack(w.number, w.count)
@@ -119,7 +120,7 @@ pub extern "C" fn leg_print_leaf(settings: &[u8], tree: &[u8], node: usize, out:
 pub extern "C" fn leg_print_sheet(settings: &[u8], tree: &[u8], out: &mut [u8]) -> u64
     ensures { λ r. ⌜ r ≡ packed (sheetOf (inputOf (now (settings .entry)) (now (tree .entry))) (now (out .entry)) .answer .number) (sheetOf
         (inputOf (now (settings .entry)) (now (tree .entry))) (now (out .entry)) .answer .count) ⌝ }
-    ensures shown { λ _. ⌜ now (out .exit) ≡ sheetOf (inputOf (now (settings .entry)) (now (tree .entry))) (now (out .entry)) .out ⌝ }
+    ensures shown { λ _. ⌜ now (out .exit) ≡ sheetOf (inputOf (now (settings .entry)) (now (tree .entry))) (now (out .entry)) .memory ⌝ }
 {
     let w = sheet::print_sheet(settings, tree, out);
     pack(w.number, w.count)
@@ -133,9 +134,9 @@ pub extern "C" fn leg_place(
     column: usize,
     out: &mut [u16],
 ) -> u64
-    ensures { λ r. ⌜ r ≡ placeGiven (leafPlaceOf (inputOf (now (settings .entry)) (now (tree .entry))) line column) (now (out .entry)) .word ⌝ }
+    ensures { λ r. ⌜ r ≡ placeGiven (leafPlaceOf (inputOf (now (settings .entry)) (now (tree .entry))) line column) (now (out .entry)) .answer ⌝ }
     ensures shown { λ _.
-        ⌜ now (out .exit) ≡ placeGiven (leafPlaceOf (inputOf (now (settings .entry)) (now (tree .entry))) line column) (now (out .entry)) .out ⌝ }
+        ⌜ now (out .exit) ≡ placeGiven (leafPlaceOf (inputOf (now (settings .entry)) (now (tree .entry))) line column) (now (out .entry)) .memory ⌝ }
 {
     let p = places::leaf_at(settings, tree, line, column);
     if p.number != 0 {
@@ -160,7 +161,7 @@ pub extern "C" fn leg_places(
         (now (answers .entry)) .answer .number) (findsOf (inputOf (now (settings .entry)) (now (tree .entry))) (now (places .entry))
         (now (answers .entry)) .answer .count) ⌝ }
     ensures listed { λ _.
-        ⌜ now (answers .exit) ≡ findsOf (inputOf (now (settings .entry)) (now (tree .entry))) (now (places .entry)) (now (answers .entry)) .list ⌝ }
+        ⌜ now (answers .exit) ≡ findsOf (inputOf (now (settings .entry)) (now (tree .entry))) (now (places .entry)) (now (answers .entry)) .memory ⌝ }
     ensures told { λ _. ⌜ now (read .exit)
         ≡ readAfter (findsOf (inputOf (now (settings .entry)) (now (tree .entry))) (now (places .entry)) (now (answers .entry)) .answer) (now (read .entry)) ⌝ }
 {
@@ -183,7 +184,7 @@ pub extern "C" fn leg_fold(
 ) -> u64
     ensures { λ r. ⌜ r ≡ packed (foldOf (inputOf (now (settings .entry)) (now (tree .entry))) width budget (now (columns .entry)) .answer .number) (foldOf
         (inputOf (now (settings .entry)) (now (tree .entry))) width budget (now (columns .entry)) .answer .columns) ⌝ }
-    ensures listed { λ _. ⌜ now (columns .exit) ≡ foldOf (inputOf (now (settings .entry)) (now (tree .entry))) width budget (now (columns .entry)) .list ⌝ }
+    ensures listed { λ _. ⌜ now (columns .exit) ≡ foldOf (inputOf (now (settings .entry)) (now (tree .entry))) width budget (now (columns .entry)) .memory ⌝ }
     ensures told { λ _. ⌜ now (found .exit)
         ≡ foundAfter (foldOf (inputOf (now (settings .entry)) (now (tree .entry))) width budget (now (columns .entry)) .answer) (now (found .entry)) ⌝ }
 {
@@ -219,9 +220,9 @@ pub extern "C" fn leg_widen(
         (now (letters .entry)) .answer .number) (nearestOf (inputOf (now (settings .entry)) (now (tree .entry))) (now (nodes .entry))
         (now (letters .entry)) .answer .count) ⌝ }
     ensures nodes { λ _.
-        ⌜ now (nodes .exit) ≡ nearestOf (inputOf (now (settings .entry)) (now (tree .entry))) (now (nodes .entry)) (now (letters .entry)) .nodes ⌝ }
+        ⌜ now (nodes .exit) ≡ nearestOf (inputOf (now (settings .entry)) (now (tree .entry))) (now (nodes .entry)) (now (letters .entry)) .memory .0 ⌝ }
     ensures letters { λ _.
-        ⌜ now (letters .exit) ≡ nearestOf (inputOf (now (settings .entry)) (now (tree .entry))) (now (nodes .entry)) (now (letters .entry)) .letters ⌝ }
+        ⌜ now (letters .exit) ≡ nearestOf (inputOf (now (settings .entry)) (now (tree .entry))) (now (nodes .entry)) (now (letters .entry)) .memory .1 ⌝ }
 {
     let r = widen::nearest_cells(settings, tree, nodes, letters);
     pack(r.number, r.count)
@@ -229,8 +230,8 @@ pub extern "C" fn leg_widen(
 
 #[no_mangle]
 pub extern "C" fn leg_short_splits3(pieces: &[u16], count: usize, w: u16, out: &mut [u16]) -> u64
-    ensures { λ r. ⌜ r ≡ splits3Given (now (pieces .entry)) count w (now (out .entry)) .word ⌝ }
-    ensures shown { λ _. ⌜ now (out .exit) ≡ splits3Given (now (pieces .entry)) count w (now (out .entry)) .out ⌝ }
+    ensures { λ r. ⌜ r ≡ splits3Given (now (pieces .entry)) count w (now (out .entry)) .answer ⌝ }
+    ensures shown { λ _. ⌜ now (out .exit) ≡ splits3Given (now (pieces .entry)) count w (now (out .entry)) .memory ⌝ }
 {
     let number = cuts::refused_by(pieces.len(), count, out.len(), 1029);
     if number != 0 {
@@ -249,9 +250,9 @@ pub extern "C" fn leg_short_splits3_lent(
     w: u16,
     out: &mut [u16],
 ) -> u64
-    ensures { λ r. ⌜ r ≡ lentGiven (now (pieces .entry)) count w (now (out .entry)) .word ⌝ }
-    ensures left { λ _. ⌜ now (pieces .exit) ≡ lentGiven (now (pieces .entry)) count w (now (out .entry)) .first ⌝ }
-    ensures shown { λ _. ⌜ now (out .exit) ≡ lentGiven (now (pieces .entry)) count w (now (out .entry)) .second ⌝ }
+    ensures { λ r. ⌜ r ≡ lentGiven (now (pieces .entry)) count w (now (out .entry)) .answer ⌝ }
+    ensures left { λ _. ⌜ now (pieces .exit) ≡ lentGiven (now (pieces .entry)) count w (now (out .entry)) .memory .0 ⌝ }
+    ensures shown { λ _. ⌜ now (out .exit) ≡ lentGiven (now (pieces .entry)) count w (now (out .entry)) .memory .1 ⌝ }
 {
     let number = cuts::refused_by(pieces.len(), count, out.len(), 517);
     if number != 0 {
@@ -273,9 +274,9 @@ pub extern "C" fn leg_short_splits(
     positions: &mut [u32],
     left: &mut [u16],
 ) -> u64
-    ensures { λ r. ⌜ r ≡ splitsGiven (now (pieces .entry)) count w (now (positions .entry)) (now (left .entry)) .word ⌝ }
-    ensures listed { λ _. ⌜ now (positions .exit) ≡ splitsGiven (now (pieces .entry)) count w (now (positions .entry)) (now (left .entry)) .first ⌝ }
-    ensures rest { λ _. ⌜ now (left .exit) ≡ splitsGiven (now (pieces .entry)) count w (now (positions .entry)) (now (left .entry)) .second ⌝ }
+    ensures { λ r. ⌜ r ≡ splitsGiven (now (pieces .entry)) count w (now (positions .entry)) (now (left .entry)) .answer ⌝ }
+    ensures listed { λ _. ⌜ now (positions .exit) ≡ splitsGiven (now (pieces .entry)) count w (now (positions .entry)) (now (left .entry)) .memory .0 ⌝ }
+    ensures rest { λ _. ⌜ now (left .exit) ≡ splitsGiven (now (pieces .entry)) count w (now (positions .entry)) (now (left .entry)) .memory .1 ⌝ }
 {
     let room = lists::min(positions.len(), left.len());
     let number = cuts::refused_by(pieces.len(), count, room, 513);

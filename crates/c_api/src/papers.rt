@@ -8,7 +8,7 @@ ghost use Rattle.blank.specs.Blank.{blankOf};
 pub extern "C" fn leg_blank(tree: &[u8], nodes: &[u16], out: &mut [u8]) -> u64
     ensures { λ r. ⌜ r ≡ packed (blankOf (now (tree .entry)) (now (nodes .entry)) (now (out .entry)) .answer .number) (blankOf (now (tree .entry))
         (now (nodes .entry)) (now (out .entry)) .answer .count) ⌝ }
-    ensures written { λ _. ⌜ now (out .exit) ≡ blankOf (now (tree .entry)) (now (nodes .entry)) (now (out .entry)) .out ⌝ }
+    ensures written { λ _. ⌜ now (out .exit) ≡ blankOf (now (tree .entry)) (now (nodes .entry)) (now (out .entry)) .memory ⌝ }
 {
     let r = blank::blank_texts(tree, nodes, out);
     pack(r.number, r.count)

@@ -6,16 +6,16 @@ ghost use Rattle.drafts.specs.Store.{saveOf, forgetOf, returnOf};
 
 #[no_mangle]
 pub extern "C" fn leg_save_draft(store: &mut [u8], name: u8, tree: &[u8]) -> u64
-    ensures { λ r. ⌜ r ≡ packed (saveOf (now (store .entry)) name (now (tree .entry)) .number) 0 ⌝ }
-    ensures kept { λ _. ⌜ now (store .exit) ≡ saveOf (now (store .entry)) name (now (tree .entry)) .store ⌝ }
+    ensures { λ r. ⌜ r ≡ packed (saveOf (now (store .entry)) name (now (tree .entry)) .answer) 0 ⌝ }
+    ensures kept { λ _. ⌜ now (store .exit) ≡ saveOf (now (store .entry)) name (now (tree .entry)) .memory ⌝ }
 {
     pack(drafts::save_draft(store, name, tree), 0)
 }
 
 #[no_mangle]
 pub extern "C" fn leg_forget_draft(store: &mut [u8], name: u8) -> u64
-    ensures { λ r. ⌜ r ≡ packed (forgetOf (now (store .entry)) name .number) 0 ⌝ }
-    ensures kept { λ _. ⌜ now (store .exit) ≡ forgetOf (now (store .entry)) name .store ⌝ }
+    ensures { λ r. ⌜ r ≡ packed (forgetOf (now (store .entry)) name .answer) 0 ⌝ }
+    ensures kept { λ _. ⌜ now (store .exit) ≡ forgetOf (now (store .entry)) name .memory ⌝ }
 {
     pack(drafts::forget_draft(store, name), 0)
 }
@@ -24,7 +24,7 @@ pub extern "C" fn leg_forget_draft(store: &mut [u8], name: u8) -> u64
 pub extern "C" fn leg_return_draft(store: &[u8], name: u8, out: &mut [u8]) -> u64
     ensures { λ r. ⌜ r ≡ packed (returnOf (now (store .entry)) name (now (out .entry)) .answer .number) (returnOf (now (store .entry)) name
         (now (out .entry)) .answer .count) ⌝ }
-    ensures copied { λ _. ⌜ now (out .exit) ≡ returnOf (now (store .entry)) name (now (out .entry)) .out ⌝ }
+    ensures copied { λ _. ⌜ now (out .exit) ≡ returnOf (now (store .entry)) name (now (out .entry)) .memory ⌝ }
 {
     let r = drafts::return_draft(store, name, out);
     pack(r.number, r.count)

@@ -10,6 +10,7 @@ use lib.ListN.{length, take, length-append, length-take}
 use lib.Seq.{sets, paste, take-all, take-length}
 use borrow.Author.Tests.{ltb-true, ltb-false, eq-eqb, ne-eqb}
 use Rattle.common.specs.Choice.{pick}
+use Rattle.common.specs.Outcome.{Outcome}
 use Rattle.splits.specs.declared.SplitList.{SplitList}
 use Rattle.splits.specs.declared.CutParts.{CutParts}
 use Rattle.splits.specs.declared.InPlaceCut.{InPlaceCut}
@@ -18,7 +19,7 @@ use Rattle.splits.specs.Lists.{splitList}
 use Rattle.splits.specs.Cuts.{cutOf, inPlaceCut, shortOf}
 use Rattle.c_encoding.specs.Words.{packed}
 use Rattle.c_encoding.specs.Numbers.{refusal, written, overwritten, bit, listNumbers, positionNumbers}
-use Rattle.c_encoding.specs.Cuts.{refusedBy, cutNumbers, splits3Given, GivesTwo, refusalTwo, writtenTwo, keptNumbers, keptGiven, lentGiven, shortGiven, splitsGiven}
+use Rattle.c_encoding.specs.Cuts.{refusedBy, cutNumbers, splits3Given, writtenTwo, keptNumbers, keptGiven, lentGiven, shortGiven, splitsGiven}
 use Rattle.c_encoding.proofs.Copies.{stored-on}
 use Rattle.common.proofs.Stores.{sets-front}
 use Rattle.c_encoding.proofs.WrittenNumbers.{Same, same-written}
@@ -88,14 +89,15 @@ module _ (s : List ℕ) (n w : ℕ) (o : List ℕ) (r : ℕ) (er : r ≡ refused
 
 -- ---- two lent lists
 
-abbrev pub SameTwo : ℕ → List ℕ → List ℕ → GivesTwo → Type 0
-SameTwo word a b g = (word ≡ g .word) × ((a ≡ g .first) × (b ≡ g .second))
+abbrev pub SameTwo : ℕ → List ℕ → List ℕ → Outcome ℕ (List ℕ × List ℕ) → Type 0
+SameTwo word a b g = (word ≡ g .answer) × ((a ≡ g .memory .0) × (b ≡ g .memory .1))
 
-pub two-refusal : (k : ℕ) {word : ℕ} {a b : List ℕ} {g : GivesTwo} → g ≡ refusalTwo k a b → word ≡ packed k 0 → SameTwo word a b g
-unfolding refusalTwo
+pub two-refusal : (k : ℕ) {word : ℕ} {a b : List ℕ} {g : Outcome ℕ (List ℕ × List ℕ)} → g ≡ refusal k (a, b) → word ≡ packed k 0 → SameTwo word a b g
+unfolding refusal
 two-refusal k e w = rw e (w, (refl, refl))
 
-two-written : (count : ℕ) (l m o p a b : List ℕ) {word : ℕ} {g : GivesTwo} → g ≡ writtenTwo count l m o p → word ≡ packed 0 count → a ≡ overwritten l o
+two-written : (count : ℕ) (l m o p a b : List ℕ) {word : ℕ} {g : Outcome ℕ (List ℕ × List ℕ)} → g ≡ writtenTwo count l m o p → word ≡ packed 0 count
+    → a ≡ overwritten l o
     → b ≡ overwritten m p → SameTwo word a b g
 unfolding writtenTwo
 two-written count l m o p a b e w x y = rw e (w, (x, y))
@@ -103,7 +105,7 @@ two-written count l m o p a b e w x y = rw e (w, (x, y))
 -- ---- `short_splits3` on a lent list
 
 module _ (s : List ℕ) (n w : ℕ) (o : List ℕ) (r : ℕ) (er : r ≡ refusedBy (length s) n (length o) 517) where
-  pub lent-refused : (r ≡ 0 → ⊥) → lentGiven s n w o ≡ refusalTwo r s o
+  pub lent-refused : (r ≡ 0 → ⊥) → lentGiven s n w o ≡ refusal r (s, o)
   unfolding lentGiven
   lent-refused z = rw (← er, ne-eqb _ _ z)
 
@@ -121,7 +123,7 @@ module _ (s : List ℕ) (n w : ℕ) (o : List ℕ) (r : ℕ) (er : r ≡ refused
 -- ---- `short_splits`
 
 module _ (s : List ℕ) (n w : ℕ) (o p : List ℕ) (r : ℕ) (er : r ≡ refusedBy (length s) n (min (length o) (length p)) 513) where
-  pub splits-refused : (r ≡ 0 → ⊥) → splitsGiven s n w o p ≡ refusalTwo r o p
+  pub splits-refused : (r ≡ 0 → ⊥) → splitsGiven s n w o p ≡ refusal r (o, p)
   unfolding splitsGiven
   splits-refused z = rw (← er, ne-eqb _ _ z)
 

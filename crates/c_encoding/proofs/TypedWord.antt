@@ -5,10 +5,11 @@ use native.Mathlib.Omega.{arith}
 use mathlib.Core.List.{List}
 use lib.ListN.{length}
 use borrow.Author.Tests.{lt-ltb, le-ltb, ne-eqb}
+use Rattle.common.specs.Outcome.{Outcome}
 use Rattle.tree.specs.Accepted.{bytesOf}
 use Rattle.tree.proofs.Sound.{tree-sound}
 use Rattle.typed.specs.declared.Typed.{Typed}
-use Rattle.typed.specs.Typed.{TypedOutcome, rootOf, typedOf}
+use Rattle.typed.specs.Typed.{rootOf, typedOf}
 use Rattle.typed.proofs.Answered.{typed-cases}
 use Rattle.typed.proofs.Faults.{fault-at}
 use Rattle.typed.proofs.AcceptedLists.{typed-meant}
@@ -62,7 +63,7 @@ tells-count n h =
 
 -- ---- every typed list
 
-abbrev Told : TypedOutcome → Type 0
+abbrev Told : Outcome Typed (List ℕ) → Type 0
 Told x = (x .answer .line ≤ 131073) × (x .answer .column ≤ 131073) → WordTells (typedWord (x .answer)) (x .answer)
 
 pub typed-word : (t o : List ℕ) → WordTells (typedWord (typedOf t o .answer)) (typedOf t o .answer)

@@ -4,13 +4,14 @@ use mathlib.Core.List.{List, _∷_, _++_}
 use lib.ListN.{length, take}
 use lib.Dec.{ltb, eqb}
 use Rattle.common.specs.Choice.{pick}
+use Rattle.common.specs.Outcome.{Outcome}
 use Rattle.splits.specs.declared.CutParts.{CutParts}
 use Rattle.splits.specs.declared.InPlaceCut.{InPlaceCut}
 use Rattle.splits.specs.declared.ShortParts.{ShortParts}
 use Rattle.splits.specs.Lists.{splitList}
 use Rattle.splits.specs.Cuts.{cutOf, inPlaceCut, shortOf}
 use Rattle.c_encoding.specs.Words.{packed}
-use Rattle.c_encoding.specs.Numbers.{Gives, refusal, written, overwritten, bit, listNumbers, positionNumbers}
+use Rattle.c_encoding.specs.Numbers.{refusal, written, overwritten, bit, listNumbers, positionNumbers}
 
 -- ---- what all three refuse
 
@@ -30,24 +31,15 @@ abbrev pub cutNumbers : CutParts → List ℕ
 cutNumbers k = bit (k .split) ∷ k .pair .taken ∷ k .pair .rest ∷ (listNumbers (k .taken) ++ listNumbers (k .left))
 
 -- the list is the first n of s; those past them are not looked at
-unfoldable pub splits3Given : List ℕ → ℕ → ℕ → List ℕ → Gives
+unfoldable pub splits3Given : List ℕ → ℕ → ℕ → List ℕ → Outcome ℕ (List ℕ)
 splits3Given s n w o =
     unless (refusedBy (length s) n (length o) 1029) (λ k. refusal k o) (written 1029 (cutNumbers (cutOf (splitList (take n s)) w)) o)
 
 -- ---- two lent lists
 
-pub record GivesTwo : Type 0 where
-  pub word : ℕ
-  pub first : List ℕ
-  pub second : List ℕ
-
--- a refusal writes to neither
-unfoldable pub refusalTwo : ℕ → List ℕ → List ℕ → GivesTwo
-refusalTwo k o p = record { word = packed k 0; first = o; second = p }
-
--- numbers at the front of each
-unfoldable pub writtenTwo : ℕ → List ℕ → List ℕ → List ℕ → List ℕ → GivesTwo
-writtenTwo count a b o p = record { word = packed 0 count; first = overwritten a o; second = overwritten b p }
+-- numbers at the front of each, in the order of the lists
+unfoldable pub writtenTwo : ℕ → List ℕ → List ℕ → List ℕ → List ℕ → Outcome ℕ (List ℕ × List ℕ)
+writtenTwo count a b o p = record { answer = packed 0 count; memory = (overwritten a o, overwritten b p) }
 
 -- ---- `short_splits3` on a lent list
 
@@ -56,18 +48,18 @@ abbrev pub keptNumbers : InPlaceCut → List ℕ
 keptNumbers k = bit (k .answer .split) ∷ k .answer .pair .taken ∷ k .answer .pair .rest ∷ k .list .count ∷ listNumbers (k .answer .taken)
 
 -- the list left, with 0 past its count, takes the place of the lent one, as far as that goes; numbers past 512 stay
-unfoldable pub keptGiven : InPlaceCut → List ℕ → List ℕ → GivesTwo
+unfoldable pub keptGiven : InPlaceCut → List ℕ → List ℕ → Outcome ℕ (List ℕ × List ℕ)
 keptGiven k s o = writtenTwo 517 (take (length s) (k .list .pieces)) (keptNumbers k) s o
 
-unfoldable pub lentGiven : List ℕ → ℕ → ℕ → List ℕ → GivesTwo
-lentGiven s n w o = unless (refusedBy (length s) n (length o) 517) (λ k. refusalTwo k s o) (keptGiven (inPlaceCut (splitList (take n s)) w) s o)
+unfoldable pub lentGiven : List ℕ → ℕ → ℕ → List ℕ → Outcome ℕ (List ℕ × List ℕ)
+lentGiven s n w o = unless (refusedBy (length s) n (length o) 517) (λ k. refusal k (s, o)) (keptGiven (inPlaceCut (splitList (take n s)) w) s o)
 
 -- ---- `short_splits`
 
-unfoldable pub shortGiven : ShortParts → List ℕ → List ℕ → GivesTwo
+unfoldable pub shortGiven : ShortParts → List ℕ → List ℕ → Outcome ℕ (List ℕ × List ℕ)
 shortGiven k o p = writtenTwo 513 (positionNumbers (k .positions)) (listNumbers (k .left)) o p
 
 -- the room is that of the shorter of the two lists
-unfoldable pub splitsGiven : List ℕ → ℕ → ℕ → List ℕ → List ℕ → GivesTwo
+unfoldable pub splitsGiven : List ℕ → ℕ → ℕ → List ℕ → List ℕ → Outcome ℕ (List ℕ × List ℕ)
 splitsGiven s n w o p =
-    unless (refusedBy (length s) n (min (length o) (length p)) 513) (λ k. refusalTwo k o p) (shortGiven (shortOf (splitList (take n s)) w) o p)
+    unless (refusedBy (length s) n (min (length o) (length p)) 513) (λ k. refusal k (o, p)) (shortGiven (shortOf (splitList (take n s)) w) o p)

@@ -5,6 +5,7 @@ use mathlib.Core.List.{List, [], _∷_, _++_}
 use lib.ListN.{length, drop}
 use lib.Dec.{ltb, eqb}
 use Rattle.common.specs.Choice.{pick}
+use Rattle.common.specs.Outcome.{Outcome}
 use Rattle.settings.specs.declared.Settings.{Settings}
 use Rattle.settings.specs.Reading.{Parsed}
 use Rattle.settings.specs.Defaults.{settingsBytes, marginBytes}
@@ -20,24 +21,19 @@ use Rattle.block.specs.declared.Flags.{Flags}
 use Rattle.leaf.specs.declared.LeafRecord.{LeafRecord}
 use Rattle.c_encoding.specs.Words.{packed}
 
--- what a function answers, and what the list lent to it then holds
-pub record Gives : Type 0 where
-  pub word : ℕ
-  pub out : List ℕ
-
--- a refusal writes nothing
-unfoldable pub refusal : ℕ → List ℕ → Gives
-refusal k o = record { word = packed k 0; out = o }
+-- the word of a refusal, which writes nothing, to one list or to two
+unfoldable pub refusal : {M : Type 0} → ℕ → M → Outcome ℕ M
+refusal k m = record { answer = packed k 0; memory = m }
 
 -- numbers at the front of a list; what is past them stays
 abbrev pub overwritten : List ℕ → List ℕ → List ℕ
 overwritten numbers o = numbers ++ drop (length numbers) o
 
-unfoldable pub written : ℕ → List ℕ → List ℕ → Gives
-written count numbers o = record { word = packed 0 count; out = overwritten numbers o }
+unfoldable pub written : ℕ → List ℕ → List ℕ → Outcome ℕ (List ℕ)
+written count numbers o = record { answer = packed 0 count; memory = overwritten numbers o }
 
 -- the same, or 8 where the list is too short for them
-unfoldable pub offered : ℕ → List ℕ → List ℕ → Gives
+unfoldable pub offered : ℕ → List ℕ → List ℕ → Outcome ℕ (List ℕ)
 unfolding refusal written
 offered count numbers o = pick (ltb (length o) (length numbers)) (refusal 8 o) (written count numbers o)
 
@@ -52,15 +48,15 @@ abbrev pub marginNumbers : Settings → List ℕ
 marginNumbers s = drop 3 (marginBytes (s .margin))
 
 -- 1, or so many numbers of what was read
-unfoldable pub readGiven : ℕ → (Settings → List ℕ) → Parsed → List ℕ → Gives
+unfoldable pub readGiven : ℕ → (Settings → List ℕ) → Parsed → List ℕ → Outcome ℕ (List ℕ)
 unfolding refusal offered
 readGiven count numbers Parsed.refused o = refusal 1 o
 readGiven count numbers (Parsed.read s) o = offered count (numbers s) o
 
-abbrev pub settingsGiven : Parsed → List ℕ → Gives
+abbrev pub settingsGiven : Parsed → List ℕ → Outcome ℕ (List ℕ)
 settingsGiven p o = readGiven 28 settingsNumbers p o
 
-abbrev pub marginGiven : Parsed → List ℕ → Gives
+abbrev pub marginGiven : Parsed → List ℕ → Outcome ℕ (List ℕ)
 marginGiven p o = readGiven 8 marginNumbers p o
 
 -- ---- sizes
@@ -70,7 +66,7 @@ unfoldable pub sizeNumbers : List SizeRecord → List ℕ
 sizeNumbers [] = []
 sizeNumbers (z ∷ zs) = z .«natural_width» ∷ z .«natural_height» ∷ z .width ∷ z .height ∷ z .below ∷ sizeNumbers zs
 
-unfoldable pub sizesGiven : Input → List ℕ → Gives
+unfoldable pub sizesGiven : Input → List ℕ → Outcome ℕ (List ℕ)
 unfolding refusal offered
 sizesGiven (refused k) o = refusal k o
 sizesGiven (given s t) o = offered (nodes t) (sizeNumbers (recordsOf s t)) o
@@ -98,6 +94,6 @@ frontNumbers node z f p =
 abbrev pub recordNumbers : LeafRecord → List ℕ
 recordNumbers r = frontNumbers (r .node) (r .size) (r .flags) (r .pair) ++ (listNumbers (r .horizontal) ++ listNumbers (r .vertical))
 
-unfoldable pub recordGiven : LeafRecord → List ℕ → Gives
+unfoldable pub recordGiven : LeafRecord → List ℕ → Outcome ℕ (List ℕ)
 unfolding refusal offered
 recordGiven r o = pick (eqb (r .number) 0) (offered 1039 (recordNumbers r) o) (refusal (r .number) o)

@@ -6,14 +6,16 @@ use lib.Seq.{sets}
 use lib.Dec.{ltb}
 use lib.ListN.{take, drop, replicate}
 use Rattle.common.specs.Choice.{pick}
+use Rattle.common.specs.Outcome.{Outcome}
 use Rattle.settings.specs.declared.Settings.{Settings}
 use Rattle.tree.specs.Tree.{Tree, Trees, nodes, nodes*}
 use Rattle.tree.specs.Promises.{Encodes, EncodesAll}
 use Rattle.sizes.specs.Input.{Input, refused, given}
+use Rattle.collector.specs.declared.Collected.{Collected}
 use Rattle.collector.specs.declared.SizeRecord.{SizeRecord}
 use Rattle.collector.specs.declared.LentSizes.{LentSizes}
 use Rattle.collector.specs.declared.Sizing.{Sizing}
-use Rattle.collector.specs.Records.{recordsOf, Outcome, noCollected, collectOf}
+use Rattle.collector.specs.Records.{recordsOf, noCollected, collectOf}
 use Rattle.collector.specs.Promises.{noSizeRecord}
 
 -- s begins with a tree, whose nodes from `node` on have room in a list of the length len
@@ -36,8 +38,8 @@ pub record CountsBelow (node n : ℕ) (counts : List ℕ) (r : ℕ) (b₀ b : Li
   pub stored : b ≡ sets b₀ node counts
 
 -- with the first `room` entries of a list lent, and the rest after them
-abbrev pub lentWith : Outcome → List SizeRecord → LentSizes
-lentWith o rest = record { answer = o .answer; list = o .list ++ rest }
+abbrev pub lentWith : Outcome Collected (List SizeRecord) → List SizeRecord → LentSizes
+lentWith o rest = record { answer = o .answer; list = o .memory ++ rest }
 
 abbrev pub lentOf : Input → List SizeRecord → ℕ → LentSizes
 lentOf x l room = lentWith (collectOf x (take room l)) (drop room l)

@@ -6,13 +6,14 @@ use lib.ListN.{getD, length, take}
 use lib.Dec.{leb}
 use mathlib.Core.Path.{_≡_}
 use Rattle.common.specs.Choice.{pick}
+use Rattle.common.specs.Outcome.{Outcome}
 use Rattle.settings.specs.declared.Settings.{Settings}
 use Rattle.tree.specs.Tree.{none, Tree, count, nodes}
 use Rattle.sizes.specs.Sizes.{Sizes, treeSizes}
 use Rattle.sizes.specs.Input.{given, inputOf}
+use Rattle.collector.specs.declared.Collected.{Collected}
 use Rattle.collector.specs.declared.SizeRecord.{SizeRecord}
 use Rattle.collector.specs.Below.{belows}
-use Rattle.collector.specs.Records.{Outcome}
 
 -- "a node's own number plus 1 plus that count"
 abbrev pub pastNode : List ℕ → ℕ → ℕ
@@ -33,15 +34,15 @@ abbrev pub belowIn : SizeRecord → ℕ
 belowIn r = r .below
 
 -- the sizes in the entries that the answer counts
-abbrev pub sizesListed : Outcome → List Sizes
-sizesListed o = map sizesOf (take (o .answer .count) (o .list))
+abbrev pub sizesListed : Outcome Collected (List SizeRecord) → List Sizes
+sizesListed o = map sizesOf (take (o .answer .count) (o .memory))
 
 -- and the numbers of nodes below
-abbrev pub belowListed : Outcome → List ℕ
-belowListed o = map belowIn (take (o .answer .count) (o .list))
+abbrev pub belowListed : Outcome Collected (List SizeRecord) → List ℕ
+belowListed o = map belowIn (take (o .answer .count) (o .memory))
 
 -- an accepted call: its settings and tree, and that its list now has their sizes and counts
-pub record SizesCollected (bs ts : List ℕ) (l : List SizeRecord) (o : Outcome) : Type 0 where
+pub record SizesCollected (bs ts : List ℕ) (l : List SizeRecord) (o : Outcome Collected (List SizeRecord)) : Type 0 where
   pub settings : Settings
   pub tree : Tree
   pub input : inputOf bs ts ≡ given settings tree

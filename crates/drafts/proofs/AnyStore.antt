@@ -9,10 +9,11 @@ use lib.ListN.{length, replicate}
 use lib.Dec.{ltb}
 use borrow.Author.Tests.{ltb-false}
 use Rattle.common.specs.Choice.{pick}
+use Rattle.common.specs.Outcome.{Outcome}
 use Rattle.tree.specs.Reading.{ReadOne, readTree}
 use Rattle.tree.specs.Accepted.{element}
 use Rattle.tree.proofs.Sound.{tree-refusal}
-use Rattle.drafts.specs.Store.{isName, tagFor, hasTag, fieldsOf, fieldBytes, storeOf, withoutTag, draftOf, StoreAnswer, saveTree, saveOf, forgetOf, returnFound, returnOf}
+use Rattle.drafts.specs.Store.{isName, tagFor, hasTag, fieldsOf, fieldBytes, storeOf, withoutTag, draftOf, saveTree, saveOf, forgetOf, returnFound, returnOf}
 use Rattle.drafts.specs.Promises.{nameIn, OfForm, DraftCall, answerTo, storeAfter, lastSaved, Formed}
 use Rattle.drafts.proofs.Fields.{read-store, fields-without, without-gone, without-shorter, joined-last, fields-last, element-field}
 use Rattle.drafts.proofs.Formed.{store-parsed, used-and-zeros}
@@ -41,23 +42,23 @@ module _ (o : List ℕ) (fs : List (List ℕ)) (e : fieldsOf o ≡ some fs) wher
   -- ---- one call
 
   -- the store is again of the form, and as long
-  pub call-form : (c : DraftCall) → OfForm (length o) (answerTo o c .store)
+  pub call-form : (c : DraftCall) → OfForm (length o) (answerTo o c .memory)
   call-form c = of-form (call-next (length o) 65 is-name o (draftOf (tagFor 65) fs) (start 65 is-name) c .state)
 
   -- "other drafts keep their bytes": a call under another name leaves what the name gives back
-  pub others-stay : (k : ℕ) → isName k ≡ true → (c : DraftCall) → (nameIn c ≡ k → ⊥) → (out : List ℕ) → returnOf (answerTo o c .store) k out ≡ returnOf o k out
+  pub others-stay : (k : ℕ) → isName k ≡ true → (c : DraftCall) → (nameIn c ≡ k → ⊥) → (out : List ℕ) → returnOf (answerTo o c .memory) k out ≡ returnOf o k out
   unfolding returnOf
   others-stay k name c d out =
       let f = call-next (length o) k name o (draftOf (tagFor k) fs) (start k name) c in
       rw (e, state-reads (f .state), name)
-      (ap (λ (m : Option (List ℕ)). returnFound m out) (f .holds ∙ other-noted k (answerTo o c .number) c (draftOf (tagFor k) fs) d))
+      (ap (λ (m : Option (List ℕ)). returnFound m out) (f .holds ∙ other-noted k (answerTo o c .answer) c (draftOf (tagFor k) fs) d))
 
-  abbrev Gives : StoreAnswer → List (List ℕ) → Type 0
-  Gives r gs = r .number ≡ 0 → fieldsOf (r .store) ≡ some gs
+  abbrev Gives : Outcome ℕ (List ℕ) → List (List ℕ) → Type 0
+  Gives r gs = r .answer ≡ 0 → fieldsOf (r .memory) ≡ some gs
 
   -- "Saving drops an older draft of that name and puts the new one last"
-  pub save-last : (n : ℕ) (tree : List ℕ) → saveOf o n tree .number ≡ 0
-      → fieldsOf (saveOf o n tree .store) ≡ some (withoutTag (tagFor n) fs ++ (element (tagFor n) tree ∷ []))
+  pub save-last : (n : ℕ) (tree : List ℕ) → saveOf o n tree .answer ≡ 0
+      → fieldsOf (saveOf o n tree .memory) ≡ some (withoutTag (tagFor n) fs ++ (element (tagFor n) tree ∷ []))
   unfolding saveOf
   save-last n tree = rw e (named (isName n) refl)
     where
@@ -65,7 +66,7 @@ module _ (o : List ℕ) (fs : List (List ℕ)) (e : fieldsOf o ≡ some fs) wher
       gs = withoutTag (tagFor n) fs ++ (element (tagFor n) tree ∷ [])
 
       room : (c : Bool) → isName n ≡ true → ltb (length o) (length (fieldBytes (withoutTag (tagFor n) fs)) + (3 + length tree)) ≡ c
-          → Gives (pick c (record { number = 20; store = o }) (record { number = 0; store = storeOf (length o) gs })) gs
+          → Gives (pick c (record { answer = 20; memory = o }) (record { answer = 0; memory = storeOf (length o) gs })) gs
       room true p q h = absurd (omega arith)
       room false p q h =
           let g = withoutTag (tagFor n) fs in
@@ -79,17 +80,17 @@ module _ (o : List ℕ) (fs : List (List ℕ)) (e : fieldsOf o ≡ some fs) wher
       read (ReadOne.refused k) q p h = absurd (omega (arith, tree-refusal tree k q))
       read (ReadOne.one t z w) q p h = room (ltb (length o) (length (fieldBytes (withoutTag (tagFor n) fs)) + (3 + length tree))) p refl h
 
-      named : (c : Bool) → isName n ≡ c → Gives (pick c (saveTree o fs (tagFor n) tree (readTree tree)) (record { number = 19; store = o })) gs
+      named : (c : Bool) → isName n ≡ c → Gives (pick c (saveTree o fs (tagFor n) tree (readTree tree)) (record { answer = 19; memory = o })) gs
       named true p h = read (readTree tree) refl p h
       named false p h = absurd (omega arith)
 
   -- "forgetting closes the gap"
-  pub forget-closes : (n : ℕ) → forgetOf o n .number ≡ 0 → fieldsOf (forgetOf o n .store) ≡ some (withoutTag (tagFor n) fs)
+  pub forget-closes : (n : ℕ) → forgetOf o n .answer ≡ 0 → fieldsOf (forgetOf o n .memory) ≡ some (withoutTag (tagFor n) fs)
   unfolding forgetOf
   forget-closes n = rw e (named (isName n) (hasTag (tagFor n) fs))
     where
-      named : (c d : Bool) → Gives (pick c (pick d (record { number = 0; store = storeOf (length o) (withoutTag (tagFor n) fs) })
-          (record { number = 19; store = o })) (record { number = 19; store = o })) (withoutTag (tagFor n) fs)
+      named : (c d : Bool) → Gives (pick c (pick d (record { answer = 0; memory = storeOf (length o) (withoutTag (tagFor n) fs) })
+          (record { answer = 19; memory = o })) (record { answer = 19; memory = o })) (withoutTag (tagFor n) fs)
       named true true h = read-store (length o) (withoutTag (tagFor n) fs) (fields-without (tagFor n) fs (form .good)) (omega
           (arith, without-shorter (tagFor n) fs, within))
       named true false h = absurd (omega arith)

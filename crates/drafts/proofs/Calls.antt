@@ -8,22 +8,24 @@ use mathlib.Core.Option.{Option, some, none}
 use lib.ListN.{length}
 use lib.Dec.{ltb}
 use Rattle.common.specs.Choice.{pick}
+use Rattle.common.specs.Outcome.{Outcome}
 use Rattle.tree.specs.Reading.{ReadOne, readTree, treeAnswer}
-use Rattle.drafts.specs.Store.{isName, tagFor, hasTag, fieldsOf, fieldBytes, withoutTag, draftOf, StoreAnswer, DraftOut, saveTree, saveIn, saveOf, forgetIn, forgetOf, noReturn, returnFound, returnIn, returnOf}
+use Rattle.drafts.specs.declared.Returned.{Returned}
+use Rattle.drafts.specs.Store.{isName, tagFor, hasTag, fieldsOf, fieldBytes, withoutTag, draftOf, saveTree, saveIn, saveOf, forgetIn, forgetOf, noReturn, returnFound, returnIn, returnOf}
 use Rattle.drafts.specs.Promises.{TreeRead, DraftCall, save, forget, return, answerTo}
 use Rattle.drafts.proofs.OpenedStore.{tree-read}
 
-abbrev Keeps : List ℕ → StoreAnswer → Type 0
-Keeps o a = (a .number ≡ 0 → ⊥) → a .store ≡ o
+abbrev Keeps : List ℕ → Outcome ℕ (List ℕ) → Type 0
+Keeps o a = (a .answer ≡ 0 → ⊥) → a .memory ≡ o
 
-keeps-pick : (o : List ℕ) (c : Bool) (a b : StoreAnswer) → Keeps o a → Keeps o b → Keeps o (pick c a b)
+keeps-pick : (o : List ℕ) (c : Bool) (a b : Outcome ℕ (List ℕ)) → Keeps o a → Keeps o b → Keeps o (pick c a b)
 keeps-pick o true a b p q = p
 keeps-pick o false a b p q = q
 
-keeps-refused : (o : List ℕ) (n : ℕ) → Keeps o (record { number = n; store = o })
+keeps-refused : (o : List ℕ) (n : ℕ) → Keeps o (record { answer = n; memory = o })
 keeps-refused o n h = refl
 
-keeps-saved : (o s : List ℕ) → Keeps o (record { number = 0; store = s })
+keeps-saved : (o s : List ℕ) → Keeps o (record { answer = 0; memory = s })
 keeps-saved o s h = absurd (h refl)
 
 save-keeps : (o : List ℕ) (n : ℕ) (tree : List ℕ) → Keeps o (saveOf o n tree)
@@ -48,16 +50,16 @@ forget-keeps o n = go (fieldsOf o)
     go (some fs) = keeps-pick o (isName n) _ _ (keeps-pick o (hasTag (tagFor n) fs) _ _ (keeps-saved o _) (keeps-refused o 19)) (keeps-refused o 19)
 
 -- a refusal changes no byte of the store
-pub refused-keeps : (o : List ℕ) (c : DraftCall) → (answerTo o c .number ≡ 0 → ⊥) → answerTo o c .store ≡ o
+pub refused-keeps : (o : List ℕ) (c : DraftCall) → (answerTo o c .answer ≡ 0 → ⊥) → answerTo o c .memory ≡ o
 unfolding answerTo
 refused-keeps o (save n tree) = save-keeps o n tree
 refused-keeps o (forget n) = forget-keeps o n
 refused-keeps o (return n out) = λ h. refl
 
-abbrev KeepsOut : List ℕ → DraftOut → Type 0
+abbrev KeepsOut : List ℕ → Outcome Returned (List ℕ) → Type 0
 KeepsOut out r = (r .answer .number ≡ 0 → ⊥) → r ≡ noReturn (r .answer .number) out
 
-out-pick : (out : List ℕ) (c : Bool) (a b : DraftOut) → KeepsOut out a → KeepsOut out b → KeepsOut out (pick c a b)
+out-pick : (out : List ℕ) (c : Bool) (a b : Outcome Returned (List ℕ)) → KeepsOut out a → KeepsOut out b → KeepsOut out (pick c a b)
 out-pick out true a b p q = p
 out-pick out false a b p q = q
 
@@ -76,19 +78,19 @@ return-keeps o n out = go (fieldsOf o)
     go (some fs) = out-pick out (isName n) _ _ (found (draftOf (tagFor n) fs)) (λ h. refl)
 
 -- a tree is saved only if the tree reader accepts it
-pub saved-read : (o : List ℕ) (n : ℕ) (tree : List ℕ) → saveOf o n tree .number ≡ 0 → TreeRead tree
+pub saved-read : (o : List ℕ) (n : ℕ) (tree : List ℕ) → saveOf o n tree .answer ≡ 0 → TreeRead tree
 unfolding saveOf
 saved-read o n tree h = tree-read tree (go (fieldsOf o) h)
   where
-    read : (fs : List (List ℕ)) (y : ReadOne) → saveTree o fs (tagFor n) tree y .number ≡ 0 → treeAnswer y .number ≡ 0
+    read : (fs : List (List ℕ)) (y : ReadOne) → saveTree o fs (tagFor n) tree y .answer ≡ 0 → treeAnswer y .number ≡ 0
     read fs (ReadOne.refused k) h = h
     read fs (ReadOne.one t z w) h = refl
 
-    named : (fs : List (List ℕ)) (c : Bool) → pick c (saveTree o fs (tagFor n) tree (readTree tree)) (record { number = 19; store = o }) .number ≡ 0
+    named : (fs : List (List ℕ)) (c : Bool) → pick c (saveTree o fs (tagFor n) tree (readTree tree)) (record { answer = 19; memory = o }) .answer ≡ 0
         → treeAnswer (readTree tree) .number ≡ 0
     named fs true h = read fs (readTree tree) h
     named fs false h = absurd (omega arith)
 
-    go : (x : Option (List (List ℕ))) → saveIn o x n tree .number ≡ 0 → treeAnswer (readTree tree) .number ≡ 0
+    go : (x : Option (List (List ℕ))) → saveIn o x n tree .answer ≡ 0 → treeAnswer (readTree tree) .number ≡ 0
     go none h = absurd (omega arith)
     go (some fs) h = named fs (isName n) h

@@ -11,15 +11,16 @@ use borrow.Author.Tests.{lt-ltb, le-ltb}
 use Rattle.common.specs.Choice.{pick}
 use Rattle.common.proofs.Padded.{drop-replicate}
 use Rattle.tree.specs.declared.ReadTree.{ReadTree}
+use Rattle.common.specs.Outcome.{Outcome}
 use Rattle.tree.specs.Reading.{ReadOne, readTree, treeAnswer}
 use Rattle.tree.specs.Accepted.{element}
 use Rattle.tree.proofs.Sound.{tree-refusal, tree-sound}
+use Rattle.drafts.specs.Store.{isName, tagFor, hasTag, fieldsOf, fieldBytes, storeOf, withoutTag, draftOf, saveTree, saveIn, saveOf, forgetIn, forgetOf, noReturn, returnFound, returnIn, returnOf}
+use Rattle.drafts.specs.Contracts.{noField, fieldFrom, scanOf, refusedOpen, openedOf}
+use Rattle.drafts.specs.Promises.{TreeRead, Field, Fields, Formed}
 use Rattle.drafts.specs.declared.scan.FieldAt.{FieldAt}
 use Rattle.drafts.specs.declared.scan.Scan.{Scan}
 use Rattle.drafts.specs.declared.Opened.{Opened}
-use Rattle.drafts.specs.Store.{isName, tagFor, hasTag, fieldsOf, fieldBytes, storeOf, withoutTag, draftOf, StoreAnswer, saveTree, saveIn, saveOf, forgetIn, forgetOf, noReturn, returnFound, returnIn, returnOf}
-use Rattle.drafts.specs.Contracts.{noField, fieldFrom, scanOf, refusedOpen, openedOf}
-use Rattle.drafts.specs.Promises.{TreeRead, Field, Fields, Formed}
 use Rattle.drafts.proofs.Formed.{store-parsed, FieldIn, field-in, field-absent, used-and-zeros, zeros-behind, at-within, at-used, gap-store, body-is, others-is, size-low}
 
 fields-mid : (front : List (List ℕ)) (f : List ℕ) (back : List (List ℕ)) → Fields (front ++ (f ∷ back)) → Field f
@@ -90,40 +91,40 @@ module _ (o : List ℕ) (n : ℕ) (p : Opened) (e : p ≡ openedOf n (fieldsOf o
       go none q = refl
       go (some fs) q = named fs (isName n) q
 
-  pub refused-save : (tree : List ℕ) → record { number = p .number; store = o } ≡ saveOf o n tree
+  pub refused-save : (tree : List ℕ) → record { answer = p .number; memory = o } ≡ saveOf o n tree
   unfolding saveOf
   refused-save tree = rw e (go (fieldsOf o) (λ z. h (ap (λ (q : Opened). q .number) e ∙ z)))
     where
-      named : (fs : List (List ℕ)) (c : Bool) (y :
-          StoreAnswer) → (pick c (record { number = 0; used = length (fieldBytes fs); spot = fieldFrom (tagFor n) 0 fs }) (refusedOpen 19) .number ≡ 0 → ⊥)
+      named : (fs : List (List ℕ)) (c : Bool) (y : Outcome ℕ (List ℕ))
+          → (pick c (record { number = 0; used = length (fieldBytes fs); spot = fieldFrom (tagFor n) 0 fs }) (refusedOpen 19) .number ≡ 0 → ⊥)
           → record {
-            number = pick c (record { number = 0; used = length (fieldBytes fs); spot = fieldFrom (tagFor n) 0 fs }) (refusedOpen 19) .number;
-            store = o;
-          } ≡ pick c y (record { number = 19; store = o })
+            answer = pick c (record { number = 0; used = length (fieldBytes fs); spot = fieldFrom (tagFor n) 0 fs }) (refusedOpen 19) .number;
+            memory = o;
+          } ≡ pick c y (record { answer = 19; memory = o })
       named fs true y q = absurd (q refl)
       named fs false y q = refl
 
-      go : (x : Option (List (List ℕ))) → (openedOf n x .number ≡ 0 → ⊥) → record { number = openedOf n x .number; store = o } ≡ saveIn o x n tree
+      go : (x : Option (List (List ℕ))) → (openedOf n x .number ≡ 0 → ⊥) → record { answer = openedOf n x .number; memory = o } ≡ saveIn o x n tree
       go none q = refl
       go (some fs) q = named fs (isName n) (saveTree o fs (tagFor n) tree (readTree tree)) q
 
-  pub refused-forget : record { number = p .number; store = o } ≡ forgetOf o n
+  pub refused-forget : record { answer = p .number; memory = o } ≡ forgetOf o n
   unfolding forgetOf
   refused-forget = rw e (go (fieldsOf o) (λ z. h (ap (λ (q : Opened). q .number) e ∙ z)))
     where
-      named : (fs : List (List ℕ)) (c : Bool) (y :
-          StoreAnswer) → (pick c (record { number = 0; used = length (fieldBytes fs); spot = fieldFrom (tagFor n) 0 fs }) (refusedOpen 19) .number ≡ 0 → ⊥)
+      named : (fs : List (List ℕ)) (c : Bool) (y : Outcome ℕ (List ℕ))
+          → (pick c (record { number = 0; used = length (fieldBytes fs); spot = fieldFrom (tagFor n) 0 fs }) (refusedOpen 19) .number ≡ 0 → ⊥)
           → record {
-            number = pick c (record { number = 0; used = length (fieldBytes fs); spot = fieldFrom (tagFor n) 0 fs }) (refusedOpen 19) .number;
-            store = o;
-          } ≡ pick c y (record { number = 19; store = o })
+            answer = pick c (record { number = 0; used = length (fieldBytes fs); spot = fieldFrom (tagFor n) 0 fs }) (refusedOpen 19) .number;
+            memory = o;
+          } ≡ pick c y (record { answer = 19; memory = o })
       named fs true y q = absurd (q refl)
       named fs false y q = refl
 
-      go : (x : Option (List (List ℕ))) → (openedOf n x .number ≡ 0 → ⊥) → record { number = openedOf n x .number; store = o } ≡ forgetIn o x n
+      go : (x : Option (List (List ℕ))) → (openedOf n x .number ≡ 0 → ⊥) → record { answer = openedOf n x .number; memory = o } ≡ forgetIn o x n
       go none q = refl
-      go (some fs) q = named fs (isName n) (pick (hasTag (tagFor n) fs) (record { number = 0; store = storeOf (length o) (withoutTag (tagFor n) fs) })
-          (record { number = 19; store = o })) q
+      go (some fs) q = named fs (isName n) (pick (hasTag (tagFor n) fs) (record { answer = 0; memory = storeOf (length o) (withoutTag (tagFor n) fs) })
+          (record { answer = 19; memory = o })) q
 
 -- ---- opened
 
@@ -182,7 +183,7 @@ module _ (o : List ℕ) (n : ℕ) (p : Opened) (r : Openable o n p) where
 
   -- ---- forgetting
 
-  pub forget-absent : p .spot .found ≡ false → record { number = 19; store = o } ≡ forgetOf o n
+  pub forget-absent : p .spot .found ≡ false → record { answer = 19; memory = o } ≡ forgetOf o n
   unfolding forgetOf
   forget-absent h = rw (r .reads, r .named, has-found, h)
 
@@ -191,8 +192,8 @@ module _ (o : List ℕ) (n : ℕ) (p : Opened) (r : Openable o n p) where
 
   pub forget-there : p .spot .found ≡ true → (e :
       List ℕ) → e ≡ take (p .spot .at) o ++ (drop (p .spot .at + p .spot .size) o ++ replicate (p .spot .size) 0) → record {
-        number = 0;
-        store = e;
+        answer = 0;
+        memory = e;
       } ≡ forgetOf o n
   unfolding forgetOf
   forget-there h e q =
@@ -233,7 +234,7 @@ module _ (o : List ℕ) (n : ℕ) (p : Opened) (r : Openable o n p) where
 
     pub return-there : (out e : List ℕ) → p .spot .size - 3 ≤ length out
         → (let part = take (p .spot .at + p .spot .size - (p .spot .at + 3)) (drop (p .spot .at + 3) o) in e ≡ paste out 0 part (length part))
-        → record { answer = record { number = 0; count = p .spot .size - 3 }; out = e } ≡ returnOf o n out
+        → record { answer = record { number = 0; count = p .spot .size - 3 }; memory = e } ≡ returnOf o n out
     return-there out e l q =
         let m : length body ≤ length out = omega (arith, body-long) in
         let c : p .spot .at + p .spot .size - (p .spot .at + 3) ≡ p .spot .size - 3 = omega (arith, field-long h) in
@@ -292,21 +293,22 @@ module _ (o : List ℕ) (n : ℕ) (p : Opened) (r : Openable o n p) where
                 ∙ zeros-is;
           })
 
-  save-fault : (tree : List ℕ) → (treeAnswer (readTree tree) .number ≡ 0 → ⊥) → record { number = treeAnswer (readTree tree) .number; store = o }
+  save-fault : (tree : List ℕ) → (treeAnswer (readTree tree) .number ≡ 0 → ⊥) → record { answer = treeAnswer (readTree tree) .number; memory = o }
       ≡ saveOf o n tree
   unfolding saveOf
   save-fault tree h = rw (r .reads, r .named) (go (readTree tree) h)
     where
-      go : (x : ReadOne) → (treeAnswer x .number ≡ 0 → ⊥) → record { number = treeAnswer x .number; store = o } ≡ saveTree o (r .fs) (tagFor n) tree x
+      go : (x : ReadOne) → (treeAnswer x .number ≡ 0 → ⊥) → record { answer = treeAnswer x .number; memory = o } ≡ saveTree o (r .fs) (tagFor n) tree x
       go (ReadOne.refused k) q = refl
       go (ReadOne.one t z w) q = absurd (q refl)
 
-  pub bad-tree : (tree : List ℕ) (a : ReadTree) → a ≡ treeAnswer (readTree tree) → (a .number ≡ 0 → ⊥) → record { number = a .number; store = o }
+  pub bad-tree : (tree : List ℕ) (a : ReadTree) → a ≡ treeAnswer (readTree tree) → (a .number ≡ 0 → ⊥) → record { answer = a .number; memory = o }
       ≡ saveOf o n tree
   bad-tree tree a e h = let q : a .number ≡ treeAnswer (readTree tree) .number = ap (λ (y : ReadTree). y .number) e in
-      ap (λ (k : ℕ). record { number = k; store = o }) q ∙ save-fault tree (λ z. h (q ∙ z))
+      ap (λ (k : ℕ). record { answer = k; memory = o }) q ∙ save-fault tree (λ z. h (q ∙ z))
 
-  pub save-full : (tree : List ℕ) → TreeRead tree → length o < p .used - p .spot .size + (3 + length tree) → record { number = 20; store = o } ≡ saveOf o n tree
+  pub save-full : (tree : List ℕ) → TreeRead tree → length o < p .used - p .spot .size + (3 + length tree)
+      → record { answer = 20; memory = o } ≡ saveOf o n tree
   unfolding saveOf
   save-full tree x h =
       let m : length o < length (fieldBytes rest) + (3 + length tree) = omega (arith, opened-room .others) in
@@ -315,7 +317,7 @@ module _ (o : List ℕ) (n : ℕ) (p : Opened) (r : Openable o n p) where
   pub save-there : (tree : List ℕ) → TreeRead tree → p .used - p .spot .size + (3 + length tree) ≤ length o → (s e : List ℕ) (k : ℕ) → k ≡ tagFor n
       → s ≡ take (p .spot .at) o ++ (drop (p .spot .at + p .spot .size) o ++ replicate (p .spot .size) 0)
       → e ≡ take (p .used - p .spot .size) s ++ (element k tree ++ drop (p .used - p .spot .size + (3 + length tree)) s)
-      → record { number = 0; store = e } ≡ saveOf o n tree
+      → record { answer = 0; memory = e } ≡ saveOf o n tree
   unfolding saveOf
   save-there tree x h s e k j a b =
       let m : length (fieldBytes rest) + (3 + length tree) ≤ length o = omega (arith, opened-room .others) in

@@ -10,7 +10,9 @@ use lib.Seq.{take-append-seam}
 use lib.Dec.{ltb, eqb}
 use borrow.Author.Tests.{eqb-true}
 use Rattle.common.specs.Choice.{pick}
-use Rattle.drafts.specs.Store.{isName, DraftOut, saveOf, forgetOf, noReturn, returnFound, returnOf}
+use Rattle.common.specs.Outcome.{Outcome}
+use Rattle.drafts.specs.declared.Returned.{Returned}
+use Rattle.drafts.specs.Store.{isName, saveOf, forgetOf, noReturn, returnFound, returnOf}
 use Rattle.drafts.specs.Promises.{TreeRead, DraftCall, save, forget, return, answerTo, storeAfter, noted, lastSaved}
 use Rattle.drafts.proofs.Calls.{saved-read}
 use Rattle.drafts.proofs.Series.{return-gives}
@@ -21,9 +23,9 @@ module _ (k : ℕ) (tree : List ℕ) where
   abbrev Reads : Option (List ℕ) → Type 0
   Reads m = m ≡ some tree → TreeRead tree
 
-  save-noted : (o : List ℕ) (n : ℕ) (bytes : List ℕ) (m : Option (List ℕ)) → Reads m → (c d : Bool) → eqb (saveOf o n bytes .number) 0 ≡ d
+  save-noted : (o : List ℕ) (n : ℕ) (bytes : List ℕ) (m : Option (List ℕ)) → Reads m → (c d : Bool) → eqb (saveOf o n bytes .answer) 0 ≡ d
       → Reads (pick c (pick d (some bytes) m) m)
-  save-noted o n bytes m r true true e h = let z : bytes ≡ tree = cc in rw z at (saved-read o n bytes (eqb-true (saveOf o n bytes .number) 0 e))
+  save-noted o n bytes m r true true e h = let z : bytes ≡ tree = cc in rw z at (saved-read o n bytes (eqb-true (saveOf o n bytes .answer) 0 e))
   save-noted o n bytes m r true false e h = r h
   save-noted o n bytes m r false d e h = r h
 
@@ -32,25 +34,25 @@ module _ (k : ℕ) (tree : List ℕ) where
   forget-noted m r true false h = r h
   forget-noted m r false d h = r h
 
-  call-noted : (o : List ℕ) (c : DraftCall) (m : Option (List ℕ)) → Reads m → Reads (noted k (answerTo o c .number) c m)
+  call-noted : (o : List ℕ) (c : DraftCall) (m : Option (List ℕ)) → Reads m → Reads (noted k (answerTo o c .answer) c m)
   unfolding noted answerTo
-  call-noted o (save n bytes) m r = save-noted o n bytes m r (eqb n k) (eqb (saveOf o n bytes .number) 0) refl
-  call-noted o (forget n) m r = forget-noted m r (eqb n k) (eqb (forgetOf o n .number) 0)
+  call-noted o (save n bytes) m r = save-noted o n bytes m r (eqb n k) (eqb (saveOf o n bytes .answer) 0) refl
+  call-noted o (forget n) m r = forget-noted m r (eqb n k) (eqb (forgetOf o n .answer) 0)
   call-noted o (return n out) m r = r
 
   pub last-read : (cs : List DraftCall) (o : List ℕ) (m : Option (List ℕ)) → Reads m → Reads (lastSaved k o cs m)
   unfolding lastSaved
   last-read [] o m r = r
-  last-read (c ∷ cs) o m r = last-read cs (answerTo o c .store) (noted k (answerTo o c .number) c m) (call-noted o c m r)
+  last-read (c ∷ cs) o m r = last-read cs (answerTo o c .memory) (noted k (answerTo o c .answer) c m) (call-noted o c m r)
 
 -- ---- what is returned
 
-abbrev Given : DraftOut → Type 0
-Given r = r .answer .number ≡ 0 → TreeRead (take (r .answer .count) (r .out))
+abbrev Given : Outcome Returned (List ℕ) → Type 0
+Given r = r .answer .number ≡ 0 → TreeRead (take (r .answer .count) (r .memory))
 
 given-case : (tree out : List ℕ) (c :
     Bool) → TreeRead tree → Given (pick c (noReturn 8 out)
-    (record { answer = record { number = 0; count = length tree }; out = tree ++ drop (length tree) out }))
+    (record { answer = record { number = 0; count = length tree }; memory = tree ++ drop (length tree) out }))
 given-case tree out true r h = absurd (omega arith)
 given-case tree out false r h = rw (take-append-seam tree (drop (length tree) out)) r
 
@@ -60,7 +62,7 @@ found-given (some tree) out r h = given-case tree out (ltb (length out) (length 
 
 -- from a store of zero bytes, after any series of calls
 pub returned-read : (n : ℕ) (cs : List DraftCall) (k : ℕ) → isName k ≡ true → (out : List ℕ)
-    → let r = returnOf (storeAfter (replicate n 0) cs) k out in r .answer .number ≡ 0 → TreeRead (take (r .answer .count) (r .out))
+    → let r = returnOf (storeAfter (replicate n 0) cs) k out in r .answer .number ≡ 0 → TreeRead (take (r .answer .count) (r .memory))
 returned-read n cs k name out =
     rw (return-gives n cs k name out)
     (found-given (lastSaved k (replicate n 0) cs none) out

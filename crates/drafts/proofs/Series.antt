@@ -9,11 +9,12 @@ use lib.ListN.{length, replicate}
 use lib.Dec.{ltb, eqb}
 use borrow.Author.Tests.{ltb-true, ltb-false, eqb-true, eqb-false, ne-eqb, lt-ltb, le-ltb}
 use Rattle.common.specs.Choice.{pick}
+use Rattle.common.specs.Outcome.{Outcome}
 use Rattle.tree.specs.Tree.{Tree}
 use Rattle.tree.specs.Reading.{ReadOne, readTree}
 use Rattle.tree.specs.Accepted.{element}
 use Rattle.tree.proofs.Sound.{tree-refusal}
-use Rattle.drafts.specs.Store.{isName, tagFor, isTag, hasTag, fieldsOf, fieldBytes, storeOf, withoutTag, draftOf, StoreAnswer, saveTree, saveOf, forgetOf, returnFound, returnOf}
+use Rattle.drafts.specs.Store.{isName, tagFor, isTag, hasTag, fieldsOf, fieldBytes, storeOf, withoutTag, draftOf, saveTree, saveOf, forgetOf, returnFound, returnOf}
 use Rattle.drafts.specs.Promises.{nameIn, DraftCall, save, forget, return, answerTo, storeAfter, noted, lastSaved, Fields}
 use Rattle.drafts.proofs.Fields.{read-store, store-of-length, fields-without, without-gone, without-shorter, joined-last, fields-last, found-other, found-none, found-last, found-before, element-field}
 
@@ -94,8 +95,8 @@ module _ (n k : ℕ) (name : isName k ≡ true) where
   stay : (o : List ℕ) (m : Option (List ℕ)) → NextCall o m → (q : ℕ) → (q ≡ 0 → ⊥) → (c : DraftCall) → NextCall o (noted k q c m)
   stay o m x q d c = record { state = x .state; holds = x .holds ∙ kept-noted q d c m }
 
-  abbrev CallNext : StoreAnswer → DraftCall → Option (List ℕ) → Type 0
-  CallNext r c m = NextCall (r .store) (noted k (r .number) c m)
+  abbrev CallNext : Outcome ℕ (List ℕ) → DraftCall → Option (List ℕ) → Type 0
+  CallNext r c m = NextCall (r .memory) (noted k (r .answer) c m)
 
   module _ (o : List ℕ) (m : Option (List ℕ)) (x : NextCall o m) where
     abbrev fs : List (List ℕ)
@@ -129,8 +130,8 @@ module _ (n k : ℕ) (name : isName k ≡ true) where
     save-next j tree = rw (state-reads (x .state)) (named (isName j) refl)
       where
         room : (c : Bool) → isName j ≡ true → ltb (length o) (length (fieldBytes (withoutTag (tagFor j) fs)) + (3 + length tree)) ≡ c
-            → CallNext (pick c (record { number = 20; store = o })
-            (record { number = 0; store = storeOf (length o) (withoutTag (tagFor j) fs ++ (element (tagFor j) tree ∷ [])) })) (save j tree) m
+            → CallNext (pick c (record { answer = 20; memory = o })
+            (record { answer = 0; memory = storeOf (length o) (withoutTag (tagFor j) fs ++ (element (tagFor j) tree ∷ [])) })) (save j tree) m
         room true p e = stay o m x 20 (λ z. omega arith) (save j tree)
         room false p e = saved j tree p (ltb-false (length o) (length (fieldBytes (withoutTag (tagFor j) fs)) + (3 + length tree)) e)
 
@@ -138,7 +139,7 @@ module _ (n k : ℕ) (name : isName k ≡ true) where
         read (ReadOne.refused q) e p = stay o m x q (λ z. omega (arith, tree-refusal tree q e)) (save j tree)
         read (ReadOne.one t z w) e p = room (ltb (length o) (length (fieldBytes (withoutTag (tagFor j) fs)) + (3 + length tree))) p refl
 
-        named : (c : Bool) → isName j ≡ c → CallNext (pick c (saveTree o fs (tagFor j) tree (readTree tree)) (record { number = 19; store = o }))
+        named : (c : Bool) → isName j ≡ c → CallNext (pick c (saveTree o fs (tagFor j) tree (readTree tree)) (record { answer = 19; memory = o }))
             (save j tree) m
         named true p = read (readTree tree) refl p
         named false p = stay o m x 19 (λ z. omega arith) (save j tree)
@@ -169,14 +170,14 @@ module _ (n k : ℕ) (name : isName k ≡ true) where
     unfolding forgetOf
     forget-next j = rw (state-reads (x .state)) (named (isName j) refl)
       where
-        there : (c : Bool) → isName j ≡ true → CallNext (pick c (record { number = 0; store = storeOf (length o) (withoutTag (tagFor j) fs) })
-            (record { number = 19; store = o })) (forget j) m
+        there : (c : Bool) → isName j ≡ true → CallNext (pick c (record { answer = 0; memory = storeOf (length o) (withoutTag (tagFor j) fs) })
+            (record { answer = 19; memory = o })) (forget j) m
         there true p = forgot j p
         there false p = stay o m x 19 (λ z. omega arith) (forget j)
 
         named : (c : Bool) → isName j ≡ c → CallNext (pick c
-            (pick (hasTag (tagFor j) fs) (record { number = 0; store = storeOf (length o) (withoutTag (tagFor j) fs) }) (record { number = 19; store = o }))
-            (record { number = 19; store = o })) (forget j) m
+            (pick (hasTag (tagFor j) fs) (record { answer = 0; memory = storeOf (length o) (withoutTag (tagFor j) fs) }) (record { answer = 19; memory = o }))
+            (record { answer = 19; memory = o })) (forget j) m
         named true p = there (hasTag (tagFor j) fs) p
         named false p = stay o m x 19 (λ z. omega arith) (forget j)
 
@@ -189,7 +190,7 @@ module _ (n k : ℕ) (name : isName k ≡ true) where
   pub series : (cs : List DraftCall) (o : List ℕ) (m : Option (List ℕ)) → NextCall o m → NextCall (storeAfter o cs) (lastSaved k o cs m)
   unfolding storeAfter lastSaved
   series [] o m x = x
-  series (c ∷ cs) o m x = series cs (answerTo o c .store) (noted k (answerTo o c .number) c m) (call-next o m x c)
+  series (c ∷ cs) o m x = series cs (answerTo o c .memory) (noted k (answerTo o c .answer) c m) (call-next o m x c)
 
 -- ---- from a store of zero bytes
 
@@ -221,12 +222,12 @@ module _ (n : ℕ) (cs : List DraftCall) where
 
   -- a save of a tree that is read is refused by the name, or for room and nothing else: by the other fields, 3 and the tree
   pub save-room : (k : ℕ) → isName k ≡ true → (tree : List ℕ) (t : Tree) (z w : ℕ) → readTree tree ≡ ReadOne.one t z w
-      → saveOf store k tree .number ≡ pick (ltb n (length (fieldBytes (withoutTag (tagFor k) (ours .fs))) + (3 + length tree))) 20 0
+      → saveOf store k tree .answer ≡ pick (ltb n (length (fieldBytes (withoutTag (tagFor k) (ours .fs))) + (3 + length tree))) 20 0
   unfolding saveOf
   save-room k name tree t z w e =
       rw (store-reads, name, e, store-length) (go (ltb n (length (fieldBytes (withoutTag (tagFor k) (ours .fs))) + (3 + length tree))))
     where
-      go : (c : Bool) → pick {X = StoreAnswer} c (record { number = 20; store = store })
-          (record { number = 0; store = storeOf n (withoutTag (tagFor k) (ours .fs) ++ (element (tagFor k) tree ∷ [])) }) .number ≡ pick c 20 0
+      go : (c : Bool) → pick {X = Outcome ℕ (List ℕ)} c (record { answer = 20; memory = store })
+          (record { answer = 0; memory = storeOf n (withoutTag (tagFor k) (ours .fs) ++ (element (tagFor k) tree ∷ [])) }) .answer ≡ pick c 20 0
       go true = refl
       go false = refl

@@ -7,10 +7,11 @@ use lib.ListN.{length, replicate}
 use lib.Dec.{eqb}
 use mathlib.Core.Bool.{true, false}
 use Rattle.common.specs.Choice.{pick}
+use Rattle.common.specs.Outcome.{Outcome}
 use Rattle.tree.specs.Tree.{Tree}
 use Rattle.tree.specs.Reading.{ReadOne, readTree}
 use Rattle.tree.specs.Bytes.{lengthAt}
-use Rattle.drafts.specs.Store.{fieldsOf, StoreAnswer, saveOf, forgetOf, returnOf, isTag, tagIn, hasTag, fieldBytes}
+use Rattle.drafts.specs.Store.{fieldsOf, saveOf, forgetOf, returnOf, isTag, tagIn, hasTag, fieldBytes}
 
 pub data DraftCall : Type 0 where
   save : ℕ → List ℕ → DraftCall
@@ -38,17 +39,17 @@ pub record OfForm (n : ℕ) (s : List ℕ) : Type 0 where
   pub long : length s ≡ n
 
 -- the number of a call, and the store after it; a return leaves the store as it is
-unfoldable pub answerTo : List ℕ → DraftCall → StoreAnswer
+unfoldable pub answerTo : List ℕ → DraftCall → Outcome ℕ (List ℕ)
 unfolding saveOf forgetOf returnOf
 answerTo o (save n tree) = saveOf o n tree
 answerTo o (forget n) = forgetOf o n
-answerTo o (return n out) = record { number = returnOf o n out .answer .number; store = o }
+answerTo o (return n out) = record { answer = returnOf o n out .answer .number; memory = o }
 
 -- the store after the calls, one after the other, refused ones included
 unfoldable pub storeAfter : List ℕ → List DraftCall → List ℕ
 unfolding answerTo
 storeAfter o [] = o
-storeAfter o (c ∷ cs) = storeAfter (answerTo o c .store) cs
+storeAfter o (c ∷ cs) = storeAfter (answerTo o c .memory) cs
 
 -- the tree of the last accepted save under the name k, not since forgotten: before the call m, after it
 unfoldable pub noted : ℕ → ℕ → DraftCall → Option (List ℕ) → Option (List ℕ)
@@ -59,7 +60,7 @@ noted k number (return n out) m = m
 unfoldable pub lastSaved : ℕ → List ℕ → List DraftCall → Option (List ℕ) → Option (List ℕ)
 unfolding answerTo noted
 lastSaved k o [] m = m
-lastSaved k o (c ∷ cs) m = lastSaved k (answerTo o c .store) cs (noted k (answerTo o c .number) c m)
+lastSaved k o (c ∷ cs) m = lastSaved k (answerTo o c .memory) cs (noted k (answerTo o c .answer) c m)
 
 -- one whole field
 pub record Field (f : List ℕ) : Type 0 where

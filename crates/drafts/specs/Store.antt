@@ -7,6 +7,7 @@ use mathlib.Core.Option.{Option, some, none}
 use lib.ListN.{length, getD, take, drop, replicate}
 use lib.Dec.{ltb, leb, eqb}
 use Rattle.common.specs.Choice.{pick}
+use Rattle.common.specs.Outcome.{Outcome}
 use Rattle.tree.specs.Bytes.{lengthAt}
 use Rattle.tree.specs.Accepted.{element}
 use Rattle.tree.specs.Reading.{ReadOne, readTree}
@@ -83,58 +84,50 @@ unfoldable pub draftOf : ℕ → List (List ℕ) → Option (List ℕ)
 draftOf k [] = none
 draftOf k (f ∷ fs) = pick (eqb (tagIn f) k) (some (drop 3 f)) (draftOf k fs)
 
--- ---- the calls
-
--- the number, and the store afterwards
-pub record StoreAnswer : Type 0 where
-  pub number : ℕ
-  pub store : List ℕ
-
--- the answer, and the lent tree buffer afterwards
-pub record DraftOut : Type 0 where
-  pub answer : Returned
-  pub out : List ℕ
+-- ---- saving and forgetting: the number, and the store afterwards
 
 -- 20 where the other fields, 3 and the tree exceed the store
-abbrev pub saveTree : List ℕ → List (List ℕ) → ℕ → List ℕ → ReadOne → StoreAnswer
-saveTree o fs k tree (ReadOne.refused n) = record { number = n; store = o }
+abbrev pub saveTree : List ℕ → List (List ℕ) → ℕ → List ℕ → ReadOne → Outcome ℕ (List ℕ)
+saveTree o fs k tree (ReadOne.refused n) = record { answer = n; memory = o }
 saveTree o fs k tree (ReadOne.one t z n) =
-    pick (ltb (length o) (length (fieldBytes (withoutTag k fs)) + (3 + length tree))) (record { number = 20; store = o })
-    (record { number = 0; store = storeOf (length o) (withoutTag k fs ++ (element k tree ∷ [])) })
+    pick (ltb (length o) (length (fieldBytes (withoutTag k fs)) + (3 + length tree))) (record { answer = 20; memory = o })
+    (record { answer = 0; memory = storeOf (length o) (withoutTag k fs ++ (element k tree ∷ [])) })
 
-abbrev pub saveIn : List ℕ → Option (List (List ℕ)) → ℕ → List ℕ → StoreAnswer
-saveIn o none n tree = record { number = 18; store = o }
-saveIn o (some fs) n tree = pick (isName n) (saveTree o fs (tagFor n) tree (readTree tree)) (record { number = 19; store = o })
+abbrev pub saveIn : List ℕ → Option (List (List ℕ)) → ℕ → List ℕ → Outcome ℕ (List ℕ)
+saveIn o none n tree = record { answer = 18; memory = o }
+saveIn o (some fs) n tree = pick (isName n) (saveTree o fs (tagFor n) tree (readTree tree)) (record { answer = 19; memory = o })
 
-unfoldable pub saveOf : List ℕ → ℕ → List ℕ → StoreAnswer
+unfoldable pub saveOf : List ℕ → ℕ → List ℕ → Outcome ℕ (List ℕ)
 unfolding fieldsOf storeOf withoutTag isName tagFor
 saveOf o n tree = saveIn o (fieldsOf o) n tree
 
-abbrev pub forgetIn : List ℕ → Option (List (List ℕ)) → ℕ → StoreAnswer
-forgetIn o none n = record { number = 18; store = o }
+abbrev pub forgetIn : List ℕ → Option (List (List ℕ)) → ℕ → Outcome ℕ (List ℕ)
+forgetIn o none n = record { answer = 18; memory = o }
 forgetIn o (some fs) n =
-    pick (isName n) (pick (hasTag (tagFor n) fs) (record { number = 0; store = storeOf (length o) (withoutTag (tagFor n) fs) })
-    (record { number = 19; store = o }))
-    (record { number = 19; store = o })
+    pick (isName n) (pick (hasTag (tagFor n) fs) (record { answer = 0; memory = storeOf (length o) (withoutTag (tagFor n) fs) })
+    (record { answer = 19; memory = o }))
+    (record { answer = 19; memory = o })
 
-unfoldable pub forgetOf : List ℕ → ℕ → StoreAnswer
+unfoldable pub forgetOf : List ℕ → ℕ → Outcome ℕ (List ℕ)
 unfolding fieldsOf storeOf withoutTag isName tagFor hasTag
 forgetOf o n = forgetIn o (fieldsOf o) n
 
-abbrev pub noReturn : ℕ → List ℕ → DraftOut
-noReturn k out = record { answer = record { number = k; count = 0 }; out = out }
+-- ---- returning: the answer, and the lent tree buffer afterwards
+
+abbrev pub noReturn : ℕ → List ℕ → Outcome Returned (List ℕ)
+noReturn k out = record { answer = record { number = k; count = 0 }; memory = out }
 
 -- 8 where the buffer is shorter than the tree; its bytes past the tree stay
-abbrev pub returnFound : Option (List ℕ) → List ℕ → DraftOut
+abbrev pub returnFound : Option (List ℕ) → List ℕ → Outcome Returned (List ℕ)
 returnFound none out = noReturn 19 out
 returnFound (some tree) out =
     pick (ltb (length out) (length tree)) (noReturn 8 out)
-    (record { answer = record { number = 0; count = length tree }; out = tree ++ drop (length tree) out })
+    (record { answer = record { number = 0; count = length tree }; memory = tree ++ drop (length tree) out })
 
-abbrev pub returnIn : Option (List (List ℕ)) → ℕ → List ℕ → DraftOut
+abbrev pub returnIn : Option (List (List ℕ)) → ℕ → List ℕ → Outcome Returned (List ℕ)
 returnIn none n out = noReturn 18 out
 returnIn (some fs) n out = pick (isName n) (returnFound (draftOf (tagFor n) fs) out) (noReturn 19 out)
 
-unfoldable pub returnOf : List ℕ → ℕ → List ℕ → DraftOut
+unfoldable pub returnOf : List ℕ → ℕ → List ℕ → Outcome Returned (List ℕ)
 unfolding fieldsOf draftOf isName tagFor
 returnOf o n out = returnIn (fieldsOf o) n out

@@ -71,7 +71,7 @@ fn open_store(store: &[u8], name: u8) -> Opened
 // The draft of that name is copied to the front of `out`.
 pub fn return_draft(store: &[u8], name: u8, out: &mut [u8]) -> Returned
     ensures { λ r. ⌜ r ≡ returnOf (now (store .entry)) name (now (out .entry)) .answer ⌝ }
-    ensures copied { λ _. ⌜ now (out .exit) ≡ returnOf (now (store .entry)) name (now (out .entry)) .out ⌝ }
+    ensures copied { λ _. ⌜ now (out .exit) ≡ returnOf (now (store .entry)) name (now (out .entry)) .memory ⌝ }
 {
     let p = open_store(store, name);
     let number = p.number;
@@ -109,8 +109,8 @@ pub fn return_draft(store: &[u8], name: u8, out: &mut [u8]) -> Returned
 
 // The draft of that name is taken out; the rest closes up.
 pub fn forget_draft(store: &mut [u8], name: u8) -> u8
-    ensures { λ r. ⌜ r ≡ forgetOf (now (store .entry)) name .number ⌝ }
-    ensures left { λ _. ⌜ now (store .exit) ≡ forgetOf (now (store .entry)) name .store ⌝ }
+    ensures { λ r. ⌜ r ≡ forgetOf (now (store .entry)) name .answer ⌝ }
+    ensures left { λ _. ⌜ now (store .exit) ≡ forgetOf (now (store .entry)) name .memory ⌝ }
 {
     let p = open_store(store, name);
     let number = p.number;
@@ -131,8 +131,8 @@ pub fn forget_draft(store: &mut [u8], name: u8) -> u8
 
 // An older draft of that name is dropped, and the tree is put last.
 pub fn save_draft(store: &mut [u8], name: u8, tree: &[u8]) -> u8
-    ensures { λ r. ⌜ r ≡ saveOf (now (store .entry)) name (now (tree .entry)) .number ⌝ }
-    ensures left { λ _. ⌜ now (store .exit) ≡ saveOf (now (store .entry)) name (now (tree .entry)) .store ⌝ }
+    ensures { λ r. ⌜ r ≡ saveOf (now (store .entry)) name (now (tree .entry)) .answer ⌝ }
+    ensures left { λ _. ⌜ now (store .exit) ≡ saveOf (now (store .entry)) name (now (tree .entry)) .memory ⌝ }
 {
     let p = open_store(store, name);
     let number = p.number;

@@ -127,7 +127,7 @@ module _ (ws hs : List ℕ) (g w budget one : ℕ) (q : Narrow ws hs g w one) (l
           → l₁ ≡ counts (columns (p .known .settings) (f .best) (p .known .cells))
           ++ drop (length (columns (p .known .settings) (f .best) (p .known .cells))) l)
           → (m : ℕ) → m ≡ pick (ltb (f .tries) (one - least)) (f .best - least) 0
-          → record { answer = record { number = 0; columns = r .columns + 1; height = f .best; tries = f .tries; miss = m }; list = l₁ }
+          → record { answer = record { number = 0; columns = r .columns + 1; height = f .best; tries = f .tries; miss = m }; memory = l₁ }
           ≡ finds (q .known .settings) (q .known .cells) l (find (q .known .settings) w (q .known .cells) budget)
       unfolding answer-room
       answer-done h l₁ e m me = rw (← fe, e (answer-room h), missed-is m me, ← k .count, le-ltb (length l) (r .columns + 1) h)

@@ -2,7 +2,8 @@
 use Prim.Native.Nat.{ℕ, _+_, _-_, _*_}
 use mathlib.Core.List.{List}
 use lib.ListN.{take}
-use Rattle.frame.specs.Printer.{Prints}
+use Rattle.common.specs.Outcome.{Outcome}
+use Rattle.frame.specs.declared.Written.{Written}
 
 -- the columns and the 0A after them
 abbrev pub strideOf : ℕ → ℕ
@@ -13,5 +14,5 @@ abbrev pub byteCount : ℕ → ℕ → ℕ
 byteCount w h = strideOf w * h - 1
 
 -- the bytes that a printer wrote
-abbrev pub bytesWritten : Prints → List ℕ
-bytesWritten p = take (p .answer .count) (p .out)
+abbrev pub bytesWritten : Outcome Written (List ℕ) → List ℕ
+bytesWritten p = take (p .answer .count) (p .memory)

@@ -9,6 +9,7 @@ use mathlib.Core.Option.{Option, some, none}
 use lib.ListN.{length}
 use lib.Dec.{ltb}
 use Rattle.common.specs.Choice.{pick}
+use Rattle.common.specs.Outcome.{Outcome}
 use Rattle.settings.specs.declared.Settings.{Settings}
 use Rattle.tree.specs.Tree.{Tree, cell, group, Trees, more, nodes}
 use Rattle.tree.proofs.Fronts.{nodes-low, LeafIs, a-cell, an-empty, leaf-nodes}
@@ -18,8 +19,9 @@ use Rattle.sizes.proofs.MeasuredInput.{input-refusal}
 use Rattle.block.specs.Block.{block}
 use Rattle.layout.specs.Walk.{Placed, leafOf, leaves}
 use Rattle.layout.proofs.Named.{leaf-node, node-leaf}
+use Rattle.frame.specs.declared.Written.{Written}
 use Rattle.frame.specs.Frame.{tooLarge}
-use Rattle.frame.specs.Printer.{Prints, noPrint}
+use Rattle.frame.specs.Printer.{noPrint}
 use Rattle.leaf.specs.Answers.{leafNumbered, noLeafRecord, recordFound, leafRecordOf, printFound, leafPrintOf}
 use Rattle.leaf.specs.Promises.{LeafNode, NamesNoLeaf}
 use Rattle.leaf.proofs.LeafNumbers.{leaf-found, found-leaf}
@@ -73,7 +75,7 @@ module _ (bs ts : List ℕ) (n : ℕ) where
 
 -- the leaf printer answers 9 where the leaf record does
 module _ (s : Settings) (o : List ℕ) where
-  printed-case : (d : Bool) (p : Prints) → p .answer .number ≡ 0 → pick d (noPrint 8 o) p .answer .number ≡ 9 → ⊥
+  printed-case : (d : Bool) (p : Outcome Written (List ℕ)) → p .answer .number ≡ 0 → pick d (noPrint 8 o) p .answer .number ≡ 9 → ⊥
   printed-case true p e h = omega arith
   printed-case false p e h = omega arith
 

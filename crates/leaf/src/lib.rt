@@ -153,7 +153,7 @@ fn print_block(tree: &[u8], list: &[u16], leaf: &mut [u16], s: Settings, out: &m
     requires { ⌜ ShowsLeaf (now tree) (now list) (now leaf) s ⌝ }
     ensures { λ r. ⌜ ((q : ShowsLeaf (now (tree .entry)) (now (list .entry)) (now (leaf .entry)) s)
         → (r ≡ printTo (joinLines (blocks.block s (leafOf (q .leaf)))) (now (out .entry)) .answer)
-        × (now (out .exit) ≡ printTo (joinLines (blocks.block s (leafOf (q .leaf)))) (now (out .entry)) .out)) ⌝ }
+        × (now (out .exit) ≡ printTo (joinLines (blocks.block s (leafOf (q .leaf)))) (now (out .entry)) .memory)) ⌝ }
 {
     let e = entry_at(leaf);
     let end = FRONT + e.horizontal + e.vertical;
@@ -178,7 +178,7 @@ fn print_block(tree: &[u8], list: &[u16], leaf: &mut [u16], s: Settings, out: &m
 // The block of the leaf with that number, its lines joined by 0A, at the start of the output.
 pub fn print_leaf(settings: &[u8], tree: &[u8], node: usize, out: &mut [u8]) -> Written
     ensures { λ r. ⌜ r ≡ leafPrintOf (inputOf (now (settings .entry)) (now (tree .entry))) node (now (out .entry)) .answer ⌝ }
-    ensures shown { λ _. ⌜ now (out .exit) ≡ leafPrintOf (inputOf (now (settings .entry)) (now (tree .entry))) node (now (out .entry)) .out ⌝ }
+    ensures shown { λ _. ⌜ now (out .exit) ≡ leafPrintOf (inputOf (now (settings .entry)) (now (tree .entry))) node (now (out .entry)) .memory ⌝ }
 {
     let mut list = [0u16; 2048];
     let mut leaves = [0u16; 5120];

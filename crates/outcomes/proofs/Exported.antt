@@ -8,6 +8,7 @@ use lib.ListN.{length}
 use lib.Dec.{ltb, eqb}
 use borrow.Author.Tests.{eqb-true, ltb-true}
 use Rattle.common.specs.Choice.{pick}
+use Rattle.common.specs.Outcome.{Outcome}
 use Rattle.settings.specs.declared.Settings.{Settings}
 use Rattle.settings.specs.Reading.{Parsed, readSettings, priorityOf}
 use Rattle.tree.specs.Tree.{nodes}
@@ -28,8 +29,8 @@ use Rattle.typed.specs.Typed.{typedOf}
 use Rattle.c_encoding.specs.Words.{packed, typedWord}
 use Rattle.c_encoding.specs.Promises.{numberIn}
 use Rattle.c_encoding.proofs.TypedWord.{typed-word}
-use Rattle.c_encoding.specs.Numbers.{Gives, refusal, written, offered, settingsNumbers, marginNumbers, readGiven, sizeNumbers, sizesGiven, recordNumbers, recordGiven}
-use Rattle.c_encoding.specs.Cuts.{refusedBy, unless, GivesTwo, refusalTwo, writtenTwo, keptGiven, shortGiven, splits3Given, lentGiven, splitsGiven}
+use Rattle.c_encoding.specs.Numbers.{refusal, written, offered, settingsNumbers, marginNumbers, readGiven, sizeNumbers, sizesGiven, recordNumbers, recordGiven}
+use Rattle.c_encoding.specs.Cuts.{refusedBy, unless, writtenTwo, keptGiven, shortGiven, splits3Given, lentGiven, splitsGiven}
 use Rattle.c_encoding.specs.Places.{placeNumbers, placeGiven}
 use Rattle.c_encoding.specs.Plans.{endsWord}
 use Rattle.outcomes.specs.Promises.{Among, Answers, inputIn, ofShare, ofSizes, ofRecord, ofLeaf, ofPlace, ofLegSettings, ofLegPlace, ofLegCut, ExportNumbers}
@@ -98,37 +99,39 @@ module _ (ns : List ℕ) (s : small ns ≡ true) where
   word-among : (n count : ℕ) → Among n ns → Among (numberIn (packed n count)) ns
   word-among n count h = rw (number-back n count (among-small n ns s h)) h
 
-  offered-among : (count : ℕ) (numbers o : List ℕ) → Among 0 ns → Among 8 ns → Among (numberIn (offered count numbers o .word)) ns
+  offered-among : (count : ℕ) (numbers o : List ℕ) → Among 0 ns → Among 8 ns → Among (numberIn (offered count numbers o .answer)) ns
   unfolding offered refusal written
   offered-among count numbers o z e =
-      number-of (λ (g : Gives). numberIn (g .word)) ns (ltb (length o) (length numbers)) (refusal 8 o) (written count numbers o) (word-among 8 0 e)
+      number-of (λ (g : Outcome ℕ (List ℕ)). numberIn (g .answer)) ns (ltb (length o) (length numbers)) (refusal 8 o) (written count numbers o)
+      (word-among 8 0 e)
       (word-among 0 count z)
 
   -- what is offered where the call's number is 0
   given-among : (n count : ℕ) (numbers o : List ℕ) → Among 0 ns → Among 8 ns → Among n ns
-      → Among (numberIn (pick (eqb n 0) (offered count numbers o) (refusal n o) .word)) ns
+      → Among (numberIn (pick (eqb n 0) (offered count numbers o) (refusal n o) .answer)) ns
   unfolding refusal
   given-among n count numbers o z e h =
-      number-of (λ (g : Gives). numberIn (g .word)) ns (eqb n 0) (offered count numbers o) (refusal n o) (offered-among count numbers o z e) (word-among n 0 h)
+      number-of (λ (g : Outcome ℕ (List ℕ)). numberIn (g .answer)) ns (eqb n 0) (offered count numbers o) (refusal n o) (offered-among count numbers o z e)
+      (word-among n 0 h)
 
-read-among : (count : ℕ) (numbers : Settings → List ℕ) (p : Parsed) (o : List ℕ) → Among (numberIn (readGiven count numbers p o .word)) ofLegSettings
+read-among : (count : ℕ) (numbers : Settings → List ℕ) (p : Parsed) (o : List ℕ) → Among (numberIn (readGiven count numbers p o .answer)) ofLegSettings
 unfolding readGiven refusal small oneOf
 read-among count numbers Parsed.refused o = refl
 read-among count numbers (Parsed.read s) o = offered-among ofLegSettings refl count (numbers s) o refl refl
 
-sizes-among : (bs ts o : List ℕ) (x : Input) → inputOf bs ts ≡ x → Among (numberIn (sizesGiven x o .word)) ofSizes
+sizes-among : (bs ts o : List ℕ) (x : Input) → inputOf bs ts ≡ x → Among (numberIn (sizesGiven x o .answer)) ofSizes
 unfolding sizesGiven refusal small oneOf
 sizes-among bs ts o (refused k) e = word-among ofSizes refl k 0 (input-among ofSizes refl refl refl refl refl bs ts k e)
 sizes-among bs ts o (given s t) e = offered-among ofSizes refl (nodes t) (sizeNumbers (recordsOf s t)) o refl refl
 
-record-among : (bs ts : List ℕ) (n : ℕ) (o : List ℕ) → Among (numberIn (recordGiven (leafRecordOf (inputOf bs ts) n) o .word)) ofLeaf
+record-among : (bs ts : List ℕ) (n : ℕ) (o : List ℕ) → Among (numberIn (recordGiven (leafRecordOf (inputOf bs ts) n) o .answer)) ofLeaf
 unfolding recordGiven small oneOf within
 record-among bs ts n o =
     let r = leafRecordOf (inputOf bs ts) n in
     given-among ofLeaf refl (r .number) 1039 (recordNumbers r) o refl refl (wider (r .number) ofRecord ofLeaf refl
     (call-numbers .leaf-record .only (record { settings = bs; tree = ts; rest = n })))
 
-place-among : (bs ts : List ℕ) (l k : ℕ) (o : List ℕ) → Among (numberIn (placeGiven (leafPlaceOf (inputOf bs ts) l k) o .word)) ofLegPlace
+place-among : (bs ts : List ℕ) (l k : ℕ) (o : List ℕ) → Among (numberIn (placeGiven (leafPlaceOf (inputOf bs ts) l k) o .answer)) ofLegPlace
 unfolding placeGiven small oneOf within
 place-among bs ts l k o =
     let r = leafPlaceOf (inputOf bs ts) l k in
@@ -158,22 +161,24 @@ unless-among : {T : Type 0} (word : T → ℕ) (k : ℕ) (refuse : ℕ → T) (x
 unfolding small oneOf
 unless-among word k refuse x h e g = number-of (λ y. numberIn (word y)) ofLegCut (eqb k 0) x (refuse k) g (rw (e k) (word-among ofLegCut refl k 0 h))
 
-splits3-among : (s : List ℕ) (n w : ℕ) (o : List ℕ) → Among (numberIn (splits3Given s n w o .word)) ofLegCut
+splits3-among : (s : List ℕ) (n w : ℕ) (o : List ℕ) → Among (numberIn (splits3Given s n w o .answer)) ofLegCut
 unfolding splits3Given refusal written oneOf
 splits3-among s n w o =
-    unless-among (λ (g : Gives). g .word) (refusedBy (length s) n (length o) 1029) (λ k. refusal k o) _ (refused-among (length s) n (length o) 1029)
+    unless-among (λ (g : Outcome ℕ (List ℕ)). g .answer) (refusedBy (length s) n (length o) 1029) (λ k. refusal k o) _
+    (refused-among (length s) n (length o) 1029)
     (λ j. refl) refl
 
-lent-among : (s : List ℕ) (n w : ℕ) (o : List ℕ) → Among (numberIn (lentGiven s n w o .word)) ofLegCut
-unfolding lentGiven keptGiven refusalTwo writtenTwo oneOf
+lent-among : (s : List ℕ) (n w : ℕ) (o : List ℕ) → Among (numberIn (lentGiven s n w o .answer)) ofLegCut
+unfolding lentGiven keptGiven refusal writtenTwo oneOf
 lent-among s n w o =
-    unless-among (λ (g : GivesTwo). g .word) (refusedBy (length s) n (length o) 517) (λ k. refusalTwo k s o) _ (refused-among (length s) n (length o) 517)
+    unless-among (λ (g : Outcome ℕ (List ℕ × List ℕ)). g .answer) (refusedBy (length s) n (length o) 517) (λ k. refusal k (s, o)) _
+    (refused-among (length s) n (length o) 517)
     (λ j. refl) refl
 
-splits-among : (s : List ℕ) (n w : ℕ) (o p : List ℕ) → Among (numberIn (splitsGiven s n w o p .word)) ofLegCut
-unfolding splitsGiven shortGiven refusalTwo writtenTwo oneOf
+splits-among : (s : List ℕ) (n w : ℕ) (o p : List ℕ) → Among (numberIn (splitsGiven s n w o p .answer)) ofLegCut
+unfolding splitsGiven shortGiven refusal writtenTwo oneOf
 splits-among s n w o p =
-    unless-among (λ (g : GivesTwo). g .word) (refusedBy (length s) n (min (length o) (length p)) 513) (λ k. refusalTwo k o p) _
+    unless-among (λ (g : Outcome ℕ (List ℕ × List ℕ)). g .answer) (refusedBy (length s) n (min (length o) (length p)) 513) (λ k. refusal k (o, p)) _
     (refused-among (length s) n (min (length o) (length p)) 513) (λ j. refl) refl
 
 -- ---- the planning word

@@ -12,6 +12,7 @@ use lib.ListN.{length, drop}
 use lib.Dec.{ltb, leb, eqb}
 use Rattle.common.specs.Choice.{pick, both}
 use Rattle.common.specs.Sums.{greatest}
+use Rattle.common.specs.Outcome.{Outcome}
 use Rattle.settings.specs.declared.Settings.{Settings}
 use Rattle.settings.specs.declared.Priority.{Priority}
 use Rattle.settings.specs.Reading.{Parsed, readSettings, parsedAnswer as settingsGiven}
@@ -29,7 +30,7 @@ use Rattle.splits.specs.Splits.{shortSplits3, shortSplits}
 use Rattle.splits.specs.Lists.{listOf}
 use Rattle.splits.specs.Cuts.{cutAnswered, refusedCut, cutOf, inPlaceCut, answeredShort, refusedShort, shortOf}
 use Rattle.text.specs.Text.{joinLines}
-use Rattle.drafts.specs.Store.{isName, tagFor, hasTag, fieldsOf, fieldBytes, storeOf, withoutTag, draftOf, StoreAnswer, DraftOut, saveTree, saveIn, saveOf, forgetIn, forgetOf, noReturn, returnFound, returnIn, returnOf}
+use Rattle.drafts.specs.Store.{isName, tagFor, hasTag, fieldsOf, fieldBytes, storeOf, withoutTag, draftOf, saveTree, saveIn, saveOf, forgetIn, forgetOf, noReturn, returnFound, returnIn, returnOf}
 use Rattle.sharing.specs.declared.Shared.{Shared}
 use Rattle.sharing.specs.Sharing.{shareOf, share}
 use Rattle.sizes.specs.Sizes.{naturals}
@@ -37,30 +38,37 @@ use Rattle.sizes.specs.Collecting.{sizeWidth}
 use Rattle.sizes.specs.Input.{Input, refused, given, inputOf}
 use Rattle.sizes.proofs.MeasuredInput.{input-refusal}
 use Rattle.fold.specs.Fold.{columns, find, missed}
-use Rattle.fold.specs.Answers.{listedTrees, list?, Folds, noFolds, counts, finds, foldCells, foldOf}
+use Rattle.fold.specs.Answers.{listedTrees, list?, noFolds, counts, finds, foldCells, foldOf}
 use Rattle.collector.specs.declared.SizeRecord.{SizeRecord}
-use Rattle.collector.specs.Records.{recordsOf, Outcome, noCollected, collectOf}
-use Rattle.blank.specs.Blank.{blanked, dotsFor, oneOf, allCells, cellFlags, Blanks, noBlank, blankTo, blankIn, blankOf}
+use Rattle.collector.specs.Records.{recordsOf, noCollected, collectOf}
+use Rattle.blank.specs.Blank.{blanked, dotsFor, oneOf, allCells, cellFlags, noBlank, blankTo, blankIn, blankOf}
+use Rattle.collector.specs.declared.Collected.{Collected}
 use Rattle.block.specs.Block.{block}
 use Rattle.typed.specs.Typed.{typedOf}
 use Rattle.typed.proofs.Answered.{typed-cases}
 use Rattle.typed.proofs.Faults.{fault-at}
 use Rattle.layout.specs.Walk.{Placed, leafOf, leaves, insideW, insideH}
+use Rattle.frame.specs.declared.Written.{Written}
 use Rattle.frame.specs.Frame.{W, H, tooLarge}
-use Rattle.frame.specs.Printer.{Prints, noPrint, printTo}
+use Rattle.frame.specs.Printer.{noPrint, printTo}
 use Rattle.widen.specs.Widening.{treeNeeds, nearestList}
 use Rattle.widen.specs.Listing.{nodesOf, lettersOf}
-use Rattle.widen.specs.Answers.{Nearests, noNearest, nearestOf}
+use Rattle.widen.specs.Answers.{noNearest, nearestOf}
 use Rattle.plan.specs.Answers.{planSettingsInput, planInput, plannedOf}
 use Rattle.leaf.specs.declared.LeafRecord.{LeafRecord}
 use Rattle.leaf.specs.Answers.{leafNumbered, noLeafRecord, recordFound, leafRecordOf, printFound, leafPrintOf}
 use Rattle.sheet.specs.Sheet.{sheet}
 use Rattle.sheet.specs.Answers.{sheetOf}
+use Rattle.places.specs.declared.FoundPlaces.{FoundPlaces}
 use Rattle.places.specs.declared.LeafPlace.{LeafPlace}
 use Rattle.places.specs.declared.area.Area.{Area}
 use Rattle.places.specs.Words.{lineOf, columnOf}
 use Rattle.places.specs.Places.{among, ownerOf, areas, faultOf, noLeafPlace, leafPlaceFound, leafPlaceIn, leafPlaceOf}
-use Rattle.places.specs.Together.{located, wordOf, firstFault, Finds, noFinds, findsTo, findsIn, findsOf}
+use Rattle.places.specs.Together.{located, wordOf, firstFault, noFinds, findsTo, findsIn, findsOf}
+use Rattle.fold.specs.declared.Folded.{Folded}
+use Rattle.widen.specs.declared.Widened.{Widened}
+use Rattle.drafts.specs.declared.Returned.{Returned}
+use Rattle.blank.specs.declared.Blanked.{Blanked}
 use Rattle.outcomes.specs.Promises.{Among, inputIn, ofSettings, ofTree, ofCut, ofShare, ofSizes, ofRecord, ofLeaf, ofSheet, ofPlace, ofPlaces, ofFold, ofPlan, ofSave, ofForget, ofReturn, ofBlank, ofTyped, CallNumbers}
 use Rattle.outcomes.specs.Figures.{settings-met, tree-met, cut-met, kept-met, short-met, share-met, collect-met, record-met, leaf-met, sheet-met, place-met, places-met, fold-met, plan-met, nearest-met, save-met, forget-met, return-met, blank-met}
 use Rattle.outcomes.specs.TypedFigures.{typed-met}
@@ -128,21 +136,22 @@ share-number spare n p i =
 -- ---- the calls on settings and tree: by what these are
 
 -- a printer
-abbrev printed : Prints → ℕ
+abbrev printed : Outcome Written (List ℕ) → ℕ
 printed p = p .answer .number
 
 to-number : (ns bytes o : List ℕ) → Among 8 ns → Among 0 ns → Among (printTo bytes o .answer .number) ns
 to-number ns bytes o p q =
     number-of printed ns (ltb (length o) (length bytes)) (noPrint 8 o)
-    (record { answer = record { number = 0; count = length bytes }; out = bytes ++ drop (length bytes) o }) p q
+    (record { answer = record { number = 0; count = length bytes }; memory = bytes ++ drop (length bytes) o }) p q
 
 module _ (bs ts : List ℕ) where
   collect-in : (l : List SizeRecord) (x : Input) → inputOf bs ts ≡ x → Among (collectOf x l .answer .number) ofSizes
   unfolding collectOf oneOf
   collect-in l (refused k) e = input-among ofSizes refl refl refl refl refl bs ts k e
   collect-in l (given s t) e =
-      number-of (λ (c : Outcome). c .answer .number) ofSizes (ltb (length l) (nodes t)) (record { answer = noCollected 8; list = l })
-      (record { answer = record { number = 0; count = nodes t }; list = recordsOf s t ++ drop (nodes t) l }) refl refl
+      number-of (λ (c : Outcome Collected (List SizeRecord)). c .answer .number) ofSizes (ltb (length l) (nodes t))
+      (record { answer = noCollected 8; memory = l })
+      (record { answer = record { number = 0; count = nodes t }; memory = recordsOf s t ++ drop (nodes t) l }) refl refl
 
   found-record : (x : Option Placed) → Among (recordFound x .number) ofRecord
   unfolding oneOf
@@ -213,12 +222,12 @@ module _ (bs ts : List ℕ) where
   unfolding findsOf oneOf
   finds-in ps fs (refused n) e = input-among ofPlaces refl refl refl refl refl bs ts n e
   finds-in ps fs (given s t) e =
-      let g : Finds → ℕ = λ r. r .answer .number in
+      let g : Outcome FoundPlaces (List ℕ) → ℕ = λ r. r .answer .number in
       number-of g ofPlaces (tooLarge s t) (noFinds 6 fs) (findsIn s t ps fs) refl
       (number-of g ofPlaces (ltb 256 (length ps)) (noFinds 14 fs) (pick (eqb (firstFault s t ps) 0) (findsTo s t ps fs) (noFinds (firstFault s t ps) fs)) refl
       (number-of g ofPlaces (eqb (firstFault s t ps) 0) (findsTo s t ps fs) (noFinds (firstFault s t ps) fs)
       (number-of g ofPlaces (ltb (length fs) (length ps)) (noFinds 8 fs)
-      (record { answer = record { number = 0; count = length ps; steps = located s t .steps }; list = map (wordOf s t) ps ++ drop (length ps) fs }) refl
+      (record { answer = record { number = 0; count = length ps; steps = located s t .steps }; memory = map (wordOf s t) ps ++ drop (length ps) fs }) refl
       refl)
       (first-among ofPlaces refl refl refl s t ps)))
 
@@ -228,7 +237,7 @@ module _ (bs ts : List ℕ) where
   unfolding foldOf foldCells oneOf
   fold-in w budget l (refused k) e = input-among ofFold refl refl refl refl refl bs ts k e
   fold-in w budget l (given s t) e =
-      let g : Folds → ℕ = λ r. r .answer .number in
+      let g : Outcome Folded (List ℕ) → ℕ = λ r. r .answer .number in
       let zs = naturals s (listedTrees t) in
       let f = find s w zs budget in
       let cs = columns s (f .best) zs in
@@ -237,7 +246,7 @@ module _ (bs ts : List ℕ) where
       (number-of g ofFold (ltb (length l) (length cs)) (noFolds 8 l)
       (record {
         answer = record { number = 0; columns = length cs; height = f .best; tries = f .tries; miss = missed s zs f };
-        list = counts cs ++ drop (length cs) l;
+        memory = counts cs ++ drop (length cs) l;
       }) refl refl))
       refl
 
@@ -245,10 +254,13 @@ module _ (bs ts : List ℕ) where
   unfolding nearestOf oneOf
   nearest-in ns ls (refused k) e = input-among ofSizes refl refl refl refl refl bs ts k e
   nearest-in ns ls (given s t) e =
-      let g : Nearests → ℕ = λ r. r .answer .number in
+      let g : Outcome Widened (List ℕ × List ℕ) → ℕ = λ r. r .answer .number in
       let l = nearestList (treeNeeds s t) in
-      let all : Nearests =
-      record { answer = record { number = 0; count = length l }; nodes = nodesOf l ++ drop (length l) ns; letters = lettersOf l ++ drop (length l) ls } in
+      let all : Outcome Widened (List ℕ × List ℕ) =
+      record {
+        answer = record { number = 0; count = length l };
+        memory = (nodesOf l ++ drop (length l) ns, lettersOf l ++ drop (length l) ls);
+      } in
       number-of g ofSizes (ltb (length ns) (length l)) (noNearest 8 ns ls) (pick (ltb (length ls) (length l)) (noNearest 8 ns ls) all) refl
       (number-of g ofSizes (ltb (length ls) (length l)) (noNearest 8 ns ls) all refl refl)
 
@@ -268,33 +280,33 @@ module _ (bs ts : List ℕ) where
 
 -- ---- drafts
 
-save-number : (o : List ℕ) (n : ℕ) (tree : List ℕ) → Among (saveOf o n tree .number) ofSave
+save-number : (o : List ℕ) (n : ℕ) (tree : List ℕ) → Among (saveOf o n tree .answer) ofSave
 unfolding saveOf oneOf
 save-number o n tree = go (fieldsOf o)
   where
-    read : (fs : List (List ℕ)) (y : ReadOne) → readTree tree ≡ y → Among (saveTree o fs (tagFor n) tree y .number) ofSave
+    read : (fs : List (List ℕ)) (y : ReadOne) → readTree tree ≡ y → Among (saveTree o fs (tagFor n) tree y .answer) ofSave
     read fs (ReadOne.refused k) e = tree-among ofSave refl refl refl refl tree k e
     read fs (ReadOne.one t z w) e =
-        number-of (λ (r : StoreAnswer). r .number) ofSave (ltb (length o) (length (fieldBytes (withoutTag (tagFor n) fs)) + (3 + length tree))) (record
-        { number = 20; store = o })
-        (record { number = 0; store = storeOf (length o) (withoutTag (tagFor n) fs ++ (element (tagFor n) tree ∷ [])) }) refl refl
+        number-of (λ (r : Outcome ℕ (List ℕ)). r .answer) ofSave (ltb (length o) (length (fieldBytes (withoutTag (tagFor n) fs)) + (3 + length tree))) (record
+        { answer = 20; memory = o })
+        (record { answer = 0; memory = storeOf (length o) (withoutTag (tagFor n) fs ++ (element (tagFor n) tree ∷ [])) }) refl refl
 
-    go : (x : Option (List (List ℕ))) → Among (saveIn o x n tree .number) ofSave
+    go : (x : Option (List (List ℕ))) → Among (saveIn o x n tree .answer) ofSave
     go none = refl
-    go (some fs) = number-of (λ (r : StoreAnswer). r .number) ofSave (isName n) (saveTree o fs (tagFor n) tree (readTree tree)) (record
-        { number = 19; store = o }) (read fs (readTree tree) refl) refl
+    go (some fs) = number-of (λ (r : Outcome ℕ (List ℕ)). r .answer) ofSave (isName n) (saveTree o fs (tagFor n) tree (readTree tree)) (record
+        { answer = 19; memory = o }) (read fs (readTree tree) refl) refl
 
-forget-number : (o : List ℕ) (n : ℕ) → Among (forgetOf o n .number) ofForget
+forget-number : (o : List ℕ) (n : ℕ) → Among (forgetOf o n .answer) ofForget
 unfolding forgetOf oneOf
 forget-number o n = go (fieldsOf o)
   where
-    go : (x : Option (List (List ℕ))) → Among (forgetIn o x n .number) ofForget
+    go : (x : Option (List (List ℕ))) → Among (forgetIn o x n .answer) ofForget
     go none = refl
     go (some fs) =
-        let g : StoreAnswer → ℕ = λ r. r .number in
-        let gone : StoreAnswer = record { number = 0; store = storeOf (length o) (withoutTag (tagFor n) fs) } in
-        number-of g ofForget (isName n) (pick (hasTag (tagFor n) fs) gone (record { number = 19; store = o })) (record { number = 19; store = o })
-        (number-of g ofForget (hasTag (tagFor n) fs) gone (record { number = 19; store = o }) refl refl) refl
+        let g : Outcome ℕ (List ℕ) → ℕ = λ r. r .answer in
+        let gone : Outcome ℕ (List ℕ) = record { answer = 0; memory = storeOf (length o) (withoutTag (tagFor n) fs) } in
+        number-of g ofForget (isName n) (pick (hasTag (tagFor n) fs) gone (record { answer = 19; memory = o })) (record { answer = 19; memory = o })
+        (number-of g ofForget (hasTag (tagFor n) fs) gone (record { answer = 19; memory = o }) refl refl) refl
 
 return-number : (o : List ℕ) (n : ℕ) (out : List ℕ) → Among (returnOf o n out .answer .number) ofReturn
 unfolding returnOf oneOf
@@ -303,13 +315,14 @@ return-number o n out = go (fieldsOf o)
     found : (x : Option (List ℕ)) → Among (returnFound x out .answer .number) ofReturn
     found none = refl
     found (some tree) =
-        number-of (λ (r : DraftOut). r .answer .number) ofReturn (ltb (length out) (length tree)) (noReturn 8 out) (record
-        { answer = record { number = 0; count = length tree }; out = tree ++ drop (length tree) out }) refl refl
+        number-of (λ (r : Outcome Returned (List ℕ)). r .answer .number) ofReturn (ltb (length out) (length tree)) (noReturn 8 out) (record
+        { answer = record { number = 0; count = length tree }; memory = tree ++ drop (length tree) out }) refl refl
 
     go : (x : Option (List (List ℕ))) → Among (returnIn x n out .answer .number) ofReturn
     go none = refl
-    go (some fs) = number-of (λ (r : DraftOut). r .answer .number) ofReturn (isName n) (returnFound (draftOf (tagFor n) fs) out) (noReturn 19 out) (found
-        (draftOf (tagFor n) fs)) refl
+    go (some fs) =
+        number-of (λ (r : Outcome Returned (List ℕ)). r .answer .number) ofReturn (isName n) (returnFound (draftOf (tagFor n) fs) out) (noReturn 19 out)
+        (found (draftOf (tagFor n) fs)) refl
 
 -- ---- question papers
 
@@ -317,11 +330,11 @@ blank-in : (tree ns o : List ℕ) (x : ReadOne) → readTree tree ≡ x → Amon
 unfolding oneOf
 blank-in tree ns o (ReadOne.refused k) e = tree-among ofBlank refl refl refl refl tree k e
 blank-in tree ns o (ReadOne.one t z n) e =
-    let g : Blanks → ℕ = λ r. r .answer .number in
+    let g : Outcome Blanked (List ℕ) → ℕ = λ r. r .answer .number in
     let bytes = bytesOf (blanked (dotsFor ns) 0 t) in
     number-of g ofBlank (allCells (cellFlags t) ns) (blankTo bytes o) (noBlank 9 o)
     (number-of g ofBlank (ltb (length o) (length bytes)) (noBlank 8 o)
-    (record { answer = record { number = 0; count = length bytes }; out = bytes ++ drop (length bytes) o }) refl refl) refl
+    (record { answer = record { number = 0; count = length bytes }; memory = bytes ++ drop (length bytes) o }) refl refl) refl
 
 blank-number : (tree ns o : List ℕ) → Among (blankOf tree ns o .answer .number) ofBlank
 unfolding blankOf

@@ -35,7 +35,7 @@ use Rattle.sheet.specs.Answers.{sheetOf}
 use Rattle.places.specs.Places.{leafPlaceOf}
 use Rattle.places.specs.Together.{findsOf}
 use Rattle.c_encoding.specs.Numbers.{refusal, written, readGiven, sizeNumbers, sizesGiven, recordGiven}
-use Rattle.c_encoding.specs.Cuts.{refusedBy, splits3Given, refusalTwo, writtenTwo, keptGiven, lentGiven, shortGiven, splitsGiven}
+use Rattle.c_encoding.specs.Cuts.{refusedBy, splits3Given, writtenTwo, keptGiven, lentGiven, shortGiven, splitsGiven}
 use Rattle.c_encoding.specs.Places.{placeGiven}
 use Rattle.outcomes.specs.Promises.{Met, Handed, legSettings, legMargin, legSizes, legRecord, legPlace, legSplits3, legLent, legSplits, legShare, ofLegSettings, ofLegPlace, ofLegCut, ofSettings, ofTree, ofCut, ofShare, ofSizes, ofRecord, ofLeaf, ofSheet, ofPlace, ofPlaces, ofFold, ofPlan, ofSave, ofForget, ofReturn, ofBlank, settingsNumber, treeNumber, cutNumber, keptNumber, shortNumber, shareNumber, collectNumber, recordNumber, leafNumber, sheetNumber, placeNumber, placesNumber, foldNumber, planNumber, nearestNumber, saveNumber, forgetNumber, returnNumber, blankNumber}
 
@@ -290,11 +290,11 @@ unfolding splits3Given refusedBy refusal written
 leg-splits3-met = record { inputs = ([], 0, 0, replicate 1029 0) ∷ ([], 0, 0, []) ∷ (replicate 513 0, 513, 0, replicate 1029 0) ∷ []; each = refl }
 
 pub leg-lent-met : Met legLent ofLegCut
-unfolding lentGiven refusedBy keptGiven refusalTwo writtenTwo
+unfolding lentGiven refusedBy keptGiven refusal writtenTwo
 leg-lent-met = record { inputs = ([], 0, 0, replicate 517 0) ∷ ([], 0, 0, []) ∷ (replicate 513 0, 513, 0, replicate 517 0) ∷ []; each = refl }
 
 pub leg-splits-met : Met legSplits ofLegCut
-unfolding splitsGiven refusedBy shortGiven refusalTwo writtenTwo
+unfolding splitsGiven refusedBy shortGiven refusal writtenTwo
 leg-splits-met = record {
   inputs =
       ([], 0, 0, replicate 513 0, replicate 513 0) ∷ ([], 0, 0, [], []) ∷ (replicate 513 0, 513, 0, replicate 513 0, replicate 513 0) ∷ [];

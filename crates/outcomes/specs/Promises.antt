@@ -175,10 +175,10 @@ nearestNumber x = nearestOf (inputIn x) (x .rest .0) (x .rest .1) .answer .numbe
 
 -- a store, a name, a tree
 abbrev pub saveNumber : List ℕ × ℕ × List ℕ → ℕ
-saveNumber x = saveOf (x .0) (x .1) (x .2) .number
+saveNumber x = saveOf (x .0) (x .1) (x .2) .answer
 
 abbrev pub forgetNumber : List ℕ × ℕ → ℕ
-forgetNumber x = forgetOf (x .0) (x .1) .number
+forgetNumber x = forgetOf (x .0) (x .1) .answer
 
 -- a store, a name, a lent buffer
 abbrev pub returnNumber : List ℕ × ℕ × List ℕ → ℕ
@@ -217,19 +217,19 @@ pub record CallNumbers : Type 0 where
 -- ---- the number in the word of each C function; what is lent is last
 
 abbrev pub legSettings : List ℕ × List ℕ → ℕ
-legSettings x = numberIn (settingsGiven (readSettings (x .0)) (x .1) .word)
+legSettings x = numberIn (settingsGiven (readSettings (x .0)) (x .1) .answer)
 
 abbrev pub legMargin : List ℕ × List ℕ → ℕ
-legMargin x = numberIn (marginGiven (readSettings (x .0)) (x .1) .word)
+legMargin x = numberIn (marginGiven (readSettings (x .0)) (x .1) .answer)
 
 abbrev pub legTree : List ℕ → ℕ
 legTree ts = numberIn (packed (treeNumber ts) (treeAnswer (readTree ts) .nodes))
 
 abbrev pub legSizes : Handed (List ℕ) → ℕ
-legSizes x = numberIn (sizesGiven (inputIn x) (x .rest) .word)
+legSizes x = numberIn (sizesGiven (inputIn x) (x .rest) .answer)
 
 abbrev pub legRecord : Handed (ℕ × List ℕ) → ℕ
-legRecord x = numberIn (recordGiven (leafRecordOf (inputIn x) (x .rest .0)) (x .rest .1) .word)
+legRecord x = numberIn (recordGiven (leafRecordOf (inputIn x) (x .rest .0)) (x .rest .1) .answer)
 
 abbrev pub legLeaf : Handed (ℕ × List ℕ) → ℕ
 legLeaf x = numberIn (packed (leafNumber x) (leafPrintOf (inputIn x) (x .rest .0) (x .rest .1) .answer .count))
@@ -238,7 +238,7 @@ abbrev pub legSheet : Handed (List ℕ) → ℕ
 legSheet x = numberIn (packed (sheetNumber x) (sheetOf (inputIn x) (x .rest) .answer .count))
 
 abbrev pub legPlace : Handed (ℕ × ℕ × List ℕ) → ℕ
-legPlace x = numberIn (placeGiven (leafPlaceOf (inputIn x) (x .rest .0) (x .rest .1)) (x .rest .2) .word)
+legPlace x = numberIn (placeGiven (leafPlaceOf (inputIn x) (x .rest .0) (x .rest .1)) (x .rest .2) .answer)
 
 abbrev pub legPlaces : Handed (List ℕ × List ℕ) → ℕ
 legPlaces x = numberIn (packed (placesNumber x) (findsOf (inputIn x) (x .rest .0) (x .rest .1) .answer .count))
@@ -266,13 +266,13 @@ legBlank x = numberIn (packed (blankNumber x) (blankOf (x .0) (x .1) (x .2) .ans
 
 -- pieces, count, width
 abbrev pub legSplits3 : List ℕ × ℕ × ℕ × List ℕ → ℕ
-legSplits3 x = numberIn (splits3Given (x .0) (x .1) (x .2) (x .3) .word)
+legSplits3 x = numberIn (splits3Given (x .0) (x .1) (x .2) (x .3) .answer)
 
 abbrev pub legLent : List ℕ × ℕ × ℕ × List ℕ → ℕ
-legLent x = numberIn (lentGiven (x .0) (x .1) (x .2) (x .3) .word)
+legLent x = numberIn (lentGiven (x .0) (x .1) (x .2) (x .3) .answer)
 
 abbrev pub legSplits : List ℕ × ℕ × ℕ × List ℕ × List ℕ → ℕ
-legSplits x = numberIn (splitsGiven (x .0) (x .1) (x .2) (x .3) (x .4) .word)
+legSplits x = numberIn (splitsGiven (x .0) (x .1) (x .2) (x .3) (x .4) .answer)
 
 -- spare, n, priority, index
 abbrev pub legShare : ℕ × ℕ × ℕ × ℕ → ℕ

@@ -6,6 +6,7 @@ use mathlib.Core.Bool.{false}
 use mathlib.Core.List.{List, [], _++_, map}
 use lib.ListN.{length, getD, drop}
 use Rattle.common.specs.Every.{Every}
+use Rattle.common.specs.Outcome.{Outcome}
 use Rattle.settings.specs.declared.Settings.{Settings}
 use Rattle.tree.specs.Tree.{Tree, nodes}
 use Rattle.text.specs.Text.{lines}
@@ -13,10 +14,10 @@ use Rattle.sizes.specs.Input.{given, inputOf, Input}
 use Rattle.layout.specs.Walk.{insideW, insideH, Placed}
 use Rattle.layout.specs.Promises.{heightAt, widthAt, LeafAt}
 use Rattle.frame.specs.Frame.{W, H, tooLarge}
+use Rattle.places.specs.declared.FoundPlaces.{FoundPlaces}
 use Rattle.places.specs.declared.LeafPlace.{LeafPlace}
 use Rattle.places.specs.Words.{lineOf, columnOf, placeWord}
 use Rattle.places.specs.Places.{leafPlaceOf}
-use Rattle.places.specs.Together.{Finds}
 
 -- ---- 02, 5: "12 for a line or column outside the printed sheet, 13 for a place in the margin"
 
@@ -52,9 +53,9 @@ abbrev pub unpacked : ℕ → LeafPlace
 unpacked w = record { number = 0; node = w / 4294967296; line = w / 65536 % 65536; column = w % 65536 }
 
 -- the i-th answer written, taken apart into its node, line and column, is the one of `leaf_at` for the line and the column of the i-th place
-pub record EachAsAlone (bs ts ps : List ℕ) (r : Finds) : Type 0 where
+pub record EachAsAlone (bs ts ps : List ℕ) (r : Outcome FoundPlaces (List ℕ)) : Type 0 where
   pub count : r .answer .count ≡ length ps
-  pub alone : (i : ℕ) → i < r .answer .count → unpacked (getD (r .list) i 0) ≡ leafPlaceOf (inputOf bs ts) (lineOf (getD ps i 0)) (columnOf (getD ps i 0))
+  pub alone : (i : ℕ) → i < r .answer .count → unpacked (getD (r .memory) i 0) ≡ leafPlaceOf (inputOf bs ts) (lineOf (getD ps i 0)) (columnOf (getD ps i 0))
 
 -- the answer names a leaf, and a place of its block, which stands there
 pub record Forward (s : Settings) (t : Tree) (l k : ℕ) (r : LeafPlace) : Type 0 where
@@ -95,7 +96,7 @@ Alone x p = leafPlaceOf x (lineOf p) (columnOf p) .number ≡ 0
 
 -- in the order given, each exactly as if it had been put alone; so many answers are counted, entries past them stay, and the walk read as many elements as the
 -- tree has nodes
-pub record Together (x : Input) (ps fs : List ℕ) (r : Finds) : Type 0 where
+pub record Together (x : Input) (ps fs : List ℕ) (r : Outcome FoundPlaces (List ℕ)) : Type 0 where
   pub settings : Settings
   pub tree : Tree
   pub admitted : Admitted x settings tree
@@ -104,4 +105,4 @@ pub record Together (x : Input) (ps fs : List ℕ) (r : Finds) : Type 0 where
   pub each : Every (Alone x) ps
   pub count : r .answer .count ≡ length ps
   pub steps : r .answer .steps ≡ nodes tree
-  pub list : r .list ≡ map (aloneWord x) ps ++ drop (length ps) fs
+  pub list : r .memory ≡ map (aloneWord x) ps ++ drop (length ps) fs

@@ -10,6 +10,7 @@ use native.Mathlib.Numerals.{add-one}
 use lib.Dec.{ltb}
 use borrow.Author.Tests.{le-ltb, ltb-true, ltb-false}
 use Rattle.common.specs.Choice.{pick}
+use Rattle.common.specs.Outcome.{Outcome}
 use Rattle.settings.specs.declared.Settings.{Settings}
 use Rattle.settings.specs.Reading.{settingsEnd}
 use Rattle.tree.specs.Tree.{Tree}
@@ -18,7 +19,7 @@ use Rattle.sizes.proofs.MeasuredInput.{input-refusal}
 use Rattle.paint.specs.Paint.{Wrote}
 use Rattle.frame.specs.declared.Written.{Written}
 use Rattle.frame.specs.Frame.{tooLarge}
-use Rattle.frame.specs.Printer.{Prints, noPrint, printTo}
+use Rattle.frame.specs.Printer.{noPrint, printTo}
 use Rattle.sheet.specs.Sheet.{sheet}
 use Rattle.sheet.specs.Answers.{sheetOf}
 use Rattle.sheet.proofs.Bytes.{largest}
@@ -43,8 +44,8 @@ pub record ProgramPrints (text o : List ℕ) (w : Written) (o₁ : List ℕ) : T
   pub no : (w .number ≡ 0 → ⊥) → Refused text o w o₁
   pub yes : w .number ≡ 0 → Printed text o w o₁
 
-abbrev Tells : Input → List ℕ → Prints → Type 0
-Tells i o p = ProgramPrints (printedOf i) o (p .answer) (p .out)
+abbrev Tells : Input → List ℕ → Outcome Written (List ℕ) → Type 0
+Tells i o p = ProgramPrints (printedOf i) o (p .answer) (p .memory)
 
 refusal : (i : Input) (k : ℕ) (o : List ℕ) → 1 ≤ k → k < 10 → printedOf i ≡ refusedText k → Tells i o (noPrint k o)
 refusal i k o low high e = record { no = λ z. record { is = e; digit = high; out = refl }; yes = λ z. absurd (omega (arith, z)) }
@@ -69,7 +70,7 @@ told-case bs ts o long (given s t) e = large-told s t o long (tooLarge s t) refl
 
 pub program-prints : (input o settings tree : List ℕ) (w : Written) (o₁ : List ℕ) → 64160 ≤ length o → settings ≡ take (settingsEnd input) input
     → tree ≡ drop (settingsEnd input) input
-    → w ≡ sheetOf (inputOf settings tree) o .answer → o₁ ≡ sheetOf (inputOf settings tree) o .out → ProgramPrints (programOf input) o w o₁
+    → w ≡ sheetOf (inputOf settings tree) o .answer → o₁ ≡ sheetOf (inputOf settings tree) o .memory → ProgramPrints (programOf input) o w o₁
 unfolding programOf
 program-prints input o settings tree w o₁ long es et ew eo =
     rw (ew, eo, es, et) (told-case (take (settingsEnd input) input) (drop (settingsEnd input) input) o long (inputOf (take (settingsEnd input) input)

@@ -18,12 +18,14 @@ use Rattle.sizes.specs.Contracts.{measuredOf, naturalAt}
 use Rattle.paint.specs.Contracts.{Room, pasted, fed}
 use Rattle.paint.proofs.Room.{room-feeds}
 use Rattle.common.specs.Every.{Every}
+use Rattle.common.specs.Outcome.{Outcome}
 use Rattle.common.proofs.Every.{every-map, every-and}
+use Rattle.frame.specs.declared.Written.{Written}
 use Rattle.frame.specs.declared.Frame.{Frame}
 use Rattle.layout.specs.Walk.{Placed, leaves, insideW, insideH}
 use Rattle.frame.specs.Frame.{W, H, tooLarge}
 use Rattle.frame.specs.Contracts.{frameOf, largeOf}
-use Rattle.frame.specs.Printer.{Prints, noPrint}
+use Rattle.frame.specs.Printer.{noPrint}
 use Rattle.frame.proofs.Printers.{PrinterAnswers}
 use Rattle.frame.proofs.Sheets.{sheetFrame, large-no}
 use Rattle.entries.specs.Contracts.{Listing, Asks, PaintsAll, paintAll}
@@ -152,8 +154,8 @@ module _ {bs ts : List ℕ} {m : Measured} {sizes : List ℕ} (k : Taken bs ts m
 
     module _ (o : List ℕ) where
       -- the answer for a sheet that fits
-      abbrev whole : Prints
-      whole = record { answer = record { number = 0; count = f .bytes }; out = sheet s t ++ drop (f .bytes) o }
+      abbrev whole : Outcome Written (List ℕ)
+      whole = record { answer = record { number = 0; count = f .bytes }; memory = sheet s t ++ drop (f .bytes) o }
 
       known : length (sheet s t) ≡ f .bytes
       known = sheet-length s t ∙ sym bytes-is

@@ -61,7 +61,7 @@ fn margin_after(out: &mut [u8], m: Margin, f: Frame, base: usize)
 // The sheet of the settings and the tree, its lines joined by 0A, at the start of the output.
 pub fn print_sheet(settings: &[u8], tree: &[u8], out: &mut [u8]) -> Written
     ensures { λ r. ⌜ r ≡ sheetOf (inputOf (now (settings .entry)) (now (tree .entry))) (now (out .entry)) .answer ⌝ }
-    ensures shown { λ _. ⌜ now (out .exit) ≡ sheetOf (inputOf (now (settings .entry)) (now (tree .entry))) (now (out .entry)) .out ⌝ }
+    ensures shown { λ _. ⌜ now (out .exit) ≡ sheetOf (inputOf (now (settings .entry)) (now (tree .entry))) (now (out .entry)) .memory ⌝ }
 {
     let mut list = [0u16; 2048];
     let m = sizes::measure_tree(settings, tree, &mut list);

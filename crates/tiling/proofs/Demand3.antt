@@ -14,6 +14,7 @@ use Rattle.common.specs.Choice.{pick}
 use Rattle.common.specs.Sums.{total}
 use Rattle.common.proofs.Elems.{elem-none, elem-in, entry-at, elem-at, elem-map}
 use Rattle.common.proofs.Every.{every-elem}
+use Rattle.common.specs.Outcome.{Outcome}
 use Rattle.settings.specs.declared.Settings.{Settings}
 use Rattle.settings.specs.Promises.{Ranges}
 use Rattle.tree.specs.Tree.{Axis, across, down, Tree, group, Trees, more, count, nodes}
@@ -30,9 +31,10 @@ use Rattle.sizes.proofs.Nodes.{subtrees-length, sizes-at, part-whole, part-own,
 use Rattle.sizes.proofs.Within.{tree-sizes-length}
 use Rattle.sizes.proofs.Listed.{groups-filled, row-filled, column-filled}
 use Rattle.sizes.proofs.MeasuredInput.{takes}
+use Rattle.collector.specs.declared.Collected.{Collected}
 use Rattle.collector.specs.declared.SizeRecord.{SizeRecord}
 use Rattle.collector.specs.Below.{belows}
-use Rattle.collector.specs.Records.{Outcome, collectOf}
+use Rattle.collector.specs.Records.{collectOf}
 use Rattle.collector.specs.Promises.{noSizeRecord, sizesOf, belowIn, SizesCollected}
 use Rattle.collector.proofs.Zipped.{noSizes}
 use Rattle.collector.proofs.Siblings.{below-at}
@@ -47,9 +49,10 @@ use Rattle.layout.specs.Promises.{Place, startAt, heightAt, widthAt, LeafAt, al
 use Rattle.layout.proofs.Fit.{LeafFits, leaves-fit}
 use Rattle.layout.proofs.Named.{same-leaf, leaf-size, leaf-node, node-leaf}
 use Rattle.layout.proofs.Starts.{root-start, row-start, column-start, leaf-start}
+use Rattle.frame.specs.declared.Written.{Written}
 use Rattle.frame.specs.Frame.{W, H, tooLarge}
 use Rattle.frame.specs.Promises.{byteCount}
-use Rattle.frame.specs.Printer.{Prints, noPrint, printTo}
+use Rattle.frame.specs.Printer.{noPrint, printTo}
 use Rattle.leaf.specs.declared.LeafRecord.{LeafRecord}
 use Rattle.leaf.specs.Answers.{leafNumbered, recordFound, leafRecordOf, leafPrintOf}
 use Rattle.leaf.specs.Contracts.{blockBytes}
@@ -69,10 +72,10 @@ use Rattle.tiling.specs.Promises.{sizesWritten, allottedWritten, linesIn
 
 -- ---- what the size collector wrote: the sizes of all nodes, and the counts of nodes below them
 
-module _ (s : Settings) (t : Tree) (c : Outcome) (z : map sizesOf (take (c .answer .count) (c .list)) ≡ treeSizes s t) where
+module _ (s : Settings) (t : Tree) (c : Outcome Collected (List SizeRecord)) (z : map sizesOf (take (c .answer .count) (c .memory)) ≡ treeSizes s t) where
   record-sizes : (n : ℕ) → sizesOf (sizesWritten c n) ≡ sizesAt (treeSizes s t) n
   unfolding sizesAt
-  record-sizes n = sym (List·getD-map sizesOf (take (c .answer .count) (c .list)) n noSizeRecord) ∙ ap (λ (zs : List Sizes). getD zs n noSizes) z
+  record-sizes n = sym (List·getD-map sizesOf (take (c .answer .count) (c .memory)) n noSizeRecord) ∙ ap (λ (zs : List Sizes). getD zs n noSizes) z
 
   allotted-are : allottedWritten c ≡ allottedIn (treeSizes s t)
   allotted-are = λ i n. ap (λ (y : Sizes). y .allotted) (record-sizes n) i
@@ -87,8 +90,9 @@ module _ (s : Settings) (t : Tree) (c : Outcome) (z : map sizesOf (take (c .answ
   leaf-starts : {n : ℕ} {f : Placed} → LeafAt s t n f → startAt s (allottedWritten c) t n ≡ placeOf (f .at)
   leaf-starts {n} p = ap (λ (size : ℕ → Size). startAt s size t n) allotted-are ∙ sym (leaf-start s t p)
 
-below-is : (t : Tree) (c : Outcome) → map belowIn (take (c .answer .count) (c .list)) ≡ belows t → (n : ℕ) → sizesWritten c n .below ≡ getD (belows t) n 0
-below-is t c z n = sym (List·getD-map belowIn (take (c .answer .count) (c .list)) n noSizeRecord) ∙ ap (λ (l : List ℕ). getD l n 0) z
+below-is : (t : Tree) (c : Outcome Collected (List SizeRecord)) → map belowIn (take (c .answer .count) (c .memory)) ≡ belows t → (n : ℕ)
+    → sizesWritten c n .below ≡ getD (belows t) n 0
+below-is t c z n = sym (List·getD-map belowIn (take (c .answer .count) (c .memory)) n noSizeRecord) ∙ ap (λ (l : List ℕ). getD l n 0) z
 
 -- ---- the leaves
 
@@ -99,12 +103,12 @@ leaf-text an-empty = refl
 listed : (l : List ℕ) → listOf (splitList l) ≡ l
 listed l = take-append-seam l (replicate (512 - length l) 0)
 
-room-case : (d : Bool) (bytes o : List ℕ) (p : Prints) → ltb (length o) (length bytes) ≡ d → pick d (noPrint 8 o) p .answer .number ≡ 0
+room-case : (d : Bool) (bytes o : List ℕ) (p : Outcome Written (List ℕ)) → ltb (length o) (length bytes) ≡ d → pick d (noPrint 8 o) p .answer .number ≡ 0
     → length bytes ≤ length o
 room-case true bytes o p e h = absurd (omega arith)
 room-case false bytes o p e h = ltb-false (length o) (length bytes) e
 
-rectangle : {p : Prints} {h k w v : ℕ} → h ≡ k → w ≡ v → Dims (linesIn p) h w → Rectangle p k v
+rectangle : {p : Outcome Written (List ℕ)} {h k w v : ℕ} → h ≡ k → w ≡ v → Dims (linesIn p) h w → Rectangle p k v
 rectangle x y d = rw (← x, ← y) (record { lines = d .lines; columns = d .columns })
 
 -- the bytes are those of settings and tree, within the limits
@@ -147,7 +151,7 @@ module _ (bs ts : List ℕ) (s : Settings) (t : Tree) (i : inputOf bs ts ≡ giv
     room o h = room-case (ltb (length o) (length (joinLines (block s (leafOf f))))) (joinLines (block s (leafOf f))) o _ refl (rw (prints p o) at h)
 
     bytes-are : (o : List ℕ) → leafPrintOf (inputOf bs ts) n o .answer .number ≡ 0
-        → take (leafPrintOf (inputOf bs ts) n o .answer .count) (leafPrintOf (inputOf bs ts) n o .out) ≡ joinLines (block s (leafOf f))
+        → take (leafPrintOf (inputOf bs ts) n o .answer .count) (leafPrintOf (inputOf bs ts) n o .memory) ≡ joinLines (block s (leafOf f))
     bytes-are o h = rw i (leaf-written s t o g p (room o h) .bytes-are)
 
     lines-are : (o : List ℕ) → leafPrintOf (inputOf bs ts) n o .answer .number ≡ 0 → linesIn (leafPrintOf (inputOf bs ts) n o) ≡ block s (leafOf f)
@@ -158,7 +162,7 @@ module _ (bs ts : List ℕ) (s : Settings) (t : Tree) (i : inputOf bs ts ≡ giv
 
   -- ---- the leaves' blocks, and the rectangle, by the sizes that were written
 
-  module _ (c : Outcome) (z : map sizesOf (take (c .answer .count) (c .list)) ≡ treeSizes s t) where
+  module _ (c : Outcome Collected (List SizeRecord)) (z : map sizesOf (take (c .answer .count) (c .memory)) ≡ treeSizes s t) where
     module _ {n : ℕ} (d : Answered n) where
       flags-are : leafRecordOf (inputOf bs ts) n .flags ≡ d .leaf .at .flags
       flags-are = ap (λ (r : LeafRecord). r .flags) (d .answer)
@@ -257,7 +261,7 @@ module _ (bs ts : List ℕ) (s : Settings) (t : Tree) (i : inputOf bs ts ≡ giv
           rw (tall-is d, wide-is d, ← needed r (d .named))
           (λ e. room r (d .named) o₁ e, λ e. rw (prints (d .named) o₁, le-ltb (length o₁) (length (joinLines (block s (leafOf (d .leaf))))) e))
 
-      module _ (o : List ℕ) (b : take (sheetOf (inputOf bs ts) o .answer .count) (sheetOf (inputOf bs ts) o .out) ≡ sheet s t) where
+      module _ (o : List ℕ) (b : take (sheetOf (inputOf bs ts) o .answer .count) (sheetOf (inputOf bs ts) o .memory) ≡ sheet s t) where
         sheet-is : Rectangle (sheetOf (inputOf bs ts) o) (s .margin .top + insideLines bs ts s t c + s .margin .bottom)
             (s .margin .left + insideColumns bs ts s t c + s .margin .right)
         unfolding H W
@@ -272,7 +276,7 @@ module _ (bs ts : List ℕ) (s : Settings) (t : Tree) (i : inputOf bs ts ≡ giv
             rw (b, bytes-are r (d .named) o₁ e, line-is d, column-is d) (place-owned s t r (d .named) l k (covers d w))
 
       -- the leaves are the nodes with none below
-      module _ (counted : c .answer .count ≡ nodes t) (below : map belowIn (take (c .answer .count) (c .list)) ≡ belows t) where
+      module _ (counted : c .answer .count ≡ nodes t) (below : map belowIn (take (c .answer .count) (c .memory)) ≡ belows t) where
         leaf-counted : (n : ℕ) → leafRecordOf (inputOf bs ts) n .number ≡ 0 → (n < c .answer .count) × (sizesWritten c n .below ≡ 0)
         leaf-counted n h =
             let node = leaf-node s t (answered n h .named) in (
@@ -289,8 +293,8 @@ module _ (bs ts : List ℕ) (s : Settings) (t : Tree) (i : inputOf bs ts ≡ giv
 
 -- ---- the sizes
 
-module _ (bs ts : List ℕ) (s : Settings) (t : Tree) (c : Outcome) (counted : c .answer .count ≡ nodes t)
-    (z : map sizesOf (take (c .answer .count) (c .list)) ≡ treeSizes s t) where
+module _ (bs ts : List ℕ) (s : Settings) (t : Tree) (c : Outcome Collected (List SizeRecord)) (counted : c .answer .count ≡ nodes t)
+    (z : map sizesOf (take (c .answer .count) (c .memory)) ≡ treeSizes s t) where
   widths-are : _≡_ {A = ℕ → ℕ} (λ m. sizesWritten c m .width) (λ m. sizesAt (treeSizes s t) m .allotted .width)
   widths-are = λ i m. ap (λ (y : Sizes). y .allotted .width) (record-sizes s t c z m) i
 
@@ -367,7 +371,7 @@ tiles bs ts o l a w x y =
     let i = w .input in
     let g : tooLarge s t ≡ false = rw (x, y) at (a .within) in
     let c = collectOf (inputOf bs ts) l in
-    let b : take (sheetOf (inputOf bs ts) o .answer .count) (sheetOf (inputOf bs ts) o .out) ≡ sheet s t = rw (x, y) at (a .bytes) in
+    let b : take (sheetOf (inputOf bs ts) o .answer .count) (sheetOf (inputOf bs ts) o .memory) ≡ sheet s t = rw (x, y) at (a .bytes) in
     let r = takes bs ts s t i .ranges in
     let z = w .sizes in
     record {

@@ -12,6 +12,7 @@ use Rattle.common.specs.Choice.{pick}
 use Rattle.common.specs.Every.{Every}
 use Rattle.common.specs.Sums.{total}
 use Rattle.splits.specs.Lists.{listOf}
+use Rattle.common.specs.Outcome.{Outcome}
 use Rattle.settings.specs.declared.Settings.{Settings}
 use Rattle.tree.specs.Tree.{Axis, across, down, Tree, cell, group, Trees, count, nodes}
 use Rattle.tree.specs.Promises.{subtrees, childNodes}
@@ -20,12 +21,13 @@ use Rattle.sizes.specs.declared.Size.{Size}
 use Rattle.sizes.specs.Sizes.{sep, natural}
 use Rattle.sizes.specs.Input.{given, inputOf}
 use Rattle.block.specs.Block.{Leaf, block}
+use Rattle.collector.specs.declared.Collected.{Collected}
 use Rattle.collector.specs.declared.SizeRecord.{SizeRecord}
-use Rattle.collector.specs.Records.{Outcome, collectOf}
+use Rattle.collector.specs.Records.{collectOf}
 use Rattle.collector.specs.Promises.{noSizeRecord}
 use Rattle.layout.specs.Promises.{Place, origin, startAt}
+use Rattle.frame.specs.declared.Written.{Written}
 use Rattle.frame.specs.Promises.{byteCount}
-use Rattle.frame.specs.Printer.{Prints}
 use Rattle.leaf.specs.declared.LeafRecord.{LeafRecord}
 use Rattle.leaf.specs.Answers.{leafRecordOf, leafPrintOf}
 use Rattle.sheet.specs.Answers.{sheetOf}
@@ -33,23 +35,23 @@ use Rattle.sheet.specs.Answers.{sheetOf}
 -- ---- what the calls wrote
 
 -- the record of node n in the list that the caller has after the size collector's call, of those that its answer counts
-abbrev pub sizesWritten : Outcome → ℕ → SizeRecord
-sizesWritten c n = getD (take (c .answer .count) (c .list)) n noSizeRecord
+abbrev pub sizesWritten : Outcome Collected (List SizeRecord) → ℕ → SizeRecord
+sizesWritten c n = getD (take (c .answer .count) (c .memory)) n noSizeRecord
 
 -- the size that is allotted to the node there
-abbrev pub allottedWritten : Outcome → ℕ → Size
+abbrev pub allottedWritten : Outcome Collected (List SizeRecord) → ℕ → Size
 allottedWritten c n = record { width = sizesWritten c n .width; height = sizesWritten c n .height }
 
 -- what a printer wrote, "read in lines parted at each 0A" (01)
-abbrev pub linesIn : Prints → List (List ℕ)
-linesIn p = lines (take (p .answer .count) (p .out))
+abbrev pub linesIn : Outcome Written (List ℕ) → List (List ℕ)
+linesIn p = lines (take (p .answer .count) (p .memory))
 
 -- the byte at line i, column k
-abbrev pub byteIn : Prints → ℕ → ℕ → ℕ
+abbrev pub byteIn : Outcome Written (List ℕ) → ℕ → ℕ → ℕ
 byteIn p i k = getD (getD (linesIn p) i []) k 0
 
 -- it is h lines of w columns
-pub record Rectangle (p : Prints) (h w : ℕ) : Type 0 where
+pub record Rectangle (p : Outcome Written (List ℕ)) (h w : ℕ) : Type 0 where
   pub lines : length (linesIn p) ≡ h
   pub columns : Every (λ line. length line ≡ w) (linesIn p)
 
@@ -67,7 +69,7 @@ leafText (group a ts) = []
 -- ---- the words, for the bytes of settings and tree that all calls are handed, the settings and the tree that these bytes are, and what the size collector
 -- answered and wrote
 
-module _ (bs ts : List ℕ) (s : Settings) (t : Tree) (c : Outcome) where
+module _ (bs ts : List ℕ) (s : Settings) (t : Tree) (c : Outcome Collected (List SizeRecord)) where
   -- nodes are numbered from 0, parent before children, left to right: node n is the tree u
   abbrev pub NodeIs : ℕ → Tree → Type 0
   NodeIs n u = getElem? (subtrees t) n ≡ some u
@@ -82,7 +84,7 @@ module _ (bs ts : List ℕ) (s : Settings) (t : Tree) (c : Outcome) where
   abbrev pub leafAnswer : ℕ → LeafRecord
   leafAnswer n = leafRecordOf (inputOf bs ts) n
 
-  abbrev pub leafPrint : ℕ → List ℕ → Prints
+  abbrev pub leafPrint : ℕ → List ℕ → Outcome Written (List ℕ)
   leafPrint n o = leafPrintOf (inputOf bs ts) n o
 
   -- where node n starts, by the sizes written: `Tiles`'s `root-starts`, `row-starts` and `column-starts` say how

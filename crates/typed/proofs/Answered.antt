@@ -10,20 +10,21 @@ use lib.Seq.{sets, sets-eq}
 use lib.Dec.{ltb}
 use borrow.Author.Tests.{lt-ltb, le-ltb}
 use Rattle.common.specs.Choice.{pick}
+use Rattle.common.specs.Outcome.{Outcome}
 use Rattle.tree.specs.Accepted.{bytesOf}
 use Rattle.typed.specs.Scan.{TypedNode, TypedScan, stopped, found, noneYet, scanLines}
 use Rattle.typed.specs.Contracts.{NodesFound, ScanTold, flatOf, ReadyNodes}
-use Rattle.typed.specs.Typed.{rootOf, TypedOutcome, typedRefusal, typedAccepted, outcomeOf, typedOf}
+use Rattle.typed.specs.Typed.{rootOf, typedRefusal, typedAccepted, outcomeOf, typedOf}
 use Rattle.typed.specs.declared.Typed.{Typed}
 use Rattle.typed.specs.declared.scan.Scanned.{Scanned}
 use Rattle.typed.proofs.Built.{flat-is, flatOf-length}
 use Rattle.typed.proofs.Listing.{Following, following-of, rooted}
 
-abbrev outcomeWith : Typed → List ℕ → TypedOutcome
-outcomeWith a o = record { answer = a; out = o }
+abbrev outcomeWith : Typed → List ℕ → Outcome Typed (List ℕ)
+outcomeWith a o = record { answer = a; memory = o }
 
 pub typed-long : (t o : List ℕ) (a : Typed) → 131072 < length t → a ≡ record { number = 30; count = 0; line = 0; column = 0 }
-    → record { answer = a; out = o } ≡ typedOf t o
+    → record { answer = a; memory = o } ≡ typedOf t o
 unfolding typedOf
 typed-long t o a h e = rw (lt-ltb _ _ h) (ap (λ (y : Typed). outcomeWith y o) e)
 
@@ -32,7 +33,7 @@ unfolding typedOf
 typed-scan t o h = rw (le-ltb _ _ h)
 
 -- what is answered: 30, a fault of the scan, 8, or the tree's bytes
-pub typed-cases : (t o : List ℕ) (P : TypedOutcome → Type 0) → P (typedRefusal 30 0 0 o)
+pub typed-cases : (t o : List ℕ) (P : Outcome Typed (List ℕ) → Type 0) → P (typedRefusal 30 0 0 o)
     → ((k l c : ℕ) → scanLines t ≡ stopped k l c → P (typedRefusal k l c o)) → P (typedRefusal 8 0 0 o)
     → ((ns : List TypedNode) → scanLines t ≡ found ns → P (typedAccepted (bytesOf (rootOf ns)) o)) → P (typedOf t o)
 unfolding typedOf
@@ -58,7 +59,7 @@ pub record GotNodes (t : List ℕ) (r : Scanned) : Type 0 where
 
 module _ (t o : List ℕ) (small : length t ≤ 131072) (r : Scanned) (told : ScanTold t (scanLines t) r) where
   pub typed-stop : (r .number ≡ 0 → ⊥) → (a : Typed) → a ≡ record { number = r .number; count = 0; line = r .line; column = r .column }
-      → record { answer = a; out = o } ≡ typedOf t o
+      → record { answer = a; memory = o } ≡ typedOf t o
   typed-stop bad a e = ap (λ (y : Typed). outcomeWith y o) e ∙ go (scanLines t) told ∙ sym (typed-scan t o small)
     where
       go : (s : TypedScan) → ScanTold t s r → outcomeWith (record { number = r .number; count = 0; line = r .line; column = r .column }) o ≡ outcomeOf s o
@@ -83,7 +84,7 @@ module _ (t o : List ℕ) (small : length t ≤ 131072) (r : Scanned) (told : Sc
     root-long = ap length (sym root-bytes) ∙ flatOf-length (g .of) ∙ sym (g .found-is .total-is)
 
     pub typed-short : length o < r .total → (a : Typed) → a ≡ record { number = 8; count = 0; line = 0; column = 0 }
-        → record { answer = a; out = o } ≡ typedOf t o
+        → record { answer = a; memory = o } ≡ typedOf t o
     typed-short h a e =
         ap (λ (y : Typed). outcomeWith y o) e
         ∙ sym (typed-scan t o small ∙ ap (λ (s : TypedScan). outcomeOf s o) (g .is)
@@ -103,7 +104,7 @@ module _ (t o : List ℕ) (small : length t ≤ 131072) (r : Scanned) (told : Sc
     pub typed-done : r .total ≤ length o → (o′ : List ℕ) → o′ ≡ sets o 0 (flatOf (g .of)) → record {
       answer =
           record { number = 0; count = r .total; line = 0; column = 0 };
-      out = o′;
+      memory = o′;
     } ≡ typedOf t o
     typed-done h o′ e =
         let b : List ℕ = bytesOf (rootOf (g .of)) in

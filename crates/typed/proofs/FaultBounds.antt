@@ -11,8 +11,10 @@ use Rattle.common.specs.Choice.{pick}
 use Rattle.common.specs.Sums.{greatest}
 use Rattle.text.specs.Text.{lines, lineLengths, textWidth, textHeight}
 use Rattle.text.proofs.Measured.{width-le, height-le}
+use Rattle.common.specs.Outcome.{Outcome}
+use Rattle.typed.specs.declared.Typed.{Typed}
 use Rattle.typed.specs.Line.{withoutReturn}
-use Rattle.typed.specs.Typed.{TypedOutcome, typedOf}
+use Rattle.typed.specs.Typed.{typedOf}
 use Rattle.typed.proofs.Answered.{typed-cases}
 use Rattle.typed.proofs.Faults.{fault-at}
 
@@ -42,7 +44,7 @@ named-short t i = omega (arith, trimmed-short (getD (lines t) i []), line-short 
 
 -- ---- the answer
 
-abbrev SmallPlace : TypedOutcome → Type 0
+abbrev SmallPlace : Outcome Typed (List ℕ) → Type 0
 SmallPlace x = (x .answer .line ≤ 131073) × (x .answer .column ≤ 131073)
 
 read-small : (t o : List ℕ) → length t ≤ 131072 → SmallPlace (typedOf t o)

@@ -6,6 +6,7 @@ use mathlib.Core.List.{List, [], _∷_, _++_, map}
 use lib.ListN.{length, getD, take, drop, replicate}
 use lib.Dec.{eqb}
 use Rattle.common.specs.Choice.{pick}
+use Rattle.common.specs.Outcome.{Outcome}
 use Rattle.tree.specs.Tree.{Tree, nodes, Trees, cell, group, none, more}
 use Rattle.tree.specs.Reading.{one, readTree}
 use Rattle.tree.specs.Accepted.{bytesOf}
@@ -13,14 +14,14 @@ use Rattle.text.specs.Text.{lines, joinLines}
 use Rattle.typed.specs.declared.Typed.{Typed}
 use Rattle.typed.specs.Line.{withoutReturn, Item, axisWord}
 use Rattle.typed.specs.Scan.{found, scanLines, TypedNode}
-use Rattle.typed.specs.Typed.{TypedOutcome, typedAccepted, typedOf}
+use Rattle.typed.specs.Typed.{typedAccepted, typedOf}
 use Rattle.typed.specs.Line as line
 
 -- ---- a call that answers 0: `typed-accepted`
 
 -- what was written
-abbrev pub treeWritten : TypedOutcome → List ℕ
-treeWritten x = take (x .answer .count) (x .out)
+abbrev pub treeWritten : Outcome Typed (List ℕ) → List ℕ
+treeWritten x = take (x .answer .count) (x .memory)
 
 -- the tree's nodes with their levels, in node order
 unfoldable mutual
@@ -33,7 +34,7 @@ unfoldable mutual
   typedNodes* d (more t ts) = typedNodes d t ++ typedNodes* d ts
 
 -- of the typed list `text`, where `out` was lent
-pub record TypedTree (text out : List ℕ) (x : TypedOutcome) : Type 0 where
+pub record TypedTree (text out : List ℕ) (x : Outcome Typed (List ℕ)) : Type 0 where
   pub root : Tree
   -- the list's nodes, with their levels, are those of one tree
   pub lines-are : scanLines text ≡ found (typedNodes 0 root)
@@ -41,7 +42,7 @@ pub record TypedTree (text out : List ℕ) (x : TypedOutcome) : Type 0 where
   pub bytes-are : treeWritten x ≡ bytesOf root
   pub read : readTree (treeWritten x) ≡ one root (x .answer .count) (nodes root)
   -- past them the output stays
-  pub kept : drop (x .answer .count) (x .out) ≡ drop (x .answer .count) out
+  pub kept : drop (x .answer .count) (x .memory) ≡ drop (x .answer .count) out
 
 -- ---- every tree that the tree reader accepts: `typed-back`
 

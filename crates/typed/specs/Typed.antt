@@ -4,6 +4,7 @@ use mathlib.Core.List.{List, [], _∷_, _++_}
 use lib.ListN.{length, getD, drop, replicate}
 use lib.Dec.{ltb}
 use Rattle.common.specs.Choice.{pick}
+use Rattle.common.specs.Outcome.{Outcome}
 use Rattle.tree.specs.Tree as tree
 use Rattle.tree.specs.Tree.{Tree, Trees, none, more}
 use Rattle.tree.specs.Accepted.{bytesOf}
@@ -39,24 +40,20 @@ rootOf ns = firstOf (getD (treesAt ns) 0 none)
 
 -- ---- what `read_typed` answers, and what the lent output then holds
 
-pub record TypedOutcome : Type 0 where
-  pub answer : Typed
-  pub out : List ℕ
-
 -- a refusal writes nothing
-abbrev pub typedRefusal : ℕ → ℕ → ℕ → List ℕ → TypedOutcome
-typedRefusal k l c out = record { answer = record { number = k; count = 0; line = l; column = c }; out = out }
+abbrev pub typedRefusal : ℕ → ℕ → ℕ → List ℕ → Outcome Typed (List ℕ)
+typedRefusal k l c out = record { answer = record { number = k; count = 0; line = l; column = c }; memory = out }
 
 -- the bytes at the front; those past them stay
-abbrev pub typedAccepted : List ℕ → List ℕ → TypedOutcome
-typedAccepted bytes out = record { answer = record { number = 0; count = length bytes; line = 0; column = 0 }; out = bytes ++ drop (length bytes) out }
+abbrev pub typedAccepted : List ℕ → List ℕ → Outcome Typed (List ℕ)
+typedAccepted bytes out = record { answer = record { number = 0; count = length bytes; line = 0; column = 0 }; memory = bytes ++ drop (length bytes) out }
 
-abbrev pub outcomeOf : TypedScan → List ℕ → TypedOutcome
+abbrev pub outcomeOf : TypedScan → List ℕ → Outcome Typed (List ℕ)
 outcomeOf (stopped k l c) out = typedRefusal k l c out
 outcomeOf (found ns) out = pick (ltb (length out) (length (bytesOf (rootOf ns)))) (typedRefusal 8 0 0 out) (typedAccepted (bytesOf (rootOf ns)) out)
 
 -- 30: the text has over 131,072 bytes
-unfoldable pub typedOf : List ℕ → List ℕ → TypedOutcome
+unfoldable pub typedOf : List ℕ → List ℕ → Outcome Typed (List ℕ)
 typedOf text out = pick (ltb 131072 (length text)) (typedRefusal 30 0 0 out) (outcomeOf (scanLines text) out)
 
 -- ---- as it is written: element after element

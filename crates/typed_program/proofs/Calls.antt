@@ -26,5 +26,5 @@ prints-typed text h =
     record {
       root = k .root;
       lines-are = k .lines-are;
-      prints = typed-tree text (x .out) (x .answer) refl h ∙ ap treeText (default-input _ (k .root) _ _ (k .read));
+      prints = typed-tree text (x .memory) (x .answer) refl h ∙ ap treeText (default-input _ (k .root) _ _ (k .read));
     }

@@ -41,11 +41,11 @@ pub record TreeTold (text o : List ℕ) (w : Written) (o₁ : List ℕ) : Type 0
   pub yes : w .number ≡ 0 → SheetThere text o w o₁
 
 module _ (o : List ℕ) (long : 64160 ≤ length o) where
-  refused-told : (i : Input) (k : ℕ) → 1 ≤ k → treeText i ≡ faultText k 0 0 → TreeTold (treeText i) o (noPrint k o .answer) (noPrint k o .out)
+  refused-told : (i : Input) (k : ℕ) → 1 ≤ k → treeText i ≡ faultText k 0 0 → TreeTold (treeText i) o (noPrint k o .answer) (noPrint k o .memory)
   refused-told i k low e = record { no = λ z. (refl, e); yes = λ z. absurd (omega (arith, z)) }
 
   sheet-there : (s : Settings) (t : Tree) → tooLarge s t ≡ false
-      → TreeTold (treeText (given s t)) o (printTo (sheet s t) o .answer) (printTo (sheet s t) o .out)
+      → TreeTold (treeText (given s t)) o (printTo (sheet s t) o .answer) (printTo (sheet s t) o .memory)
   unfolding treeText
   sheet-there s t large =
       let fits : length (sheet s t) < 64160 = largest s t large in
@@ -56,17 +56,17 @@ module _ (o : List ℕ) (long : 64160 ≤ length o) where
       })
 
   large-case : (s : Settings) (t : Tree) (b : Bool) → tooLarge s t ≡ b
-      → TreeTold (treeText (given s t)) o (pick b (noPrint 6 o) (printTo (sheet s t) o) .answer) (pick b (noPrint 6 o) (printTo (sheet s t) o) .out)
+      → TreeTold (treeText (given s t)) o (pick b (noPrint 6 o) (printTo (sheet s t) o) .answer) (pick b (noPrint 6 o) (printTo (sheet s t) o) .memory)
   unfolding treeText
   large-case s t true e = refused-told (given s t) 6 (omega arith) (rw e)
   large-case s t false e = sheet-there s t e
 
-  input-case : (bs ts : List ℕ) (i : Input) → inputOf bs ts ≡ i → TreeTold (treeText i) o (sheetOf i o .answer) (sheetOf i o .out)
+  input-case : (bs ts : List ℕ) (i : Input) → inputOf bs ts ≡ i → TreeTold (treeText i) o (sheetOf i o .answer) (sheetOf i o .memory)
   unfolding sheetOf treeText
   input-case bs ts (refused k) e = refused-told (refused k) k (input-refusal bs ts k e .0) refl
   input-case bs ts (given s t) e = large-case s t (tooLarge s t) refl
 
-  pub tree-told : (bs ts : List ℕ) (w : Written) (o₁ : List ℕ) → w ≡ sheetOf (inputOf bs ts) o .answer → o₁ ≡ sheetOf (inputOf bs ts) o .out
+  pub tree-told : (bs ts : List ℕ) (w : Written) (o₁ : List ℕ) → w ≡ sheetOf (inputOf bs ts) o .answer → o₁ ≡ sheetOf (inputOf bs ts) o .memory
       → TreeTold (treeText (inputOf bs ts)) o w o₁
   tree-told bs ts w o₁ ew eo = rw (ew, eo) (input-case bs ts (inputOf bs ts) refl)
 
@@ -96,7 +96,7 @@ module _ (text o : List ℕ) (long : 64160 ≡ length o) where
 
 -- ---- what the reader answered
 
-module _ (text tree : List ℕ) (a : Typed) (e : record { answer = a; out = tree } ≡ typedOf text (replicate 32768 0)) where
+module _ (text tree : List ℕ) (a : Typed) (e : record { answer = a; memory = tree } ≡ typedOf text (replicate 32768 0)) where
   pub typed-fault : (a .number ≡ 0 → ⊥) → typedProgramOf text ≡ faultText (a .number) (a .line) (a .column)
   unfolding typedProgramOf
   typed-fault z = sym (ap outcomeText e) ∙ rw (ne-eqb (a .number) 0 z)

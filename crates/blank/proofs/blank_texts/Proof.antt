@@ -1,6 +1,5 @@
 use mathlib.Core.Path.{sym, ap, _∙_}
 use borrow.Author.Needs.{needs}
-use Rattle.blank.specs.Blank.{Blanks}
 use Rattle.blank.proofs.Answered.{TreeHere, got-elements, refused-blank, no-cell, blank-no-room, blanks}
 use Rattle.blank.proofs.Calls.{all-told}
 use Rattle.blank.proofs.blank_texts.Statement.{statement}
@@ -19,8 +18,8 @@ refuse-requires c κs = search needs
 returns : tie.Need-returns
 returns c =
     let k = refused-blank _ _ (c .before .before .read-tree .ensures) (c .before .if1 .taken) _ _ in
-    all-told _ _ _ _ _ (c .before .before .before .before .before .shared-slice-known .given) (c .refuse .ensures ∙ sym (ap (λ (y : Blanks). y .answer) k))
-    (sym (ap (λ (y : Blanks). y .out) k))
+    all-told _ _ _ _ _ (c .before .before .before .before .before .shared-slice-known .given) (c .refuse .ensures ∙ sym (ap (λ y. y .answer) k))
+    (sym (ap (λ y. y .memory) k))
 
 find-cells-requires : tie.Need-find-cells-requires
 find-cells-requires c κs = here-at c .elements
@@ -38,7 +37,7 @@ returns-2 c =
     let k = blank-no-room _ _ q _ _ _ (d .before .find-cells .ensures (q .elements)) (d .name-cells .ensures .0) (c .before .before .if2 .taken)
     (c .before .if3 .taken) in
     all-told _ _ _ _ _ (c .before .before .before .before .before .before .before .before .before .shared-slice-known .given)
-    (c .refuse2 .ensures ∙ sym (ap (λ (y : Blanks). y .answer) k)) (sym (ap (λ (y : Blanks). y .out) k))
+    (c .refuse2 .ensures ∙ sym (ap (λ y. y .answer) k)) (sym (ap (λ y. y .memory) k))
 
 put-elements-requires : tie.Need-put-elements-requires
 put-elements-requires c κs = (here-at (c .before .before .before .before .before .before) .elements, c .before .before .if3 .left)
@@ -55,7 +54,7 @@ returns-3 c =
     let k = blanks _ _ q _ _ _ (d .before .find-cells .ensures (q .elements)) (n .ensures .0) (u .before .if2 .taken) (u .if3 .left) (n .result .dots) _
     (n .ensures .1) (c .before .before .put-elements .ensures (q .elements)) in
     all-told _ _ _ _ _ (c .before .before .before .before .before .before .before .before .before .before .before .before .before .shared-slice-known .given)
-    (sym (ap (λ (y : Blanks). y .answer) k)) (sym (ap (λ (y : Blanks). y .out) k))
+    (sym (ap (λ y. y .answer) k)) (sym (ap (λ y. y .memory) k))
 
 refuse-requires-3 : tie.Need-refuse-requires-3
 refuse-requires-3 c κs = search needs
@@ -66,7 +65,7 @@ returns-4 c =
     let q = here-at (d .before .before) in
     let k = no-cell _ _ q _ _ _ (d .before .find-cells .ensures (q .elements)) (d .name-cells .ensures .0) (c .before .if2 .left) in
     all-told _ _ _ _ _ (c .before .before .before .before .before .before .before .before .shared-slice-known .given)
-    (c .refuse3 .ensures ∙ sym (ap (λ (y : Blanks). y .answer) k)) (sym (ap (λ (y : Blanks). y .out) k))
+    (c .refuse3 .ensures ∙ sym (ap (λ y. y .answer) k)) (sym (ap (λ y. y .memory) k))
 
 pub blank-texts-spec : {M : Type 1} → statement M
 blank-texts-spec =

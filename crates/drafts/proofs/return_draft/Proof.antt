@@ -19,7 +19,7 @@ open-store-requires : tie.Need-open-store-requires
 open-store-requires c κs = search needs
 
 returns : tie.Need-returns
-returns c = let k = refused-return _ _ _ (c .before .open-store .ensures) (c .if1 .taken) _ in (ap (λ y. y .answer) k, ap (λ y. y .out) k)
+returns c = let k = refused-return _ _ _ (c .before .open-store .ensures) (c .if1 .taken) _ in (ap (λ y. y .answer) k, ap (λ y. y .memory) k)
 
 sub-n : tie.Need-sub-n
 sub-n c = omega (arith, size-at c)
@@ -28,7 +28,7 @@ returns-2 : tie.Need-returns-2
 returns-2 c =
     let e = c .before in
     let k = return-short _ _ _ (ready-at (e .before .before)) (e .if2 .taken) _ (c .if3 .taken) in
-    (ap (λ y. y .answer) k, ap (λ y. y .out) k)
+    (ap (λ y. y .answer) k, ap (λ y. y .memory) k)
 
 add-from : tie.Need-add-from
 add-from c = omega (arith, size-at (c .before))
@@ -56,10 +56,10 @@ returns-3 c =
     let d = c .before .before in
     let e = d .before .before .before .before in
     let k = return-there _ _ _ (ready-at (e .before .before)) (e .if2 .taken) _ _ (d .before .before .before .if3 .left) (d .copy-in .ensures) in
-    (ap (λ y. y .answer) k, ap (λ y. y .out) k)
+    (ap (λ y. y .answer) k, ap (λ y. y .memory) k)
 
 returns-4 : tie.Need-returns-4
-returns-4 c = let k = return-absent _ _ _ (ready-at (c .before .before)) (c .if2 .left) _ in (ap (λ y. y .answer) k, ap (λ y. y .out) k)
+returns-4 c = let k = return-absent _ _ _ (ready-at (c .before .before)) (c .if2 .left) _ in (ap (λ y. y .answer) k, ap (λ y. y .memory) k)
 
 pub return-draft-spec : {M : Type 1} → statement M
 return-draft-spec =

@@ -21,7 +21,7 @@ same-length : tie.Need-same-length
 same-length c = search needs
 
 returns : tie.Need-returns
-returns c = let k = refused-save _ _ _ (c .before .open-store .ensures) (c .if1 .taken) _ in (ap (λ y. y .number) k, ap (λ y. y .store) k)
+returns c = let k = refused-save _ _ _ (c .before .open-store .ensures) (c .if1 .taken) _ in (ap (λ y. y .answer) k, ap (λ y. y .memory) k)
 
 read-tree-requires : tie.Need-read-tree-requires
 read-tree-requires c κs = search needs
@@ -33,7 +33,7 @@ returns-2 : tie.Need-returns-2
 returns-2 c =
     let r = opened-ready _ _ _ (c .before .before .before .open-store .ensures) (c .before .before .if1 .left) in
     let k = bad-tree _ _ _ r _ _ (c .before .read-tree .ensures) (c .if2 .taken) in
-    (ap (λ y. y .number) k, ap (λ y. y .store) k)
+    (ap (λ y. y .answer) k, ap (λ y. y .memory) k)
 
 sub-others : tie.Need-sub-others
 sub-others c = opened-room _ _ _ (ready-at (c .before)) .low
@@ -51,7 +51,7 @@ returns-3 : tie.Need-returns-3
 returns-3 c =
     let e = c .before .before in
     let k = save-full _ _ _ (ready-at e) _ (read-at e) (c .if3 .taken) in
-    (ap (λ y. y .number) k, ap (λ y. y .store) k)
+    (ap (λ y. y .answer) k, ap (λ y. y .memory) k)
 
 take-out-requires : tie.Need-take-out-requires
 take-out-requires c κs = let k = opened-room _ _ _ (ready-at (c .before .before .before)) in (k .fits, k .high, k .zeros)
@@ -71,7 +71,7 @@ returns-4 c =
     let e = d .before .before .before .before in
     let k = save-there _ _ _ (ready-at e) _ (read-at e) (d .before .before .if3 .left) _ _ _ (c .before .before .before .tag-of .ensures) (d .take-out .ensures)
     (c .before .before .put-field .ensures) in
-    (ap (λ y. y .number) k, ap (λ y. y .store) k)
+    (ap (λ y. y .answer) k, ap (λ y. y .memory) k)
 
 pub save-draft-spec : {M : Type 1} → statement M
 save-draft-spec =

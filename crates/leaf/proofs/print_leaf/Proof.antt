@@ -1,7 +1,6 @@
 use mathlib.Core.Path.{_≡_, sym, ap, _∙_}
 use lib.ListN.{length}
 use Rattle.frame.proofs.Printers.{print-refused}
-use Rattle.frame.specs.Printer.{Prints}
 use Rattle.leaf.proofs.Records.{shows-part}
 use Rattle.leaf.proofs.Parts.{part-of}
 use borrow.Author.Needs.{needs}
@@ -27,7 +26,7 @@ returns-2 c =
     let m = d .ensures .0 .meets (c .before .before .before .before .before .before .before .before .if1 .left) in
     let w = c .before .before .before .print-block .ensures (shows-part _ (part-of (d .last .1 .1 .1 .1 .0) (d .result .entry) 5120 n) (m .shows)) in
     let e = m .print-is (c .before .before .before .before .before .before .before .before .before .before .before .before .before .before .before .before .before .args .out .now) in
-    (w .0 ∙ ap (λ (x : Prints). x .answer) (sym e), w .1 ∙ ap (λ (x : Prints). x .out) (sym e))
+    (w .0 ∙ ap (λ x. x .answer) (sym e), w .1 ∙ ap (λ x. x .memory) (sym e))
 
 pub print-leaf-spec : {M : Type 1} → statement M
 print-leaf-spec =

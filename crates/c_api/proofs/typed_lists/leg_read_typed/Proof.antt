@@ -1,7 +1,6 @@
 use mathlib.Core.Path.{ap, _∙_}
 use borrow.Author.Needs.{needs}
 use Rattle.c_encoding.specs.Words.{typedWord}
-use Rattle.typed.specs.Typed.{TypedOutcome}
 use Rattle.c_api.proofs.typed_lists.leg_read_typed.Statement.{statement}
 use Rattle.c_api.proofs.typed_lists.leg_read_typed.Tie as tie
 
@@ -17,7 +16,7 @@ same-length c = search needs
 returns : tie.Need-returns
 returns c =
     let e = c .before .before .before .read-typed .ensures .0 in
-    (c .pack-typed .ensures ∙ ap (λ (x : TypedOutcome). typedWord (x .answer)) e, ap (λ (x : TypedOutcome). x .out) e)
+    (c .pack-typed .ensures ∙ ap (λ x. typedWord (x .answer)) e, ap (λ x. x .memory) e)
 
 pub leg-read-typed-spec : {M : Type 1} → statement M
 leg-read-typed-spec = tie.close (tie.spec read-typed-requires pack-typed-requires same-length returns)
