@@ -6,7 +6,7 @@ use mathlib.Core.List.{List, [], _∷_, _++_}
 use lib.ListN.{length, replicate, length-replicate}
 use lib.Seq.{sets, length-sets}
 use Rattle.common.proofs.Stores.{sets-append}
-use Rattle.paint.specs.Paint.{Wrote}
+use Rattle.common.specs.Writing.{Wrote}
 use Rattle.paint.specs.Contracts.{pasted, Room}
 use Rattle.paint.proofs.Pasted.{pasted-append}
 use Rattle.paint.proofs.Room.{room-head, room-next, room-tail}

@@ -15,7 +15,7 @@ use Rattle.sizes.specs.Contracts.{Fits}
 use Rattle.block.specs.declared.Flags.{Flags}
 use Rattle.paint.specs.declared.borders.Borders.{Borders}
 use Rattle.block.specs.Block.{Leaf, body, topLine, middle, bottomLine, block, blockHeight, blockWidth}
-use Rattle.paint.specs.Paint.{Wrote}
+use Rattle.common.specs.Writing.{Wrote}
 use Rattle.paint.specs.Contracts.{pasted, Room, leafWith, Paintable, spaceLines, bordersOf, topOf, leftOf, rightOf, bottomOf, columnsIn, Lined, begunOf, BodyBegins, Rest, endedOf, middleOf}
 use Rattle.paint.specs.declared.Begun.{Begun}
 use Rattle.block.proofs.Dimensions.{dims-paired}

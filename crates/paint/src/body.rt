@@ -7,7 +7,7 @@ ghost use lib.ListN.{length, replicate};
 ghost use Rattle.sizes.specs.Sizes.{leafSize};
 ghost use Rattle.sizes.specs.Contracts.{Fits};
 ghost use Rattle.block.specs.Block.{body};
-ghost use Rattle.paint.specs.Paint.{Wrote};
+ghost use Rattle.common.specs.Writing.{Wrote};
 ghost use Rattle.paint.specs.Contracts.{pasted, Room, bodyRowsOf, spaceLines, clear, ground, groundLines, Blank, Turned};
 use crate::bytes;
 use crate::text_lines;

@@ -6,7 +6,7 @@ ghost use lib.ListN.{length, replicate};
 ghost use lib.Seq.{sets};
 ghost use Rattle.common.specs.Choice.{pick};
 ghost use Rattle.block.specs.Block.{edge};
-ghost use Rattle.paint.specs.Paint.{Wrote};
+ghost use Rattle.common.specs.Writing.{Wrote};
 ghost use Rattle.paint.specs.Contracts.{pasted, Room, spaceLines, bordersOf, topOf, leftOf, rightOf, bottomOf};
 use crate::bytes;
 use block::Flags;

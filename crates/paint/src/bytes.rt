@@ -5,7 +5,7 @@ ghost use mathlib.Core.List.{[], _∷_};
 ghost use lib.ListN.{length, take, drop, replicate};
 ghost use lib.Seq.{sets};
 ghost use Rattle.splits.specs.Splits.{named};
-ghost use Rattle.paint.specs.Paint.{Wrote};
+ghost use Rattle.common.specs.Writing.{Wrote};
 ghost use Rattle.paint.specs.Contracts.{pasted, fed, Room, crossed, fourBytes};
 
 // The n bytes from `at` on become `byte`.

@@ -5,7 +5,7 @@ ghost use Prim.Native.Nat.{ℕ, _≤_, _<_};
 ghost use mathlib.Core.List.{List};
 ghost use lib.ListN.{length, take, drop};
 ghost use lib.Seq.{sets};
-ghost use Rattle.paint.specs.Paint.{Wrote};
+ghost use Rattle.common.specs.Writing.{Wrote};
 ghost use Rattle.program.specs.Program.{refusedText, programOf};
 
 // The largest sheet, 160 lines of 400 columns, each with its 0A.

@@ -7,7 +7,7 @@ use sizes::axis::separator;
 use sizes::lists::natural_at;
 ghost use mathlib.Core.Path.{_≡_};
 ghost use lib.ListN.{length};
-ghost use Rattle.paint.specs.Paint.{Wrote};
+ghost use Rattle.common.specs.Writing.{Wrote};
 ghost use Rattle.sizes.specs.Input.{inputOf};
 ghost use Rattle.sheet.specs.Answers.{sheetOf};
 ghost use Rattle.sheet.specs.Contracts.{refusalOf, Framed, insideAt, beforeOf, afterOf};

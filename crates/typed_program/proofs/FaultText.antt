@@ -10,7 +10,7 @@ use lib.Dec.{eqb, ltb}
 use borrow.Author.Tests.{ne-eqb, lt-ltb, le-ltb}
 use Rattle.common.specs.Choice.{pick}
 use Rattle.common.proofs.Stores.{sets-append}
-use Rattle.paint.specs.Paint.{Wrote}
+use Rattle.common.specs.Writing.{Wrote}
 use Rattle.typed_program.specs.Words.{digits, decimal, words30, words31, words32, words33, words34, words35, words36, words37, words38, words39, wordsLarge, faultWords, lineText, columnText, colonText, placeText, faultText}
 
 -- ---- digits

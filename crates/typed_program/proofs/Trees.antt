@@ -14,7 +14,7 @@ use Rattle.tree.specs.Tree.{Tree}
 use Rattle.sizes.specs.Input.{Input, refused, given, inputOf}
 use Rattle.sizes.proofs.MeasuredInput.{input-refusal}
 use Rattle.common.proofs.Stores.{sets-append, sets-front}
-use Rattle.paint.specs.Paint.{Wrote}
+use Rattle.common.specs.Writing.{Wrote}
 use Rattle.frame.specs.declared.Written.{Written}
 use Rattle.frame.specs.Frame.{tooLarge}
 use Rattle.frame.specs.Printer.{noPrint, printTo}

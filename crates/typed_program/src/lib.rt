@@ -6,7 +6,7 @@ ghost use lib.ListN.{length, take};
 ghost use lib.Seq.{sets};
 ghost use Rattle.settings.specs.Defaults.{defaults, settingsBytes};
 ghost use Rattle.sizes.specs.Input.{inputOf};
-ghost use Rattle.paint.specs.Paint.{Wrote};
+ghost use Rattle.common.specs.Writing.{Wrote};
 ghost use Rattle.typed_program.specs.TypedProgram.{treeText, typedProgramOf};
 
 pub mod words;

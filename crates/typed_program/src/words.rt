@@ -4,7 +4,7 @@ ghost use mathlib.Core.Path.{_≡_};
 ghost use Prim.Native.Nat.{_+_, _≤_};
 ghost use lib.ListN.{length};
 ghost use lib.Seq.{sets};
-ghost use Rattle.paint.specs.Paint.{Wrote};
+ghost use Rattle.common.specs.Writing.{Wrote};
 ghost use Rattle.typed_program.specs.Words.{digits, faultWords, placeText, faultText};
 
 // A number's digits from `at` on, at most `places` of them; the answer is where they end.

@@ -7,7 +7,7 @@ use lib.ListN.{length, set, replicate, length-set, length-replicate}
 use lib.Seq.{sets, length-sets}
 use borrow.Author.Needs.{needs}
 use Rattle.block.specs.Block.{edge}
-use Rattle.paint.specs.Paint.{Wrote}
+use Rattle.common.specs.Writing.{Wrote}
 use Rattle.paint.proofs.LinesLeft.{then-sets}
 use Rattle.paint.proofs.borders.border.Statement.{statement}
 use Rattle.paint.proofs.borders.border.Tie as tie
