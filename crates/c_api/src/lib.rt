@@ -278,7 +278,7 @@ pub extern "C" fn leg_short_splits(
     ensures listed { λ _. ⌜ now (positions .exit) ≡ splitsGiven (now (pieces .entry)) count w (now (positions .entry)) (now (left .entry)) .memory .0 ⌝ }
     ensures rest { λ _. ⌜ now (left .exit) ≡ splitsGiven (now (pieces .entry)) count w (now (positions .entry)) (now (left .entry)) .memory .1 ⌝ }
 {
-    let room = lists::min(positions.len(), left.len());
+    let room = common::min(positions.len(), left.len());
     let number = cuts::refused_by(pieces.len(), count, room, 513);
     if number != 0 {
         return pack(number, 0);

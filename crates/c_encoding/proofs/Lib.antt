@@ -1,5 +1,4 @@
 -- What the proofs of several functions, and those of the C functions, use.
-mod Copies
 pub mod Parts
 pub mod WrittenNumbers
 mod Fives

@@ -31,7 +31,7 @@ use Rattle.leaf.proofs.LeafNumbers.{numbered-every}
 use Rattle.c_encoding.specs.Words.{packed}
 use Rattle.c_encoding.specs.Numbers.{refusal, offered, listNumbers, frontNumbers, recordNumbers, recordGiven}
 use Rattle.c_encoding.specs.Contracts.{SmallRecord}
-use Rattle.c_encoding.proofs.Copies.{stored-on}
+use Rattle.common.proofs.Copies.{stored-on}
 use Rattle.c_encoding.proofs.WrittenNumbers.{Same, same-refusal, same-written, offered-short, offered-long}
 use Rattle.c_encoding.proofs.Counts.{list-few}
 

@@ -14,7 +14,7 @@ use Rattle.c_encoding.specs.Words.{packed}
 use Rattle.c_encoding.specs.Numbers.{refusal, offered, settingsNumbers, marginNumbers, readGiven}
 use Rattle.c_encoding.specs.Contracts.{choiceNumbers}
 use Rattle.c_encoding.proofs.WrittenNumbers.{Same, same-refusal, same-written, offered-short, offered-long}
-use Rattle.c_encoding.proofs.Copies.{stored-on}
+use Rattle.common.proofs.Copies.{stored-on}
 
 -- the marks, the padding, the fills and the choices, stored one after the other
 pub settings-stored : (s : Settings) (o : List ℕ) {p k o₁ o₂ o₃ o₄ : List ℕ} → Ranges s → o₁ ≡ sets o 0 (s .marks)

@@ -7,10 +7,12 @@ use native.Mathlib.Omega.{arith}
 use mathlib.Core.List.{List, [], _∷_, _++_}
 use lib.Dec.{ltb}
 use lib.ListN.{length, take, length-append, length-take}
-use lib.Seq.{sets, paste, take-all, take-length}
+use lib.Seq.{sets, take-all, take-length}
 use borrow.Author.Tests.{ltb-true, ltb-false, eq-eqb, ne-eqb}
 use Rattle.common.specs.Choice.{pick}
 use Rattle.common.specs.Outcome.{Outcome}
+use Rattle.common.proofs.Stores.{sets-front}
+use Rattle.common.proofs.Copies.{stored-on}
 use Rattle.splits.specs.declared.SplitList.{SplitList}
 use Rattle.splits.specs.declared.CutParts.{CutParts}
 use Rattle.splits.specs.declared.InPlaceCut.{InPlaceCut}
@@ -20,8 +22,6 @@ use Rattle.splits.specs.Cuts.{cutOf, inPlaceCut, shortOf}
 use Rattle.c_encoding.specs.Words.{packed}
 use Rattle.c_encoding.specs.Numbers.{refusal, written, overwritten, bit, listNumbers, positionNumbers}
 use Rattle.c_encoding.specs.Cuts.{refusedBy, cutNumbers, splits3Given, writtenTwo, keptNumbers, keptGiven, lentGiven, shortGiven, splitsGiven}
-use Rattle.c_encoding.proofs.Copies.{stored-on}
-use Rattle.common.proofs.Stores.{sets-front}
 use Rattle.c_encoding.proofs.WrittenNumbers.{Same, same-written}
 
 -- ---- what is stored one after the other
@@ -45,10 +45,11 @@ fits-take : (b : Bool) (m : ℕ) (l : List ℕ) → ltb m (length l) ≡ b → t
 fits-take true m l e = let k = ltb-true m (length l) e in let h : m ≤ length l = omega arith in rw (min-eq-left h)
 fits-take false m l e = let h = ltb-false m (length l) e in rw (min-eq-right h, take-length l) (sym (take-all m l h))
 
-pub left-pasted : (l o : List ℕ) {n : ℕ} {p : List ℕ} → length l ≡ 512 → n ≡ min (length o) 512 → p ≡ paste o 0 l n → p ≡ overwritten (take (length o) l) o
-left-pasted l o {n} long e f =
-    let z : 0 + n ≡ n = omega arith in
-    f ∙ rw (z, e, ← long, fits-take _ (length o) l refl, length-take (length o) l)
+pub left-stored : (l o : List ℕ) {n : ℕ} {p : List ℕ} → length l ≡ 512 → n ≡ min (length o) 512 → p ≡ sets o 0 (take n l)
+    → p ≡ overwritten (take (length o) l) o
+left-stored l o {n} long e f =
+    let t : take n l ≡ take (length o) l = rw (e, ← long) (fits-take _ (length o) l refl) in
+    rw t at f ∙ sets-front (take (length o) l) o (rw length-take (omega arith))
 
 -- ---- what is not refused
 

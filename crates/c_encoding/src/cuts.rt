@@ -1,10 +1,10 @@
 // Cuts as lent numbers.
 use crate::lists;
+use common::copy::copy_numbers;
 use common::pick_byte;
 use splits::CutParts;
 use splits::InPlaceCut;
 use splits::SplitList;
-use splits::lent::copy_pieces;
 ghost use mathlib.Core.Path.{_≡_};
 ghost use Prim.Native.Nat.{_≤_};
 ghost use lib.ListN.{length, take};
@@ -27,7 +27,7 @@ pub fn put_cut(cut: CutParts, out: &mut [u16])
 {
     let pair = cut.pair;
     let first = [lists::bit(cut.split), pair.taken as u16, pair.rest];
-    lists::copy(&first, out, 0);
+    copy_numbers(out, 0, &first);
     let taken = cut.taken;
     lists::put_list(taken, out, 3);
     let left = cut.left;
@@ -48,7 +48,7 @@ pub fn put_kept(kept: InPlaceCut, out: &mut [u16])
         pair.rest,
         left.count as u16,
     ];
-    lists::copy(&first, out, 0);
+    copy_numbers(out, 0, &first);
     let taken = answer.taken;
     lists::put_list(taken, out, 4);
 }
@@ -58,6 +58,6 @@ pub fn put_left(left: SplitList, out: &mut [u16])
     ensures { λ _. ⌜ now (out .exit) ≡ overwritten (take (length (now (out .entry))) (left .pieces)) (now (out .entry)) ⌝ }
 {
     let pieces = left.pieces;
-    let n = lists::min(out.len(), 512);
-    copy_pieces(out, 0, &pieces, n);
+    let n = common::min(out.len(), 512);
+    copy_numbers(out, 0, &pieces[..n]);
 }

@@ -1,6 +1,8 @@
 // Settings, margins, sizes and leaf records as lent numbers.
 use crate::lists;
+use crate::lists::widen_bytes;
 use block::Flags;
+use common::copy::copy_numbers;
 use fold::Folded;
 use leaf::LeafRecord;
 use places::LeafPlace;
@@ -74,13 +76,13 @@ pub fn put_settings(s: Settings, out: &mut [u16])
     ensures { λ _. ⌜ now (out .exit) ≡ sets (now (out .entry)) 0 (settingsNumbers s) ⌝ }
 {
     let marks = s.marks;
-    lists::copy_bytes(&marks, out, 0);
+    widen_bytes(out, 0, &marks);
     let sides = padding(s);
-    lists::copy(&sides, out, 15);
+    copy_numbers(out, 15, &sides);
     let fills = s.fills;
-    lists::copy_bytes(&fills, out, 19);
+    widen_bytes(out, 19, &fills);
     let chosen = choices(s);
-    lists::copy(&chosen, out, 23);
+    copy_numbers(out, 23, &chosen);
 }
 
 // Four sizes, four fills.
@@ -90,9 +92,9 @@ pub fn put_margin(s: Settings, out: &mut [u16])
 {
     let m = s.margin;
     let sizes = [m.left, m.right, m.top, m.bottom];
-    lists::copy_bytes(&sizes, out, 0);
+    widen_bytes(out, 0, &sizes);
     let fills = m.fills;
-    lists::copy_bytes(&fills, out, 4);
+    widen_bytes(out, 4, &fills);
 }
 
 // Five numbers a node: its sizes in the list, and its count of nodes below.
@@ -109,7 +111,7 @@ pub fn put_sizes(list: &[u16; 2048], n: usize, below: [u16; 512], out: &mut [u16
             list[4 * i + 3],
             below[i],
         ];
-        lists::copy(&five, out, 5 * i);
+        copy_numbers(out, 5 * i, &five);
         i += 1;
     }
 }
@@ -145,7 +147,7 @@ pub fn put_record(r: LeafRecord, out: &mut [u16])
     let flags = r.flags;
     let pair = r.pair;
     let first = front(r.node, size, flags, pair);
-    lists::copy(&first, out, 0);
+    copy_numbers(out, 0, &first);
     let horizontal = r.horizontal;
     lists::put_list(horizontal, out, 13);
     let vertical = r.vertical;
@@ -158,7 +160,7 @@ pub fn put_place(p: LeafPlace, out: &mut [u16])
     ensures { λ _. ⌜ now (out .exit) ≡ sets (now (out .entry)) 0 (placeNumbers p) ⌝ }
 {
     let three = [p.node as u16, p.line as u16, p.column as u16];
-    lists::copy(&three, out, 0);
+    copy_numbers(out, 0, &three);
 }
 
 // The height, the tries and the greatest miss of a fold.

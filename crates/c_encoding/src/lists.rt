@@ -1,27 +1,14 @@
 // Numbers copied between lent lists and values.
+use common::copy::copy_numbers;
+use common::copy::copy_wide;
 use splits::Positions;
 use splits::SplitList;
-use splits::lent::copy_pieces;
 ghost use mathlib.Core.Path.{_≡_};
-ghost use Prim.Native.Nat.{_+_, _≤_, _<_, min};
+ghost use Prim.Native.Nat.{_+_, _≤_, _<_};
 ghost use lib.ListN.{length};
 ghost use lib.Seq.{sets};
 ghost use Rattle.c_encoding.specs.Numbers.{listNumbers, positionNumbers};
 ghost use Rattle.c_encoding.specs.Numbers as numbers;
-
-// The numbers of `out` from `at` on become those of `from`.
-pub fn copy(from: &[u16], out: &mut [u16], at: usize)
-    requires { ⌜ at + length (now from) ≤ length (now out) ⌝ }
-    ensures { λ _. ⌜ now (out .exit) ≡ sets (now (out .entry)) at (now (from .entry)) ⌝ }
-{
-    copy_pieces(out, at, from, from.len());
-}
-
-pub fn min(a: usize, b: usize) -> usize
-    ensures { λ r. ⌜ r ≡ min a b ⌝ }
-{
-    if a < b { a } else { b }
-}
 
 // Yes is 1, no is 0.
 pub fn bit(b: bool) -> u16
@@ -39,28 +26,14 @@ fn widen(b: u8) -> u16
     b as u16
 }
 
-// The same for bytes.
-pub fn copy_bytes(from: &[u8], out: &mut [u16], at: usize)
+// The numbers of `out` from `at` on become these bytes.
+pub fn widen_bytes(out: &mut [u16], at: usize, from: &[u8])
     requires { ⌜ at + length (now from) ≤ length (now out) ⌝ }
     ensures { λ _. ⌜ now (out .exit) ≡ sets (now (out .entry)) at (now (from .entry)) ⌝ }
 {
-    let n = from.len();
     let mut i = 0;
-    while i < n {
+    while i < from.len() {
         out[at + i] = widen(from[i]);
-        i += 1;
-    }
-}
-
-// The same for numbers of 32 bits.
-fn copy_wide(from: &[u32], out: &mut [u32], at: usize)
-    requires { ⌜ at + length (now from) ≤ length (now out) ⌝ }
-    ensures { λ _. ⌜ now (out .exit) ≡ sets (now (out .entry)) at (now (from .entry)) ⌝ }
-{
-    let n = from.len();
-    let mut i = 0;
-    while i < n {
-        out[at + i] = from[i];
         i += 1;
     }
 }
@@ -71,9 +44,9 @@ pub fn put_list(list: SplitList, out: &mut [u16], at: usize)
     ensures { λ _. ⌜ now (out .exit) ≡ sets (now (out .entry)) at (listNumbers list) ⌝ }
 {
     let count = [list.count as u16];
-    copy(&count, out, at);
+    let end = copy_numbers(out, at, &count);
     let pieces = list.pieces;
-    copy(&pieces, out, at + 1);
+    copy_numbers(out, end, &pieces);
 }
 
 // Positions in the same form.
@@ -82,7 +55,7 @@ pub fn put_positions(list: Positions, out: &mut [u32])
     ensures { λ _. ⌜ now (out .exit) ≡ sets (now (out .entry)) 0 (positionNumbers list) ⌝ }
 {
     let count = [list.count as u32];
-    copy_wide(&count, out, 0);
+    let end = copy_wide(out, 0, &count);
     let entries = list.entries;
-    copy_wide(&entries, out, 1);
+    copy_wide(out, end, &entries);
 }

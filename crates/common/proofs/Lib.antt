@@ -2,6 +2,7 @@
 pub mod Either
 pub mod Elems
 pub mod Stores
+pub mod Copies
 pub mod Every
 pub mod Sums
 pub mod Padded

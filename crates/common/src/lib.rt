@@ -3,6 +3,8 @@ ghost use mathlib.Core.Path.{_≡_};
 ghost use Prim.Native.Nat.{_-_, _≤_, _<_, max, min};
 ghost use Rattle.common.specs.Choice as choice;
 
+pub mod copy;
+
 pub fn wide(x: u8) -> usize
     ensures { λ r. ⌜ r ≡ x ⌝ }
     ensures byte { λ r. ⌜ r < 256 ⌝ }

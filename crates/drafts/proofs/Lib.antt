@@ -1,7 +1,7 @@
 pub mod Fields
 pub mod Series
 pub mod AnyStore
-pub mod Copies
+pub mod MovedBytes
 pub mod Scans
 pub mod Formed
 pub mod OpenedStore

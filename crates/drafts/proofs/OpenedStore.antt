@@ -6,12 +6,13 @@ use mathlib.Core.Bool.{Bool, true, false}
 use mathlib.Core.List.{List, [], _∷_, _++_, append-assoc, append-nil}
 use mathlib.Core.Option.{Option, some, none}
 use lib.ListN.{length, take, drop, replicate, length-drop, length-append}
-use lib.Seq.{paste, take-all, take-at, drop-append-add}
+use lib.Seq.{sets, take-at, drop-append-add}
 use borrow.Author.Tests.{lt-ltb, le-ltb}
 use Rattle.common.specs.Choice.{pick}
 use Rattle.common.proofs.Padded.{drop-replicate}
 use Rattle.tree.specs.declared.ReadTree.{ReadTree}
 use Rattle.common.specs.Outcome.{Outcome}
+use Rattle.common.proofs.Stores.{sets-front}
 use Rattle.tree.specs.Reading.{ReadOne, readTree, treeAnswer}
 use Rattle.tree.specs.Accepted.{element}
 use Rattle.tree.proofs.Sound.{tree-refusal, tree-sound}
@@ -233,15 +234,14 @@ module _ (o : List ℕ) (n : ℕ) (p : Opened) (r : Openable o n p) where
     return-short out l = let m : length out < length body = omega (arith, body-long) in rw (returns-body out, lt-ltb (length out) (length body) m)
 
     pub return-there : (out e : List ℕ) → p .spot .size - 3 ≤ length out
-        → (let part = take (p .spot .at + p .spot .size - (p .spot .at + 3)) (drop (p .spot .at + 3) o) in e ≡ paste out 0 part (length part))
+        → (let part = take (p .spot .at + p .spot .size - (p .spot .at + 3)) (drop (p .spot .at + 3) o) in e ≡ sets out 0 part)
         → record { answer = record { number = 0; count = p .spot .size - 3 }; memory = e } ≡ returnOf o n out
     return-there out e l q =
         let m : length body ≤ length out = omega (arith, body-long) in
         let c : p .spot .at + p .spot .size - (p .spot .at + 3) ≡ p .spot .size - 3 = omega (arith, field-long h) in
         let b : take (p .spot .at + p .spot .size - (p .spot .at + 3)) (drop (p .spot .at + 3) o) ≡ body = ap (λ (k : ℕ). take k (drop (p .spot .at + 3) o)) c
         ∙ body-at in
-        let z : 0 + length body ≡ length body = omega arith in
-        let g : e ≡ body ++ drop (length body) out = q ∙ rw (b, take-all (length body) body (omega arith), z) in
+        let g : e ≡ body ++ drop (length body) out = q ∙ rw b (sets-front body out m) in
         let s : p .spot .size - 3 ≡ length body = sym body-long in
         rw (returns-body out, le-ltb (length out) (length body) m, s, g)
 

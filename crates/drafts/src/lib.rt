@@ -1,4 +1,5 @@
 // Drafts of trees in one lent store: fields of hex tag 20 to 27 for the names A to H, two-byte length and the tree's bytes, then zero bytes.
+use common::copy::copy_bytes;
 ghost use mathlib.Core.Path.{_≡_};
 ghost use Rattle.drafts.specs.Store.{isName, tagFor, fieldsOf, saveOf, forgetOf, returnOf};
 ghost use Rattle.drafts.specs.Contracts.{refusedOpen, openedOf};
@@ -95,7 +96,7 @@ pub fn return_draft(store: &[u8], name: u8, out: &mut [u8]) -> Returned
         }
         let from = at + 3;
         let end = at + size;
-        moves::copy_in(&store[from..end], out, 0);
+        copy_bytes(out, 0, &store[from..end]);
         return Returned {
             number: 0,
             count: n,

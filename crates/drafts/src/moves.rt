@@ -1,4 +1,5 @@
 // Moves in a lent store.
+use common::copy::copy_bytes;
 ghost use mathlib.Core.Path.{_≡_};
 ghost use Prim.Native.Nat.{_+_, _-_, _≤_};
 ghost use mathlib.Core.List.{_++_};
@@ -51,18 +52,6 @@ pub fn take_out(s: &mut [u8], at: usize, size: usize, used: usize)
     close_gap(&mut s[..used], at, size);
 }
 
-// The bytes of `t` over those from `at` on.
-pub fn copy_in(t: &[u8], s: &mut [u8], at: usize)
-    requires { ⌜ at + length (now t) ≤ length (now s) ⌝ }
-    ensures { λ _. ⌜ now (s .exit) ≡ paste (now (s .entry)) at (now (t .entry)) (length (now (t .entry))) ⌝ }
-{
-    let mut j = 0;
-    while j < t.len() {
-        s[at + j] = t[j];
-        j += 1;
-    }
-}
-
 // A field of that tag with the bytes of `t`, over those from `at` on.
 pub fn put_field(s: &mut [u8], at: usize, tag: u8, t: &[u8])
     requires { ⌜ (at + (3 + length (now t)) ≤ length (now s)) × (length (now t) ≤ 65535) ⌝ }
@@ -70,5 +59,5 @@ pub fn put_field(s: &mut [u8], at: usize, tag: u8, t: &[u8])
         ++ (element tag (now (t .entry)) ++ drop (at + (3 + length (now (t .entry)))) (now (s .entry))) ⌝ }
 {
     tree::front::put_front(s, at, tag, t.len());
-    copy_in(t, s, at + 3);
+    copy_bytes(s, at + 3, t);
 }

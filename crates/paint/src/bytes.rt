@@ -185,15 +185,6 @@ pub fn copy_line(out: &mut [u8], at: usize, line: &[u8])
     copy_short(out, at, line);
 }
 
-// The bytes from `at` on become those of `line`; the answer is where they end.
-pub fn copy(out: &mut [u8], at: usize, line: &[u8]) -> usize
-    requires { ⌜ at + length (now line) ≤ length (now out) ⌝ }
-    ensures { λ r. ⌜ Wrote r (at + length (now (line .entry))) (now (out .exit)) (sets (now (out .entry)) at (now (line .entry))) ⌝ }
-{
-    copy_line(out, at, line);
-    at + line.len()
-}
-
 // n lines of w bytes, the first at `at`, each `stride` after the one before; the answer is where the next line stands.
 pub fn rows(out: &mut [u8], at: usize, stride: usize, n: usize, w: usize, byte: u8) -> usize
     requires { ⌜ Room at stride n w (length (now out)) ⌝ }

@@ -11,12 +11,12 @@ use lib.Dec.{ltb}
 use borrow.Author.Tests.{le-ltb, ltb-true, ltb-false}
 use Rattle.common.specs.Choice.{pick}
 use Rattle.common.specs.Outcome.{Outcome}
+use Rattle.common.specs.Writing.{Wrote}
 use Rattle.settings.specs.declared.Settings.{Settings}
 use Rattle.settings.specs.Reading.{settingsEnd}
 use Rattle.tree.specs.Tree.{Tree}
 use Rattle.sizes.specs.Input.{Input, refused, given, inputOf}
 use Rattle.sizes.proofs.MeasuredInput.{input-refusal}
-use Rattle.common.specs.Writing.{Wrote}
 use Rattle.frame.specs.declared.Written.{Written}
 use Rattle.frame.specs.Frame.{tooLarge}
 use Rattle.frame.specs.Printer.{noPrint, printTo}

@@ -1,5 +1,5 @@
 // The sheet program without its reading and writing: what it prints of what it was given (document 01, figure F1).
-use paint::bytes::copy;
+use common::copy::copy_bytes;
 ghost use mathlib.Core.Path.{_≡_};
 ghost use Prim.Native.Nat.{ℕ, _≤_, _<_};
 ghost use mathlib.Core.List.{List};
@@ -28,7 +28,7 @@ fn refuse(number: u8, out: &mut [u8; ANSWER_BYTES]) -> usize
 {
     let mut text = *b"refused 0\n";
     text[8] = b'0' + number;
-    copy(out, 0, &text)
+    copy_bytes(out, 0, &text)
 }
 
 // The program's whole output stands at the front of `out`, and its length is answered; the bytes past it stay.

@@ -1,10 +1,10 @@
 // One case of each call: what it answers, and whether that is what the line says.
 use crate::fields;
 use crate::lists;
+use common::copy::copy_numbers;
 use splits::Positions;
 use splits::SplitList;
 use splits::cut::CutPair;
-use splits::lent::copy_pieces;
 use splits::lent::list_at;
 
 // What a call answers: its number, yes or no, its pair, the pieces taken or the positions, the list left.
@@ -67,8 +67,8 @@ fn join(a: SplitList, b: SplitList) -> Answer {
         return answered(0, false, no_pair(), none, none);
     }
     let first = a.pieces[0];
-    let mut room = [first; 512];
-    copy_pieces(&mut room, 1, &b.pieces, b.count);
+    let mut room = [first; 513];
+    copy_numbers(&mut room, 1, &b.pieces);
     let got = list_at(&room, 0, 1 + b.count);
     answered(0, false, no_pair(), got, none)
 }

@@ -9,8 +9,9 @@ use lib.Seq.{sets}
 use lib.Dec.{eqb, ltb}
 use borrow.Author.Tests.{ne-eqb, lt-ltb, le-ltb}
 use Rattle.common.specs.Choice.{pick}
-use Rattle.common.proofs.Stores.{sets-append}
 use Rattle.common.specs.Writing.{Wrote}
+use Rattle.common.proofs.Stores.{sets-append}
+use Rattle.common.proofs.Copies.{then-wrote}
 use Rattle.typed_program.specs.Words.{digits, decimal, words30, words31, words32, words33, words34, words35, words36, words37, words38, words39, wordsLarge, faultWords, lineText, columnText, colonText, placeText, faultText}
 
 -- ---- digits
@@ -113,11 +114,6 @@ pub words-above : (k : ℕ) → 39 < k → faultWords k ≡ wordsLarge
 words-above k h = words-left k (λ i b e. omega arith)
 
 -- ---- one text after another
-
-pub then-wrote : (o o₁ o₂ x y : List ℕ) (at r q : ℕ) → Wrote r (at + length x) o₁ (sets o at x) → Wrote q (r + length y) o₂ (sets o₁ r y)
-    → Wrote q (at + length (x ++ y)) o₂ (sets o at (x ++ y))
-then-wrote o o₁ o₂ x y at r q a b =
-    record { end-is = omega (arith, a .end-is, b .end-is, length-append x y); out-is = b .out-is ∙ rw (a .out-is, a .end-is) (sym (sets-append x y o at)) }
 
 -- as the functions have it, from the front on
 pub from-front : (r : ℕ) (o₁ o x y : List ℕ) → x ≡ y → Wrote r (0 + length x) o₁ (sets o 0 x) → Wrote r (length y) o₁ (sets o 0 y)

@@ -9,12 +9,15 @@ use lib.Seq.{sets, length-sets, length-take-le, take-all}
 use lib.Dec.{ltb}
 use borrow.Author.Tests.{le-ltb, lt-ltb, ltb-true, ltb-false, ne-eqb, eq-eqb}
 use Rattle.common.specs.Choice.{pick}
+use Rattle.common.specs.Writing.{Wrote}
+use Rattle.common.proofs.Stores.{sets-append, sets-front}
 use Rattle.settings.specs.declared.Settings.{Settings}
+use Rattle.settings.specs.Defaults.{defaults, settingsBytes}
 use Rattle.tree.specs.Tree.{Tree}
 use Rattle.sizes.specs.Input.{Input, refused, given, inputOf}
 use Rattle.sizes.proofs.MeasuredInput.{input-refusal}
-use Rattle.common.proofs.Stores.{sets-append, sets-front}
-use Rattle.common.specs.Writing.{Wrote}
+use Rattle.typed.specs.declared.Typed.{Typed}
+use Rattle.typed.specs.Typed.{typedOf}
 use Rattle.frame.specs.declared.Written.{Written}
 use Rattle.frame.specs.Frame.{tooLarge}
 use Rattle.frame.specs.Printer.{noPrint, printTo}
@@ -22,9 +25,6 @@ use Rattle.sheet.specs.Sheet.{sheet}
 use Rattle.sheet.specs.Answers.{sheetOf}
 use Rattle.sheet.proofs.Bytes.{largest}
 use Rattle.typed_program.specs.Words.{faultText}
-use Rattle.settings.specs.Defaults.{defaults, settingsBytes}
-use Rattle.typed.specs.declared.Typed.{Typed}
-use Rattle.typed.specs.Typed.{typedOf}
 use Rattle.typed_program.specs.TypedProgram.{treeText, outcomeText, typedProgramOf}
 
 -- a sheet stands at the front of the output, and a 0A has room behind it

@@ -1,5 +1,5 @@
 // What is wrong with a typed list, as text.
-use paint::bytes::copy;
+use common::copy::copy_bytes;
 ghost use mathlib.Core.Path.{_≡_};
 ghost use Prim.Native.Nat.{_+_, _≤_};
 ghost use lib.ListN.{length};
@@ -47,10 +47,10 @@ fn put_words(number: u8, out: &mut [u8], at: usize) -> usize
     ensures few { λ r. ⌜ r ≤ at + 100 ⌝ }
 {
     if number < 30 || 39 < number {
-        return copy(out, at, b"the sheet has over 400 columns or over 160 lines");
+        return copy_bytes(out, at, b"the sheet has over 400 columns or over 160 lines");
     }
     let k = number as usize - 30;
-    copy(out, at, &WORDS[ENDS[k]..ENDS[k + 1]])
+    copy_bytes(out, at, &WORDS[ENDS[k]..ENDS[k + 1]])
 }
 
 // Where the fault is, at the front; the answer is where this ends.
@@ -62,11 +62,11 @@ fn put_place(line: usize, column: usize, out: &mut [u8]) -> usize
     if line == 0 {
         return 0;
     }
-    let first = copy(out, 0, b"line ");
+    let first = copy_bytes(out, 0, b"line ");
     let second = put_digits(line, 6, out, first);
-    let third = copy(out, second, b", column ");
+    let third = copy_bytes(out, second, b", column ");
     let fourth = put_digits(column, 6, out, third);
-    copy(out, fourth, b": ")
+    copy_bytes(out, fourth, b": ")
 }
 
 // The place, the words and 0A at the front; the answer is their length.

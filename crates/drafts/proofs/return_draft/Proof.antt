@@ -36,17 +36,17 @@ add-from c = omega (arith, size-at (c .before))
 add-end : tie.Need-add-end
 add-end c = omega (arith, size-at (c .before))
 
-sub-copy-in : tie.Need-sub-copy-in
-sub-copy-in c = omega (arith, size-at (c .before))
+sub-copy-bytes : tie.Need-sub-copy-bytes
+sub-copy-bytes c = omega (arith, size-at (c .before .before))
 
-part-copy-in-start : tie.Need-part-copy-in-start
-part-copy-in-start c = omega (arith, size-at (c .before))
+part-copy-bytes-start : tie.Need-part-copy-bytes-start
+part-copy-bytes-start c = omega (arith, size-at (c .before .before))
 
-part-copy-in-end : tie.Need-part-copy-in-end
-part-copy-in-end c = omega (arith, size-at (c .before))
+part-copy-bytes-end : tie.Need-part-copy-bytes-end
+part-copy-bytes-end c = omega (arith, size-at (c .before .before))
 
-copy-in-requires : tie.Need-copy-in-requires
-copy-in-requires c κs = search needs
+copy-bytes-requires : tie.Need-copy-bytes-requires
+copy-bytes-requires c κs = search needs
 
 same-length : tie.Need-same-length
 same-length c = search needs
@@ -55,7 +55,7 @@ returns-3 : tie.Need-returns-3
 returns-3 c =
     let d = c .before .before in
     let e = d .before .before .before .before in
-    let k = return-there _ _ _ (ready-at (e .before .before)) (e .if2 .taken) _ _ (d .before .before .before .if3 .left) (d .copy-in .ensures) in
+    let k = return-there _ _ _ (ready-at (e .before .before)) (e .if2 .taken) _ _ (d .before .before .before .if3 .left) (d .copy-bytes .ensures .out-is) in
     (ap (λ y. y .answer) k, ap (λ y. y .memory) k)
 
 returns-4 : tie.Need-returns-4
@@ -71,10 +71,10 @@ return-draft-spec =
     returns-2
     add-from
     add-end
-    sub-copy-in
-    part-copy-in-start
-    part-copy-in-end
-    copy-in-requires
+    sub-copy-bytes
+    part-copy-bytes-start
+    part-copy-bytes-end
+    copy-bytes-requires
     same-length
     returns-3
     returns-4)

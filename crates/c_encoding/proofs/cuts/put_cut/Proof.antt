@@ -11,11 +11,11 @@ bit-requires c κs = search needs
 cast-t8 : tie.Need-cast-t8
 cast-t8 c = search needs
 
-slice-aggregate-copy : tie.Need-slice-aggregate-copy
-slice-aggregate-copy c = search needs
+slice-aggregate-copy-numbers : tie.Need-slice-aggregate-copy-numbers
+slice-aggregate-copy-numbers c = search needs
 
-copy-requires : tie.Need-copy-requires
-copy-requires c κs = search needs
+copy-numbers-requires : tie.Need-copy-numbers-requires
+copy-numbers-requires c κs = search needs
 
 put-list-requires : tie.Need-put-list-requires
 put-list-requires c κs = search needs
@@ -32,7 +32,7 @@ returns c =
     let long : length (start .args .cut .taken .pieces) ≡ 512 = search needs in
     cut-stored (start .args .cut) (start .args .out .now)
     (c .before .before .before .before .before .before .before .before .before .before .before .before .before .before .before .before .bit .ensures)
-    (c .before .before .before .before .before .before .before .before .before .before .before .before .copy .ensures)
+    (c .before .before .before .before .before .before .before .before .before .before .before .before .copy-numbers .ensures .out-is)
     (c .before .before .before .before .before .before .before .put-list .ensures) long (c .before .before .put-list2 .ensures)
 
 pub put-cut-spec : {M : Type 1} → statement M
@@ -41,8 +41,8 @@ put-cut-spec =
     (tie.spec
     bit-requires
     cast-t8
-    slice-aggregate-copy
-    copy-requires
+    slice-aggregate-copy-numbers
+    copy-numbers-requires
     put-list-requires
     put-list-requires-2
     same-length

@@ -12,11 +12,11 @@ cast-t9 c = search needs
 cast-t10 : tie.Need-cast-t10
 cast-t10 c = search needs
 
-slice-aggregate-copy : tie.Need-slice-aggregate-copy
-slice-aggregate-copy c = search needs
+slice-aggregate-copy-numbers : tie.Need-slice-aggregate-copy-numbers
+slice-aggregate-copy-numbers c = search needs
 
-copy-requires : tie.Need-copy-requires
-copy-requires c κs = search needs
+copy-numbers-requires : tie.Need-copy-numbers-requires
+copy-numbers-requires c κs = search needs
 
 put-list-requires : tie.Need-put-list-requires
 put-list-requires c κs = search needs
@@ -29,7 +29,7 @@ returns c =
     let start = c .before .before .before .before .before .before .before .before .before .before .before .before .before .before .before .before .before in
     kept-stored (start .args .kept) (start .args .out .now)
     (c .before .before .before .before .before .before .before .before .before .before .before .before .bit .ensures)
-    (c .before .before .before .before .before .before .before .copy .ensures) (c .before .before .put-list .ensures)
+    (c .before .before .before .before .before .before .before .copy-numbers .ensures .out-is) (c .before .before .put-list .ensures)
 
 pub put-kept-spec : {M : Type 1} → statement M
 put-kept-spec =
@@ -38,8 +38,8 @@ put-kept-spec =
     bit-requires
     cast-t9
     cast-t10
-    slice-aggregate-copy
-    copy-requires
+    slice-aggregate-copy-numbers
+    copy-numbers-requires
     put-list-requires
     same-length
     returns)

@@ -1,32 +1,32 @@
 use borrow.Author.Needs.{needs}
-use mathlib.Core.Path.{_≡_}
+use mathlib.Core.Path.{_≡_, sym}
+use Prim.Native.Nat.{_≤_}
 use native.Mathlib.Omega.{arith}
-use lib.ListN.{length}
-use Rattle.c_encoding.proofs.Split.{left-pasted}
+use lib.ListN.{length, length-take}
+use lib.Seq.{length-take-le}
+use Rattle.c_encoding.proofs.Split.{left-stored}
 use Rattle.c_encoding.proofs.cuts.put_left.Statement.{statement}
 use Rattle.c_encoding.proofs.cuts.put_left.Tie as tie
 
-min-requires : tie.Need-min-requires
-min-requires c κs = search needs
-
-slice-aggregate-copy-pieces : tie.Need-slice-aggregate-copy-pieces
-slice-aggregate-copy-pieces c = search needs
-
-copy-pieces-requires : tie.Need-copy-pieces-requires
-copy-pieces-requires c κs =
-    let long : length (c .before .before .before .before .before .args .left .pieces) ≡ 512 = search needs in
-    (omega arith, omega arith)
-
-same-length : tie.Need-same-length
-same-length c = search needs
+within : (c : tie.After-copy-numbers-arg) → c .before .min .result ≤ length (c .before .before .before .before .args .left .pieces)
+within c =
+    let long : length (c .before .before .before .before .args .left .pieces) ≡ 512 = search needs in
+    omega (arith, c .before .min .ensures)
 
 returns : tie.Need-returns
 returns c =
     let a = c .before .before .before .before .before .before .before .before .args in
     let long : length (a .left .pieces) ≡ 512 = search needs in
-    left-pasted (a .left .pieces) (a .out .now) long (c .before .before .before .before .before .min .ensures) (c .before .before .copy-pieces .ensures)
+    left-stored (a .left .pieces) (a .out .now) long (c .before .before .before .before .before .min .ensures)
+    (c .before .before .copy-numbers .ensures .out-is)
 
 pub put-left-spec : {M : Type 1} → statement M
 put-left-spec =
     tie.close
-    (tie.spec min-requires slice-aggregate-copy-pieces copy-pieces-requires same-length returns)
+    (tie.spec
+    (λ c κs. search needs)
+    within
+    (λ c. sym (length-take-le _ _ (within (c .before))))
+    (λ c κs. let h = c .before .before .min .ensures in simp length-take (omega (arith, h)))
+    (λ c. search needs)
+    returns)

@@ -8,11 +8,11 @@ use Rattle.c_encoding.proofs.fields.put_record.Tie as tie
 front-requires : tie.Need-front-requires
 front-requires c κs = search needs
 
-slice-aggregate-copy : tie.Need-slice-aggregate-copy
-slice-aggregate-copy c = search needs
+slice-aggregate-copy-numbers : tie.Need-slice-aggregate-copy-numbers
+slice-aggregate-copy-numbers c = search needs
 
-copy-requires : tie.Need-copy-requires
-copy-requires c κs = search needs
+copy-numbers-requires : tie.Need-copy-numbers-requires
+copy-numbers-requires c κs = search needs
 
 put-list-requires : tie.Need-put-list-requires
 put-list-requires c κs = search needs
@@ -30,7 +30,7 @@ returns c =
     let long : length (r .horizontal .pieces) ≡ 512 = search needs in
     record-stored r (start .args .out .now)
     (c .before .before .before .before .before .before .before .before .before .before .before .before .before .before .before .front .ensures)
-    (c .before .before .before .before .before .before .before .before .before .before .before .before .copy .ensures)
+    (c .before .before .before .before .before .before .before .before .before .before .before .before .copy-numbers .ensures .out-is)
     (c .before .before .before .before .before .before .before .put-list .ensures) long (c .before .before .put-list2 .ensures)
 
 pub put-record-spec : {M : Type 1} → statement M
@@ -38,8 +38,8 @@ put-record-spec =
     tie.close
     (tie.spec
     front-requires
-    slice-aggregate-copy
-    copy-requires
+    slice-aggregate-copy-numbers
+    copy-numbers-requires
     put-list-requires
     put-list-requires-2
     same-length

@@ -31,7 +31,7 @@ loop-again c =
       k .inv .1,
       search needs,
       search needs,
-      k .inv .4 ∙ rw (c .before .before .copy .ensures)
+      k .inv .4 ∙ rw (c .before .before .copy-numbers .ensures .out-is)
           (five-step (a .n) (k .i) (k .out) _ _ (c .before .before .before .before .before .before .before .before .before .loop-test .taken)),
     )
 

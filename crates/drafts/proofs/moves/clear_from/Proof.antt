@@ -1,7 +1,8 @@
 use Prim.Native.Nat.{_-_}
 use borrow.Author.Needs.{needs}
 use lib.ListN.{length, replicate}
-use Rattle.drafts.proofs.Copies.{Copied, copied-length, zero-none, zero-more, zero-all}
+use Rattle.common.proofs.Copies.{Copied}
+use Rattle.drafts.proofs.MovedBytes.{zero-none, zero-more, zero-all}
 use Rattle.drafts.proofs.moves.clear_from.Statement.{statement}
 use Rattle.drafts.proofs.moves.clear_from.Tie as tie
 
@@ -33,7 +34,7 @@ loop-again : tie.Need-loop-again Inv-loop μ-loop
 loop-again c = zero-more _ _ (c .before .before .pre) _ _ (c .before .loop .inv) (c .loop-test .taken)
 
 same-length : tie.Need-same-length Inv-loop μ-loop
-same-length c = copied-length _ _ _ _ _ (c .before .loop .inv)
+same-length c = c .before .loop .inv .long
 
 returns : tie.Need-returns Inv-loop μ-loop
 returns c = zero-all _ _ (c .before .before .pre) _ _ (c .before .loop .inv) (c .loop-test .left)

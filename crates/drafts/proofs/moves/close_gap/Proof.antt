@@ -1,4 +1,4 @@
-use Rattle.drafts.proofs.Copies.{gap-closed}
+use Rattle.drafts.proofs.MovedBytes.{gap-closed}
 use borrow.Author.Needs.{needs}
 use Rattle.drafts.proofs.moves.close_gap.Statement.{statement}
 use Rattle.drafts.proofs.moves.close_gap.Tie as tie

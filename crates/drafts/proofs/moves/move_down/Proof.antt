@@ -1,7 +1,8 @@
 use Prim.Native.Nat.{_+_, _-_}
 use borrow.Author.Needs.{needs}
 use lib.ListN.{length, drop}
-use Rattle.drafts.proofs.Copies.{Copied, copied-length, down-none, down-more, down-all}
+use Rattle.common.proofs.Copies.{Copied}
+use Rattle.drafts.proofs.MovedBytes.{down-none, down-more, down-all}
 use Rattle.drafts.proofs.moves.move_down.Statement.{statement}
 use Rattle.drafts.proofs.moves.move_down.Tie as tie
 
@@ -45,7 +46,7 @@ loop-again : tie.Need-loop-again Inv-loop μ-loop
 loop-again c = down-more _ _ _ (c .before .before .before .pre) _ _ (c .before .before .loop .inv) (c .before .loop-test .taken)
 
 same-length : tie.Need-same-length Inv-loop μ-loop
-same-length c = copied-length _ _ _ _ _ (c .before .loop .inv)
+same-length c = c .before .loop .inv .long
 
 returns : tie.Need-returns Inv-loop μ-loop
 returns c = down-all _ _ _ (c .before .before .pre) _ _ (c .before .loop .inv) (c .loop-test .left)

@@ -1,4 +1,4 @@
-use Rattle.drafts.proofs.Copies.{field-put}
+use Rattle.drafts.proofs.MovedBytes.{field-put}
 use borrow.Author.Needs.{needs}
 use Rattle.drafts.proofs.moves.put_field.Statement.{statement}
 use Rattle.drafts.proofs.moves.put_field.Tie as tie
@@ -6,11 +6,11 @@ use Rattle.drafts.proofs.moves.put_field.Tie as tie
 put-front-requires : tie.Need-put-front-requires
 put-front-requires c κs = search needs
 
-add-copy-in : tie.Need-add-copy-in
-add-copy-in c = search needs
+add-copy-bytes : tie.Need-add-copy-bytes
+add-copy-bytes c = search needs
 
-copy-in-requires : tie.Need-copy-in-requires
-copy-in-requires c κs = search needs
+copy-bytes-requires : tie.Need-copy-bytes-requires
+copy-bytes-requires c κs = search needs
 
 same-length : tie.Need-same-length
 same-length c = search needs
@@ -19,8 +19,8 @@ returns : tie.Need-returns
 returns c = field-put _ (c .before .before .before .before .before .before .before .before .before .before .args .t .now) _ _ _ _
     (c .before .before .before .before .before .before .before .before .before .before .pre .0)
     (c .before .before .before .before .before .before .before .before .before .before .pre .1)
-    (c .before .before .before .before .before .before .put-front .ensures) (c .before .before .copy-in .ensures)
+    (c .before .before .before .before .before .before .put-front .ensures) (c .before .before .copy-bytes .ensures .out-is)
 
 pub put-field-spec : {M : Type 1} → statement M
 put-field-spec =
-    tie.close (tie.spec put-front-requires add-copy-in copy-in-requires same-length returns)
+    tie.close (tie.spec put-front-requires add-copy-bytes copy-bytes-requires same-length returns)

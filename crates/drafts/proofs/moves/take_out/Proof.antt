@@ -2,7 +2,7 @@ use mathlib.Core.Path.{_≡_, sym}
 use native.Mathlib.Omega.{arith}
 use lib.ListN.{length, take}
 use lib.Seq.{length-take-le}
-use Rattle.drafts.proofs.Copies.{nothing-out, part-out}
+use Rattle.drafts.proofs.MovedBytes.{nothing-out, part-out}
 use borrow.Author.Needs.{needs}
 use Rattle.drafts.proofs.moves.take_out.Statement.{statement}
 use Rattle.drafts.proofs.moves.take_out.Tie as tie

@@ -20,7 +20,7 @@ row-of c = row _ (c .before .if1 .left) (high c)
 returns : tie.Need-returns
 returns c =
     let n = c .before .before .before .before .before .before .before .args .number in
-    let w = c .before .before .copy .ensures in
+    let w = c .before .before .copy-bytes .ensures in
     let large : faultWords n ≡ wordsLarge =
     ⊎-elim (λ t. words-below n (t .taken)) (λ t. words-above n (ltb-true 39 n (t .1 .taken))) (c .before .before .before .before .before .if1 .came) in
     (rw large w, omega (arith, w .end-is))
@@ -28,7 +28,7 @@ returns c =
 returns-2 : tie.Need-returns-2
 returns-2 c =
     let r = row-of (c .before .before .before .before .before .before) in
-    let w = rw (r .words) at (c .before .before .copy2 .ensures) in
+    let w = rw (r .words) at (c .before .before .copy-bytes2 .ensures) in
     (w, omega (arith, r .short))
 
 pub put-words-spec : {M : Type 1} → statement M

@@ -1,42 +1,14 @@
--- Bytes copied over others, one after the other.
-use mathlib.Core.Path.{_≡_, refl, sym, ap, ap₂, _∙_}
+-- Bytes moved down, cleared and put over others.
+use mathlib.Core.Path.{_≡_, sym, ap, ap₂, _∙_}
 use Prim.Native.Nat.{ℕ, suc, _+_, _-_, _/_, _%_, _≤_, _<_}
 use native.Mathlib.Omega.{arith}
 use native.Mathlib.Numerals.{add-one}
 use mathlib.Core.List.{List, [], _∷_, _++_, append-assoc, append-nil}
 use lib.ListN.{length, getD, set, take, drop, replicate, length-append, length-replicate, length-drop, length-set, getD-replicate, drop-of-length-le, take-append-drop, replicate-append-replicate}
 use native.Mathlib.Nat.{add-suc}
+use Rattle.common.proofs.Copies.{Copied, copied-none, copied-more, copied-all, copied-after}
 use Rattle.tree.specs.Accepted.{element}
-use lib.Seq.{set-split, set-at, drop-cons, paste, paste-zero, paste-suc, length-paste, drop-paste, take-paste, getD-drop, take-at, drop-at, take-all, length-take-le, take-take, drop-drop, drop-append-le}
-
-pub record Copied (d : List ℕ) (at : ℕ) (src s : List ℕ) (j : ℕ) : Type 0 where
-  pub is : s ≡ paste d at src j
-  pub few : j ≤ length src
-  pub within : at + length src ≤ length d
-  pub long : length s ≡ length d
-
-pub copied-none : (d : List ℕ) (at : ℕ) (src : List ℕ) → at + length src ≤ length d → Copied d at src d 0
-copied-none d at src h = record { is = paste-zero d at src; few = omega arith; within = h; long = refl }
-
-module _ (d : List ℕ) (at : ℕ) (src s : List ℕ) (j : ℕ) (k : Copied d at src s j) where
-  pub copied-length : length s ≡ length d
-  copied-length = k .long
-
-  pub copied-more : j < length src → (v : ℕ) → v ≡ getD src j 0 → Copied d at src (set s (at + j) v) (j + 1)
-  copied-more h v e = record {
-    is = rw (e, k .is, add-one j) (paste-suc d at src j 0 (omega (arith, k .within)) h);
-    few = omega arith;
-    within = k .within;
-    long = length-set s (at + j) v ∙ k .long;
-  }
-
-  pub copied-all : length src ≤ j → s ≡ paste d at src (length src)
-  copied-all h = let e : j ≡ length src = omega (arith, k .few) in rw e at (k .is)
-
-  -- a byte that is yet to be copied over is as it was
-  pub copied-after : (n : ℕ) → getD s (at + j + n) 0 ≡ getD d (at + j + n) 0
-  copied-after n = sym (getD-drop (at + j) s n 0) ∙ ap (λ (x : List ℕ). getD (drop (at + j) x) n 0) (k .is)
-      ∙ ap (λ (x : List ℕ). getD x n 0) (drop-paste d at src j (omega (arith, k .within)) (k .few)) ∙ getD-drop (at + j) d n 0
+use lib.Seq.{sets, sets-eq, set-split, set-at, drop-cons, paste, length-paste, take-paste, getD-drop, take-at, drop-at, take-all, length-take-le, take-take, drop-drop, drop-append-le}
 
 -- ---- down over a gap
 
@@ -47,7 +19,7 @@ module _ (d : List ℕ) (at size : ℕ) (h : at + size ≤ length d) where
   pub down-more : (s : List ℕ) (j : ℕ) → Copied d at (drop (at + size) d) s j → j < length s - (at + size)
       → Copied d at (drop (at + size) d) (set s (at + j) (getD s (at + size + j) 0)) (j + 1)
   down-more s j k l =
-      let n = copied-length d at (drop (at + size) d) s j k in
+      let n = k .long in
       let e : at + size + j ≡ at + j + size = omega arith in
       copied-more d at (drop (at + size) d) s j k (omega (arith, length-drop (at + size) d)) (getD s (at + size + j) 0)
       (rw e (copied-after d at (drop (at + size) d) s j k size) ∙ ap (λ (i : ℕ). getD d i 0) (sym e) ∙ sym (getD-drop (at + size) d j 0))
@@ -55,7 +27,7 @@ module _ (d : List ℕ) (at size : ℕ) (h : at + size ≤ length d) where
   pub down-all : (s : List ℕ) (j : ℕ) → Copied d at (drop (at + size) d) s j → length s - (at + size) ≤ j
       → s ≡ paste d at (drop (at + size) d) (length d - (at + size))
   down-all s j k l =
-      let n = copied-length d at (drop (at + size) d) s j k in
+      let n = k .long in
       rw (length-drop (at + size) d) at (copied-all d at (drop (at + size) d) s j k (omega (arith, length-drop (at + size) d)))
 
 -- ---- zero bytes
@@ -72,12 +44,12 @@ module _ (d : List ℕ) (at : ℕ) (h : at ≤ length d) where
 
   pub zero-more : (s : List ℕ) (j : ℕ) → Copied d at z s j → j < length s - at → Copied d at z (set s (at + j) 0) (j + 1)
   zero-more s j k l =
-      let n = copied-length d at z s j k in
+      let n = k .long in
       copied-more d at z s j k (omega (arith, z-length)) 0 (sym (getD-replicate (length d - at) j 0 0 (omega arith)))
 
   pub zero-all : (s : List ℕ) (j : ℕ) → Copied d at z s j → length s - at ≤ j → s ≡ take at d ++ replicate (length d - at) 0
   zero-all s j k l =
-      let n = copied-length d at z s j k in
+      let n = k .long in
       let e : s ≡ paste d at z (length z) = copied-all d at z s j k (omega (arith, z-length)) in
       let q : at + length z ≡ length d = omega (arith, z-length) in
       e ∙ rw (take-all (length z) z (omega arith), drop-of-length-le d {i = at + length z} (omega arith)) (append-nil (take at d ++ z))
@@ -141,7 +113,7 @@ front-put d at a b c h =
     drop-next d at k h = rw (add-suc at k) (drop-cons d (at + k) 0 h)
 
 pub field-put : (d t s e : List ℕ) (at tag : ℕ) → at + (3 + length t) ≤ length d → length t ≤ 65535
-    → s ≡ set (set (set d at tag) (at + 1) (length t / 256 % 256)) (at + 2) (length t % 256) → e ≡ paste s (at + 3) t (length t)
+    → s ≡ set (set (set d at tag) (at + 1) (length t / 256 % 256)) (at + 2) (length t % 256) → e ≡ sets s (at + 3) t
     → e ≡ take at d ++ (element tag t ++ drop (at + (3 + length t)) d)
 field-put d t s e at tag h small p q =
     let n : length t / 256 % 256 ≡ length t / 256 = omega arith in
@@ -156,6 +128,8 @@ field-put d t s e at tag h small p q =
     let b : drop (at + 3 + length t) s ≡ drop (at + (3 + length t)) d =
     sym (drop-drop (length t) (at + 3) s) ∙ ap (drop (length t)) (rw r₂ (drop-at f (drop (at + 3) d) (at + 3) lf)) ∙ drop-drop (length t) (at + 3) d
     ∙ ap (λ (k : ℕ). drop k d) i in
-    q ∙ rw (a, b, take-all (length t) t (omega arith))
+    let long : length s ≡ length d = ap length p ∙ length-set (set (set d at tag) (at + 1) (length t / 256 % 256)) (at + 2) (length t % 256)
+    ∙ length-set (set d at tag) (at + 1) (length t / 256 % 256) ∙ length-set d at tag in
+    q ∙ sets-eq t s (at + 3) (omega arith) ∙ rw (a, b)
     (append-assoc f t (drop (at + (3 + length t)) d)
     ∙ append-assoc (take at d) (tag ∷ (length t / 256) ∷ (length t % 256) ∷ []) (t ++ drop (at + (3 + length t)) d))
