@@ -23,9 +23,9 @@ use Rattle.tree.proofs.Lengths.{is-bytes-in, bytes-length}
 use Rattle.typed.specs.Promises.{typeOf}
 use Rattle.typed.specs.Typed.{typedRefusal, typedAccepted, typedOf}
 use Rattle.typed.proofs.RoundTrip.{round-trip}
-use Rattle.typed_program.specs.Words.{faultText}
-use Rattle.typed_program.specs.TypedProgram.{typedProgramOf}
-use Rattle.typed_program.specs.Promises.{PrintsTyped}
+use Rattle.program.specs.Words.{faultText}
+use Rattle.program.specs.TypedProgram.{typedProgramOf}
+use Rattle.program.specs.Promises.{PrintsTyped}
 use Rattle.alike.specs.Own.{SheetOwn}
 use Rattle.alike.specs.Pairs as pairs
 use Rattle.alike.specs.Pairs.{AlikeBytes}

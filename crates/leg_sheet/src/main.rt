@@ -1,5 +1,5 @@
 // Standard input: the settings (the first 31 bytes, with a hex 11 behind them 42, or all if there are fewer), then the tree.
-// Standard output: what `program::answer` says, the sheet and 0A, or `refused `, the number and 0A.
+// Standard output: what `program::leg_sheet::answer` says, the sheet and 0A, or `refused `, the number and 0A.
 // Where reading or writing fails, a line on standard error says so: a Rattle program has no exit status.
 use libc::STDERR_FILENO;
 use standard_input::StandardInput;
@@ -16,7 +16,7 @@ fn fail_stuck() {
 // The whole answer in one go.
 fn print(input: &[u8]) {
     let mut out = [0u8; program::ANSWER_BYTES];
-    let n = program::answer(input, &mut out);
+    let n = program::leg_sheet::answer(input, &mut out);
     match standard_output::write_output(&out[..n]) {
         Output::Whole => {}
         Output::Failed => fail(),
@@ -25,7 +25,7 @@ fn print(input: &[u8]) {
 }
 
 fn main() {
-    let mut buffer = program::input_buffer();
+    let mut buffer = program::leg_sheet::input_buffer();
     match standard_input::read_input(&mut buffer) {
         StandardInput::Whole(n) => print(&buffer[..n]),
         StandardInput::Failed => fail(),

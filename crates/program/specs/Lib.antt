@@ -1,1 +1,4 @@
 pub mod Program
+pub mod Words
+pub mod TypedProgram
+pub mod Promises

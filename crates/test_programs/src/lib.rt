@@ -1,5 +1,5 @@
-// Whole outputs of both programs, as `program::answer` gives them against document 01, and `typed_program::answer_typed` of a typed list. The lines give the
-// input as a tree:
+// Whole outputs of both programs, as `program::leg_sheet::answer` gives them against document 01, and `program::typed_sheet::answer_typed` of a typed list.
+// The lines give the input as a tree:
 //   a the whole output     y the whole output for a typed list
 use test_lines::compare;
 use test_lines::tell;
@@ -22,13 +22,13 @@ fn judge(bytes: usize, n: usize, out: &[u8], want: &[u8]) {
 
 fn answered(input: &[u8], want: &[u8]) {
     let mut out = [compare::MADE_OF; program::ANSWER_BYTES];
-    let n = program::answer(input, &mut out);
+    let n = program::leg_sheet::answer(input, &mut out);
     judge(input.len(), n, &out, want);
 }
 
 fn typed(text: &[u8], want: &[u8]) {
-    let mut out = [compare::MADE_OF; typed_program::ANSWER_BYTES];
-    let n = typed_program::answer_typed(text, &mut out);
+    let mut out = [compare::MADE_OF; program::ANSWER_BYTES];
+    let n = program::typed_sheet::answer_typed(text, &mut out);
     judge(text.len(), n, &out, want);
 }
 

@@ -1,5 +1,5 @@
 // Standard input: a typed list.
-// Standard output: what `typed_program::answer_typed` says, the sheet under the default settings and 0A, or what is wrong and 0A.
+// Standard output: what `program::typed_sheet::answer_typed` says, the sheet under the default settings and 0A, or what is wrong and 0A.
 // Where reading or writing fails, a line on standard error says so: a Rattle program has no exit status.
 use libc::STDERR_FILENO;
 use standard_input::StandardInput;
@@ -15,8 +15,8 @@ fn fail_stuck() {
 
 // The whole answer in one go.
 fn print(text: &[u8]) {
-    let mut out = [0u8; typed_program::ANSWER_BYTES];
-    let n = typed_program::answer_typed(text, &mut out);
+    let mut out = [0u8; program::ANSWER_BYTES];
+    let n = program::typed_sheet::answer_typed(text, &mut out);
     match standard_output::write_output(&out[..n]) {
         Output::Whole => {}
         Output::Failed => fail(),
@@ -25,7 +25,7 @@ fn print(text: &[u8]) {
 }
 
 fn main() {
-    let mut buffer = typed_program::input_buffer();
+    let mut buffer = program::typed_sheet::typed_buffer();
     match standard_input::read_input(&mut buffer) {
         StandardInput::Whole(n) => print(&buffer[..n]),
         StandardInput::Failed => fail(),

@@ -10,8 +10,8 @@ use Rattle.typed_sheet.proofs.main.Tie as tie
 within : (c : tie.After-known-told) → c .before .n .given .0 .0 ≤ length (c .before .before .before .before .read-input .last .0)
 within c = rw (c .before .n .given .1) at (c .before .before .before .before .read-input .ensures)
 
-input-buffer-requires : tie.Need-input-buffer-requires
-input-buffer-requires c κs = search needs
+typed-buffer-requires : tie.Need-typed-buffer-requires
+typed-buffer-requires c κs = search needs
 
 slice-aggregate-read-input : tie.Need-slice-aggregate-read-input
 slice-aggregate-read-input c = search needs
@@ -47,7 +47,7 @@ pub main-spec : {M : Type 1} → statement M
 main-spec =
     tie.close
     (tie.spec
-    input-buffer-requires
+    typed-buffer-requires
     slice-aggregate-read-input
     read-input-requires
     enum-known-n

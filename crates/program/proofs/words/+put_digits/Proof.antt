@@ -3,12 +3,12 @@ use native.Mathlib.Omega.{arith}
 use borrow.Author.Needs.{needs}
 use borrow.Fn.Kinds.{In}
 use borrow.Fn.PlainCycle.{Measures, is, falls, and}
-use Rattle.typed_program.proofs.FaultText.{no-digit, one-digit, more-digits}
-use Rattle.typed_program.proofs.words.put_digits.Reads as put-digits
-use Rattle.typed_program.proofs.words.put_digits.Kinds as put-digits-kinds
-use Rattle.typed_program.proofs.words.+put_digits.Lts-put_digits as put-digits-lts
-use Rattle.typed_program.proofs.words.+put_digits.{statement}
-use Rattle.typed_program.proofs.words.+put_digits.Tie.{close}
+use Rattle.program.proofs.FaultText.{no-digit, one-digit, more-digits}
+use Rattle.program.proofs.words.put_digits.Reads as put-digits
+use Rattle.program.proofs.words.put_digits.Kinds as put-digits-kinds
+use Rattle.program.proofs.words.+put_digits.Lts-put_digits as put-digits-lts
+use Rattle.program.proofs.words.+put_digits.{statement}
+use Rattle.program.proofs.words.+put_digits.Tie.{close}
 
 -- the places fall
 abbrev μ : Measures 1 put-digits-kinds.ps ℕ

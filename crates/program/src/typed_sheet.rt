@@ -1,4 +1,6 @@
 // The program that prints a typed list, without its reading and writing: what it prints of what was typed.
+use crate::ANSWER_BYTES;
+use crate::words;
 ghost use mathlib.Core.Path.{_≡_};
 ghost use Prim.Native.Nat.{ℕ, _≤_};
 ghost use mathlib.Core.List.{List};
@@ -7,24 +9,19 @@ ghost use lib.Seq.{sets};
 ghost use Rattle.settings.specs.Defaults.{defaults, settingsBytes};
 ghost use Rattle.sizes.specs.Input.{inputOf};
 ghost use Rattle.common.specs.Writing.{Wrote};
-ghost use Rattle.typed_program.specs.TypedProgram.{treeText, typedProgramOf};
-
-pub mod words;
-
-// The largest sheet, 160 lines of 400 columns, each with its 0A.
-pub const ANSWER_BYTES: usize = 64160;
+ghost use Rattle.program.specs.TypedProgram.{treeText, typedProgramOf};
 
 // The longest tree.
 const TREE_BYTES: usize = 32768;
 
 // One byte more than the longest typed list.
-pub const INPUT_BYTES: usize = 131073;
+pub const TYPED_BYTES: usize = 131073;
 
 // A buffer for the input: bytes that find no room in it change nothing.
-pub fn input_buffer() -> [u8; INPUT_BYTES]
+pub fn typed_buffer() -> [u8; TYPED_BYTES]
     ensures { λ r. ⌜ ((b : List ℕ) → typedProgramOf (take (length r) b) ≡ typedProgramOf b) ⌝ }
 {
-    [0u8; INPUT_BYTES]
+    [0u8; TYPED_BYTES]
 }
 
 // The sheet of a tree under the default settings and 0A, or why there is none.

@@ -9,8 +9,8 @@ use Rattle.frame.specs.Frame.{tooLarge}
 use Rattle.sheet.specs.Sheet.{sheet}
 use Rattle.typed.specs.Scan.{found, scanLines}
 use Rattle.typed.specs.Promises.{typedNodes}
-use Rattle.typed_program.specs.Words.{faultText}
-use Rattle.typed_program.specs.TypedProgram.{typedProgramOf}
+use Rattle.program.specs.Words.{faultText}
+use Rattle.program.specs.TypedProgram.{typedProgramOf}
 
 -- where the list has no fault: the tree that was typed, and its sheet under the default settings and 0A, or that it is too large
 pub record PrintsTyped (text : List ℕ) : Type 0 where

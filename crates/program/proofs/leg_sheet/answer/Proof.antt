@@ -8,8 +8,8 @@ use lib.Seq.{length-take-le}
 use Rattle.settings.specs.Reading.{settingsEnd}
 use Rattle.program.specs.Program.{programOf}
 use Rattle.program.proofs.PrinterAnswer.{ProgramPrints, Printed, parts, program-prints, refusal-answered, sheet-answered}
-use Rattle.program.proofs.answer.Statement.{statement}
-use Rattle.program.proofs.answer.Tie as tie
+use Rattle.program.proofs.leg_sheet.answer.Statement.{statement}
+use Rattle.program.proofs.leg_sheet.answer.Tie as tie
 
 abbrev input : tie.After-print-sheet → List ℕ
 input c = c .before .before .before .before .before .before .args .input .now

@@ -5,10 +5,10 @@ use mathlib.Core.List.{List}
 use lib.ListN.{length}
 use lib.Seq.{length-take-le}
 use borrow.Author.Needs.{needs}
-use Rattle.typed_program.specs.TypedProgram.{typedProgramOf}
-use Rattle.typed_program.proofs.Trees.{typed-fault, typed-tree, fault-said}
-use Rattle.typed_program.proofs.answer_typed.Statement.{statement}
-use Rattle.typed_program.proofs.answer_typed.Tie as tie
+use Rattle.program.specs.TypedProgram.{typedProgramOf}
+use Rattle.program.proofs.Trees.{typed-fault, typed-tree, fault-said}
+use Rattle.program.proofs.typed_sheet.answer_typed.Statement.{statement}
+use Rattle.program.proofs.typed_sheet.answer_typed.Tie as tie
 
 abbrev typed-text : tie.After-read-typed → List ℕ
 typed-text c = c .before .before .before .args .text .now

@@ -11,7 +11,7 @@ use Rattle.frame.specs.Frame.{tooLarge}
 use Rattle.sheet.specs.Sheet.{sheet}
 use Rattle.typed.specs.declared.Typed.{Typed}
 use Rattle.typed.specs.Typed.{typedOf}
-use Rattle.typed_program.specs.Words.{faultText}
+use Rattle.program.specs.Words.{faultText}
 
 -- of settings and a tree: a refusal of the sheet has its words alone; 8 is none of them: the program has room for every sheet
 unfoldable pub treeText : Input → List ℕ

@@ -5,10 +5,10 @@ use native.Mathlib.Omega.{arith}
 use borrow.Author.Needs.{needs}
 use borrow.Author.Tests.{ltb-true, ltb-false}
 use lib.ListN.{length-take}
-use Rattle.typed_program.specs.Words.{faultWords, wordsLarge}
-use Rattle.typed_program.proofs.FaultText.{Row, row, words-below, words-above}
-use Rattle.typed_program.proofs.words.put_words.Statement.{statement}
-use Rattle.typed_program.proofs.words.put_words.Tie as tie
+use Rattle.program.specs.Words.{faultWords, wordsLarge}
+use Rattle.program.proofs.FaultText.{Row, row, words-below, words-above}
+use Rattle.program.proofs.words.put_words.Statement.{statement}
+use Rattle.program.proofs.words.put_words.Tie as tie
 
 high : (c : tie.Else2) → c .before .before .before .args .number ≤ 39
 high c = ltb-false 39 _ (c .if2 .left)

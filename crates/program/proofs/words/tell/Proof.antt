@@ -1,10 +1,10 @@
 use native.Mathlib.Omega.{arith}
 use mathlib.Core.Path.{_∙_}
 use lib.ListN.{length-set}
-use Rattle.typed_program.proofs.FaultText.{fault-put}
+use Rattle.program.proofs.FaultText.{fault-put}
 use borrow.Author.Needs.{needs}
-use Rattle.typed_program.proofs.words.tell.Statement.{statement}
-use Rattle.typed_program.proofs.words.tell.Tie as tie
+use Rattle.program.proofs.words.tell.Statement.{statement}
+use Rattle.program.proofs.words.tell.Tie as tie
 
 put-place-requires : tie.Need-put-place-requires
 put-place-requires c κs = search needs

@@ -5,7 +5,7 @@ ghost use Prim.Native.Nat.{_+_, _≤_};
 ghost use lib.ListN.{length};
 ghost use lib.Seq.{sets};
 ghost use Rattle.common.specs.Writing.{Wrote};
-ghost use Rattle.typed_program.specs.Words.{digits, faultWords, placeText, faultText};
+ghost use Rattle.program.specs.Words.{digits, faultWords, placeText, faultText};
 
 // A number's digits from `at` on, at most `places` of them; the answer is where they end.
 fn put_digits(n: usize, places: usize, out: &mut [u8], at: usize) -> usize

@@ -24,8 +24,8 @@ use Rattle.frame.specs.Printer.{noPrint, printTo}
 use Rattle.sheet.specs.Sheet.{sheet}
 use Rattle.sheet.specs.Answers.{sheetOf}
 use Rattle.sheet.proofs.Bytes.{largest}
-use Rattle.typed_program.specs.Words.{faultText}
-use Rattle.typed_program.specs.TypedProgram.{treeText, outcomeText, typedProgramOf}
+use Rattle.program.specs.Words.{faultText}
+use Rattle.program.specs.TypedProgram.{treeText, outcomeText, typedProgramOf}
 
 -- a sheet stands at the front of the output, and a 0A has room behind it
 pub record SheetThere (text o : List ℕ) (w : Written) (o₁ : List ℕ) : Type 0 where

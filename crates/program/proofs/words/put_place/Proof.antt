@@ -1,7 +1,7 @@
-use Rattle.typed_program.proofs.FaultText.{no-place, place-put}
+use Rattle.program.proofs.FaultText.{no-place, place-put}
 use borrow.Author.Needs.{needs}
-use Rattle.typed_program.proofs.words.put_place.Statement.{statement}
-use Rattle.typed_program.proofs.words.put_place.Tie as tie
+use Rattle.program.proofs.words.put_place.Statement.{statement}
+use Rattle.program.proofs.words.put_place.Tie as tie
 
 returns : tie.Need-returns
 returns c = no-place _ _ _ (c .if1 .taken)

@@ -10,9 +10,9 @@ use Rattle.tree.specs.Reading.{ReadOne, readTree}
 use Rattle.sizes.specs.Input.{given, inputOf}
 use Rattle.typed.specs.Typed.{typedOf}
 use Rattle.typed.proofs.Calls.{typed-accepted}
-use Rattle.typed_program.specs.TypedProgram.{treeText}
-use Rattle.typed_program.specs.Promises.{PrintsTyped}
-use Rattle.typed_program.proofs.Trees.{typed-tree}
+use Rattle.program.specs.TypedProgram.{treeText}
+use Rattle.program.specs.Promises.{PrintsTyped}
+use Rattle.program.proofs.Trees.{typed-tree}
 
 default-input : (s : List ℕ) (t : Tree) (z n : ℕ) → readTree s ≡ ReadOne.one t z n → inputOf (settingsBytes defaults) s ≡ given defaults t
 unfolding inputOf

@@ -6,10 +6,10 @@ use lib.ListN.{length}
 use borrow.Author.Needs.{needs}
 use Rattle.settings.specs.Defaults.{defaults, settingsBytes}
 use Rattle.sizes.specs.Input.{inputOf}
-use Rattle.typed_program.specs.TypedProgram.{treeText}
-use Rattle.typed_program.proofs.Trees.{TreeTold, SheetThere, tree-told, sheet-put, fault-said}
-use Rattle.typed_program.proofs.print_tree.Statement.{statement}
-use Rattle.typed_program.proofs.print_tree.Tie as tie
+use Rattle.program.specs.TypedProgram.{treeText}
+use Rattle.program.proofs.Trees.{TreeTold, SheetThere, tree-told, sheet-put, fault-said}
+use Rattle.program.proofs.typed_sheet.print_tree.Statement.{statement}
+use Rattle.program.proofs.typed_sheet.print_tree.Tie as tie
 
 abbrev text : tie.After-print-sheet → List ℕ
 text c = treeText (inputOf (settingsBytes defaults) (c .before .before .before .before .args .tree .now))

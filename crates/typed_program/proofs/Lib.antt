@@ -1,3 +1,0 @@
-pub mod FaultText
-pub mod Trees
-pub mod Calls
