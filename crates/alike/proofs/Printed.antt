@@ -220,7 +220,7 @@ module _ {i j : List ℕ} (b : AlikeInputs i j) where
   unfolding programOf printedOf
   program-alike = go program-inputs
     where
-      go : {x y : Input} → SameInput x y → length (printedOf x) ≡ length (printedOf y)
+      go : {x y : Input} → SameInput x y → length (printedOf refusedText x) ≡ length (printedOf refusedText y)
       go (pairs.both-refused k) = refl
       go (pairs.both-given s t u h) = ended-lengths s t u h (refusedText 6)
 
@@ -228,7 +228,7 @@ module _ {i j : List ℕ} (b : AlikeInputs i j) where
   unfolding programOf printedOf
   program-agrees k d = go program-inputs d
     where
-      go : {x y : Input} → SameInput x y → (SheetOwn x k → ⊥) → getD (printedOf x) k 0 ≡ getD (printedOf y) k 0
+      go : {x y : Input} → SameInput x y → (SheetOwn x k → ⊥) → getD (printedOf refusedText x) k 0 ≡ getD (printedOf refusedText y) k 0
       go (pairs.both-refused n) d = refl
       go (pairs.both-given s t u h) d = ended-agree s t u h (refusedText 6) k d
 

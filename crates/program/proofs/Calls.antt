@@ -10,21 +10,22 @@ use Rattle.tree.specs.Reading.{ReadOne, readTree}
 use Rattle.sizes.specs.Input.{given, inputOf}
 use Rattle.typed.specs.Typed.{typedOf}
 use Rattle.typed.proofs.Calls.{typed-accepted}
-use Rattle.program.specs.TypedProgram.{treeText}
+use Rattle.program.specs.Program.{printedOf}
+use Rattle.program.specs.TypedProgram.{sheetFault}
 use Rattle.program.specs.Promises.{PrintsTyped}
-use Rattle.program.proofs.Trees.{typed-tree}
+use Rattle.program.proofs.ReaderAnswer.{typed-tree}
 
 default-input : (s : List ℕ) (t : Tree) (z n : ℕ) → readTree s ≡ ReadOne.one t z n → inputOf (settingsBytes defaults) s ≡ given defaults t
 unfolding inputOf
 default-input s t z n e = rw (defaults-read, e)
 
 pub prints-typed : (text : List ℕ) → typedOf text (replicate 32768 0) .answer .number ≡ 0 → PrintsTyped text
-unfolding treeText
+unfolding printedOf
 prints-typed text h =
     let x = typedOf text (replicate 32768 0) in
     let k = typed-accepted text (replicate 32768 0) h in
     record {
       root = k .root;
       lines-are = k .lines-are;
-      prints = typed-tree text (x .memory) (x .answer) refl h ∙ ap treeText (default-input _ (k .root) _ _ (k .read));
+      prints = typed-tree text (x .memory) (x .answer) refl h ∙ ap (printedOf sheetFault) (default-input _ (k .root) _ _ (k .read));
     }

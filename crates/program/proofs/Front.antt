@@ -1,18 +1,18 @@
--- What stands behind the settings and the longest tree changes nothing.
-use mathlib.Core.Path.{_≡_, refl, ap}
-use Prim.Native.Nat.{ℕ, _≤_, _<_}
+-- Settings and tree in one input: what stands behind the longest tree changes nothing.
+use mathlib.Core.Path.{_≡_, refl, sym, ap, _∙_}
+use Prim.Native.Nat.{ℕ, _-_, _≤_, _<_, min}
 use native.Mathlib.Omega.{arith}
 use mathlib.Core.Bool.{Bool, true, false}
 use mathlib.Core.List.{List}
-use lib.ListN.{length, take, drop, getD, length-take, length-drop}
-use lib.Seq.{take-all, take-take, getD-take}
+use lib.ListN.{length, take, drop, getD, length-take, length-drop, drop-of-length-le}
+use lib.Seq.{take-all, take-length, take-nil, drop-length, take-take, getD-take}
 use lib.Dec.{ltb, eqb}
 use borrow.Author.Tests.{ltb-true, ltb-false, lt-ltb}
 use Rattle.common.specs.Choice.{pick}
 use Rattle.settings.specs.Reading.{settingsEnd}
 use Rattle.tree.specs.Reading.{ReadOne, readTree}
 use Rattle.sizes.specs.Input.{inputOf}
-use Rattle.program.specs.Program.{printedOf, programOf}
+use Rattle.program.specs.Program.{printedOf, refusedText, programOf}
 
 too-long : (l : List ℕ) → 32768 < length l → readTree l ≡ ReadOne.refused 2
 unfolding readTree
@@ -32,7 +32,7 @@ unfolding settingsEnd
 end-front b = rw (getD-take 32811 b 31 0 (omega arith))
 
 cut-front : (b : List ℕ) (e : ℕ) → e ≤ 42 → 32811 < length b
-    → printedOf (inputOf (take e (take 32811 b)) (drop e (take 32811 b))) ≡ printedOf (inputOf (take e b) (drop e b))
+    → printedOf refusedText (inputOf (take e (take 32811 b)) (drop e (take 32811 b))) ≡ printedOf refusedText (inputOf (take e b) (drop e b))
 unfolding inputOf
 cut-front b e small h =
     rw (
@@ -52,3 +52,27 @@ program-front b = front-case b (ltb 32811 (length b)) refl
 -- and so for a buffer of that many
 pub buffer-front : (buffer : List ℕ) → 32811 ≡ length buffer → (b : List ℕ) → programOf (take (length buffer) b) ≡ programOf b
 buffer-front buffer e b = rw (← e) (program-front b)
+
+-- ---- a front of n elements, or all if there are fewer, and the rest
+
+parts-case : (n : ℕ) (l : List ℕ) (k : ℕ) → k ≡ min n (length l) → (b : Bool) → ltb (length l) n ≡ b
+    → (take k l ≡ take n l) × (take (length l - k) (drop k l) ≡ drop n l)
+parts-case n l k e true h =
+    let few : length l < n = ltb-true (length l) n h in
+    let all : k ≡ length l = omega arith in (
+      rw all (take-length l ∙ sym (take-all n l (omega arith))),
+      rw (all, drop-length l, drop-of-length-le l {i = n} (omega arith), take-nil),
+    )
+parts-case n l k e false h =
+    let many : n ≤ length l = ltb-false (length l) n h in
+    let is : k ≡ n = omega arith in
+    (rw is, rw is (take-all (length l - n) (drop n l) (omega (arith, length-drop n l))))
+
+parts : (n : ℕ) (l : List ℕ) (k : ℕ) → k ≡ min n (length l) → (take k l ≡ take n l) × (take (length l - k) (drop k l) ≡ drop n l)
+parts n l k e = parts-case n l k e (ltb (length l) n) refl
+
+-- settings and tree, as the input is cut
+pub program-parts : (input : List ℕ) (k : ℕ) → k ≡ min (settingsEnd input) (length input)
+    → printedOf refusedText (inputOf (take k input) (take (length input - k) (drop k input))) ≡ programOf input
+unfolding programOf
+program-parts input k e = let p = parts (settingsEnd input) input k e in rw (p .0, p .1)

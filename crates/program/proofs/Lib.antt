@@ -1,5 +1,5 @@
 pub mod PrinterAnswer
 pub mod Front
 pub mod FaultText
-pub mod Trees
+pub mod ReaderAnswer
 pub mod Calls

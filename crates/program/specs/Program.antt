@@ -12,13 +12,13 @@ use Rattle.sheet.specs.Sheet.{sheet}
 abbrev pub refusedText : ℕ → List ℕ
 refusedText k = 114 ∷ 101 ∷ 102 ∷ 117 ∷ 115 ∷ 101 ∷ 100 ∷ 32 ∷ (48 + k) ∷ 10 ∷ []
 
--- the sheet and 0A, or the refusal; 8 is none of them: the program has room for every sheet
-unfoldable pub printedOf : Input → List ℕ
+-- the sheet and 0A, or the text of the refusal; 8 is none of them: a program has room for every sheet
+unfoldable pub printedOf : (ℕ → List ℕ) → Input → List ℕ
 unfolding tooLarge sheet
-printedOf (refused k) = refusedText k
-printedOf (given s t) = pick (tooLarge s t) (refusedText 6) (sheet s t ++ 10 ∷ [])
+printedOf text (refused k) = text k
+printedOf text (given s t) = pick (tooLarge s t) (text 6) (sheet s t ++ 10 ∷ [])
 
 -- the settings are the first 31 bytes, and the 11 from a hex 11 behind them on, or all if there are fewer; the rest is the tree
 unfoldable pub programOf : List ℕ → List ℕ
 unfolding printedOf inputOf settingsEnd
-programOf input = printedOf (inputOf (take (settingsEnd input) input) (drop (settingsEnd input) input))
+programOf input = printedOf refusedText (inputOf (take (settingsEnd input) input) (drop (settingsEnd input) input))

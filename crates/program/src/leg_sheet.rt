@@ -1,5 +1,6 @@
 // The sheet program without its reading and writing: what it prints of what it was given (document 01, figure F1).
 use crate::ANSWER_BYTES;
+use crate::print_ended;
 use common::copy::copy_bytes;
 ghost use mathlib.Core.Path.{_≡_};
 ghost use Prim.Native.Nat.{ℕ, _≤_, _<_};
@@ -36,11 +37,9 @@ pub fn answer(input: &[u8], out: &mut [u8; ANSWER_BYTES]) -> usize
     ensures kept { λ r. ⌜ drop r (now (out .exit)) ≡ drop r (now (out .entry)) ⌝ }
 {
     let end = settings::settings_end(input);
-    let w = sheet::print_sheet(&input[..end], &input[end..], out);
+    let w = print_ended(&input[..end], &input[end..], out);
     if w.number != 0 {
         return refuse(w.number, out);
     }
-    let n = w.count;
-    out[n] = b'\n';
-    n + 1
+    w.count
 }

@@ -1,13 +1,12 @@
 // The program that prints a typed list, without its reading and writing: what it prints of what was typed.
 use crate::ANSWER_BYTES;
+use crate::print_ended;
 use crate::words;
 ghost use mathlib.Core.Path.{_≡_};
 ghost use Prim.Native.Nat.{ℕ, _≤_};
 ghost use mathlib.Core.List.{List};
 ghost use lib.ListN.{length, take};
 ghost use lib.Seq.{sets};
-ghost use Rattle.settings.specs.Defaults.{defaults, settingsBytes};
-ghost use Rattle.sizes.specs.Input.{inputOf};
 ghost use Rattle.common.specs.Writing.{Wrote};
 ghost use Rattle.program.specs.TypedProgram.{treeText, typedProgramOf};
 
@@ -26,11 +25,10 @@ pub fn typed_buffer() -> [u8; TYPED_BYTES]
 
 // The sheet of a tree under the default settings and 0A, or why there is none.
 fn print_tree(tree: &[u8], out: &mut [u8; ANSWER_BYTES]) -> usize
-    ensures { λ r. ⌜ Wrote r (length (treeText (inputOf (settingsBytes defaults) (now (tree .entry))))) (now (out .exit))
-        (sets (now (out .entry)) 0 (treeText (inputOf (settingsBytes defaults) (now (tree .entry))))) ⌝ }
+    ensures { λ r. ⌜ Wrote r (length (treeText (now (tree .entry)))) (now (out .exit)) (sets (now (out .entry)) 0 (treeText (now (tree .entry)))) ⌝ }
     ensures within { λ r. ⌜ (r ≤ 64160) × (length (now (out .exit)) ≡ 64160) ⌝ }
 {
-    let w = sheet::print_sheet(
+    let w = print_ended(
         b"\x10\x00\x1c--||-|+++++++++\x01\x01\x00\x00    \x00\x00\x00\x01\x02",
         tree,
         out,
@@ -38,9 +36,7 @@ fn print_tree(tree: &[u8], out: &mut [u8; ANSWER_BYTES]) -> usize
     if w.number != 0 {
         return words::tell(w.number, 0, 0, out);
     }
-    let n = w.count;
-    out[n] = b'\n';
-    n + 1
+    w.count
 }
 
 // The program's whole output stands at the front of `out`, and its length is answered; the bytes past it stay.

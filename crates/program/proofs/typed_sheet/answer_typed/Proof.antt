@@ -1,4 +1,4 @@
-use mathlib.Core.Path.{_≡_, sym, refl}
+use mathlib.Core.Path.{_≡_, sym}
 use Prim.Native.Nat.{ℕ}
 use native.Mathlib.Omega.{arith}
 use mathlib.Core.List.{List}
@@ -6,7 +6,8 @@ use lib.ListN.{length}
 use lib.Seq.{length-take-le}
 use borrow.Author.Needs.{needs}
 use Rattle.program.specs.TypedProgram.{typedProgramOf}
-use Rattle.program.proofs.Trees.{typed-fault, typed-tree, fault-said}
+use Rattle.program.proofs.PrinterAnswer.{all-written}
+use Rattle.program.proofs.ReaderAnswer.{typed-fault, typed-tree}
 use Rattle.program.proofs.typed_sheet.answer_typed.Statement.{statement}
 use Rattle.program.proofs.typed_sheet.answer_typed.Tie as tie
 
@@ -28,8 +29,8 @@ tell-requires c κs = search needs
 returns : tie.Need-returns
 returns c =
     let d = c .before .before .before .before .before in
-    fault-said (typedProgramOf (typed-text d)) _ (long c) _ _ _ _ _ _ refl
-    (typed-fault (typed-text d) _ _ (d .read-typed .ensures .0) (c .before .before .if1 .taken)) (c .tell .ensures .0) (c .tell .ensures .1)
+    let w = rw (← typed-fault (typed-text d) _ _ (d .read-typed .ensures .0) (c .before .before .if1 .taken)) at (c .tell .ensures .0) in
+    all-written (typedProgramOf (typed-text d)) _ (long c) _ _ w (omega (arith, c .tell .ensures .1))
 
 array-share-prefix-tree : tie.Need-array-share-prefix-tree
 array-share-prefix-tree c = search needs

@@ -1,7 +1,7 @@
 use mathlib.Core.Path.{sym}
 use Prim.Native.Nat.{ℕ}
 use lib.ListN.{replicate, length-replicate}
-use Rattle.program.proofs.Trees.{typed-front}
+use Rattle.program.proofs.ReaderAnswer.{typed-front}
 use Rattle.program.proofs.typed_sheet.typed_buffer.Statement.{statement}
 use Rattle.program.proofs.typed_sheet.typed_buffer.Tie as tie
 
