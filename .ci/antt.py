@@ -130,7 +130,7 @@ def contracts(path):
 def calls(files):
     """The calls of docs/CALLS.md, the C functions and the programs' functions, each with what its contract cites."""
     listed = re.findall(r"^\| `([a-z_0-9]+)::(?:\w+::)*(\w+)`", (ROOT / "docs/CALLS.md").read_text(), re.M)
-    listed += [(crate, None) for crate in ("c_api", "program", "standard_input", "standard_output")] + [("text", "count_feeds")]
+    listed += [(crate, None) for crate in ("c_api", "program", "standard_streams")] + [("text", "count_feeds")]
     for crate, wanted in listed:
         for path in sorted((CRATES / crate / "src").glob("**/*.rt")):
             for name, cited in contracts(path):

@@ -2,8 +2,8 @@
 // Standard output: what `program::typed_sheet::answer_typed` says, the sheet under the default settings and 0A, or what is wrong and 0A.
 // Where reading or writing fails, a line on standard error says so: a Rattle program has no exit status.
 use libc::STDERR_FILENO;
-use standard_input::StandardInput;
-use standard_output::Output;
+use standard_streams::input::StandardInput;
+use standard_streams::output::Output;
 
 fn fail() {
     os::fail(b"typed_sheet");
@@ -17,7 +17,7 @@ fn fail_stuck() {
 fn print(text: &[u8]) {
     let mut out = [0u8; program::ANSWER_BYTES];
     let n = program::typed_sheet::answer_typed(text, &mut out);
-    match standard_output::write_output(&out[..n]) {
+    match standard_streams::output::write_output(&out[..n]) {
         Output::Whole => {}
         Output::Failed => fail(),
         Output::Stuck => fail_stuck(),
@@ -26,7 +26,7 @@ fn print(text: &[u8]) {
 
 fn main() {
     let mut buffer = program::typed_sheet::typed_buffer();
-    match standard_input::read_input(&mut buffer) {
+    match standard_streams::input::read_input(&mut buffer) {
         StandardInput::Whole(n) => print(&buffer[..n]),
         StandardInput::Failed => fail(),
     }

@@ -1,8 +1,8 @@
 use borrow.Author.Needs.{needs}
 use Prim.Native.Nat.{_≤_, _-_, _+_}
 use lib.ListN.{length}
-use Rattle.standard_output.proofs.write_output.Statement.{statement}
-use Rattle.standard_output.proofs.write_output.Tie as tie
+use Rattle.standard_streams.proofs.output.write_output.Statement.{statement}
+use Rattle.standard_streams.proofs.output.write_output.Tie as tie
 
 abbrev Inv-loop : tie.InvT-loop
 Inv-loop bytes done₀ tries₀ done tries = done ≤ length bytes

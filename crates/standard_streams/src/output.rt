@@ -1,8 +1,6 @@
 // A slice written to standard output whole.
+use crate::TRIES;
 use libc::STDOUT_FILENO;
-
-// How many writes that a signal interrupts are tried again, in all: more than anyone sends.
-const TRIES: usize = 1000000000;
 
 // How the writing ended: all bytes were taken; or a write failed, and errno says why; or one took no byte, and there is no errno.
 pub enum Output {

@@ -1,10 +1,8 @@
 // Standard input read whole, as far as a buffer holds it.
+use crate::TRIES;
 use libc::STDIN_FILENO;
 ghost use lib.ListN.{length};
-ghost use Rattle.standard_input.specs.Input.{endsWithin};
-
-// How many reads that a signal interrupts are tried again, in all: more than anyone sends.
-const TRIES: usize = 1000000000;
+ghost use Rattle.standard_streams.specs.Input.{endsWithin};
 
 // How the reading ended: the input's bytes at the front of the buffer, all or as many as it holds; or a read failed.
 pub enum StandardInput {

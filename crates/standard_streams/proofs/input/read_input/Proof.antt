@@ -2,8 +2,8 @@ use borrow.Author.Needs.{needs}
 use mathlib.Core.Path.{_≡_}
 use Prim.Native.Nat.{_≤_, _-_, _+_}
 use lib.ListN.{length}
-use Rattle.standard_input.proofs.read_input.Statement.{statement}
-use Rattle.standard_input.proofs.read_input.Tie as tie
+use Rattle.standard_streams.proofs.input.read_input.Statement.{statement}
+use Rattle.standard_streams.proofs.input.read_input.Tie as tie
 
 abbrev Inv-loop : tie.InvT-loop
 Inv-loop buffer₀ done₀ tries₀ buffer done tries = (done ≤ length buffer) × (length buffer ≡ length buffer₀)

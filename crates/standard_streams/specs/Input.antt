@@ -1,7 +1,7 @@
 -- What reading standard input answers.
 use Prim.Native.Nat.{ℕ, _≤_}
-use Rattle.standard_input.specs.declared.StandardInput.{StandardInput}
-use Rattle.standard_input.specs.declared.StandardInput.the-variants.{Whole, Failed}
+use Rattle.standard_streams.specs.declared.input.StandardInput.{StandardInput}
+use Rattle.standard_streams.specs.declared.input.StandardInput.the-variants.{Whole, Failed}
 
 -- the bytes read lie in a buffer of that length
 abbrev pub endsWithin : StandardInput → ℕ → Type 0
