@@ -1,33 +1,18 @@
 // Standard input: the settings (the first 31 bytes, with a hex 11 behind them 42, or all if there are fewer), then the tree.
 // Standard output: what `program::leg_sheet::answer` says, the sheet and 0A, or `refused `, the number and 0A.
 // Where reading or writing fails, a line on standard error says so: a Rattle program has no exit status.
-use libc::STDERR_FILENO;
 use standard_streams::input::StandardInput;
-use standard_streams::output::Output;
 
-fn fail() {
-    os::fail(b"leg_sheet");
-}
-
-fn fail_stuck() {
-    io::write_all(STDERR_FILENO, b"leg_sheet: nothing more can be written\n");
-}
-
-// The whole answer in one go.
 fn print(input: &[u8]) {
     let mut out = [0u8; program::ANSWER_BYTES];
     let n = program::leg_sheet::answer(input, &mut out);
-    match standard_streams::output::write_output(&out[..n]) {
-        Output::Whole => {}
-        Output::Failed => fail(),
-        Output::Stuck => fail_stuck(),
-    }
+    standard_streams::output::write_answer(b"leg_sheet", &out[..n]);
 }
 
 fn main() {
     let mut buffer = program::leg_sheet::input_buffer();
     match standard_streams::input::read_input(&mut buffer) {
         StandardInput::Whole(n) => print(&buffer[..n]),
-        StandardInput::Failed => fail(),
+        StandardInput::Failed => os::fail(b"leg_sheet"),
     }
 }

@@ -1,15 +1,16 @@
-// A slice written to standard output whole.
+// A program's answer written to standard output whole.
 use crate::TRIES;
+use libc::STDERR_FILENO;
 use libc::STDOUT_FILENO;
 
 // How the writing ended: all bytes were taken; or a write failed, and errno says why; or one took no byte, and there is no errno.
-pub enum Output {
+enum Output {
     Whole,
     Failed,
     Stuck,
 }
 
-pub fn write_output(bytes: &[u8]) -> Output {
+fn write_output(bytes: &[u8]) -> Output {
     let mut done: usize = 0;
     let mut tries: usize = TRIES;
     while done < bytes.len() {
@@ -31,4 +32,18 @@ pub fn write_output(bytes: &[u8]) -> Output {
         }
     }
     Output::Whole
+}
+
+fn fail_stuck(program: &[u8]) {
+    io::write_all(STDERR_FILENO, program);
+    io::write_all(STDERR_FILENO, b": nothing more can be written\n");
+}
+
+// The whole answer in one go; where that fails, a line on standard error begins with the program's name and says so.
+pub fn write_answer(program: &[u8], bytes: &[u8]) {
+    match write_output(bytes) {
+        Output::Whole => {}
+        Output::Failed => os::fail(program),
+        Output::Stuck => fail_stuck(program),
+    }
 }
