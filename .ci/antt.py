@@ -12,7 +12,7 @@ DECLARED = re.compile(rf"^\s*(?:pub |abbrev |unfoldable )*(?:(?:record|data) )?(
 
 
 class File:
-    """A file of definitions or laws: its items, and what its names stand for."""
+    """A file of definitions or laws: its items, and what its names mean."""
 
     def __init__(self, path):
         self.path = path
@@ -30,7 +30,7 @@ class File:
 
     @staticmethod
     def parsed(text):
-        """The items of a text: what stands between blank lines; indented lines after one belong to the item above."""
+        """The items of a text: what is between blank lines; indented lines after one belong to the item above."""
         items = []
         for part in re.split(r"\n\n+", text):
             lines = [line for line in part.split("\n") if line.strip() and not line.lstrip().startswith("--") and not re.match(r"(pub )?(use|mod) ", line)]

@@ -1,5 +1,5 @@
 // Times leg_blank beside leg_read_tree on the same tree: the flight of examples/flight.legs, a Row of as many Cells as there may be, and a Cell of as many bytes. The numbers
-// handed in are none, which name every Cell; the last Cell's; and those of all Cells. A time is the least of many.
+// passed in are none, which name every Cell; the last Cell's; and those of all Cells. A time is the least of many.
 #include <stdio.h>
 #include <string.h>
 #include <time.h>

@@ -16,7 +16,7 @@ static double now(void) {
     return t.tv_sec * 1e9 + t.tv_nsec;
 }
 
-// A Cell of so many bytes.
+// A Cell of this many bytes.
 static void build(size_t length) {
     tree_len = length;
     tree[0] = 1;
@@ -31,7 +31,7 @@ static uint64_t copy(int name) { return leg_return_draft(store, store_len, (uint
 
 enum { SAVE, AGAIN, FORGET, RETURN, CALLS };
 
-// Keeps the least time of a call; whether it was answered with so many bytes.
+// Keeps the least time of a call; whether it was answered with this many bytes.
 static int timed(double *best, uint64_t (*call)(int), int name, size_t count) {
     double begun = now();
     uint64_t word = call(name);
@@ -41,10 +41,10 @@ static int timed(double *best, uint64_t (*call)(int), int name, size_t count) {
     return word == count;
 }
 
-// The name whose draft stands first when this one's has gone to the end.
+// The name whose draft is first when this one's is last.
 static int next(int name, int drafts) { return 'A' + (name - 'A' + 1) % drafts; }
 
-// The least nanoseconds of each call, on the draft that stands first: it is returned to, forgotten and saved, so that it stands last; the next one is saved while it is there.
+// The least nanoseconds of each call, on the first draft: it is returned to, forgotten and saved, so that it is last; the next one is saved while it is there.
 static int least(int drafts, double best[CALLS]) {
     int good = 1, name = 'A';
     for (int i = 0; i < CALLS; i++)

@@ -1,4 +1,4 @@
-// Times the ways of crates/feeds_bench to measure a Cell of 32,765 text bytes: without a line feed, and in lines of some letters. All are timed by turns, in one run; a time
+// Times the ways of crates/feeds_bench to measure a Cell of 32,765 text bytes: without a line feed, and in lines of some letters. All are timed alternately, in one run; a time
 // is the least of many, for one call. It answers 1 where the words miss a bar beside the search of before.
 //   feeds               the table
 //   feeds NAME LETTERS  one call on that text (0: no line feed), as for `valgrind --tool=callgrind --toggle-collect=NAME`
@@ -28,7 +28,7 @@ static const struct { size_t letters; double bar; } texts[] = {{0, 1.1}, {396, 1
 static uint8_t text[BYTES];
 static volatile uint64_t kept;
 
-// Lines of so many letters, or one without a line feed; the answer is how many line feeds there are.
+// Lines of this many letters, or one without a line feed; the answer is how many line feeds there are.
 static uint64_t fill(size_t letters) {
     uint64_t feeds = 0;
     memset(text, 'x', BYTES);

@@ -1,4 +1,4 @@
-// Times leg_fold on lists of Cells that have so many lines of a letter each: with a budget for every height, and with none, by turns, in one run; a time is the least of many.
+// Times leg_fold on lists of Cells that have this many lines of a letter each: with a budget for every height, and with none, alternately, in one run; a time is the least of many.
 // The width is that of some Columns, so that some heights fit and others do not.
 #include <stdio.h>
 #include <time.h>

@@ -113,7 +113,7 @@ static void put_short(size_t i) {
     put(CELL, texts[i % 4], strlen(texts[i % 4]));
 }
 
-// Lines of so many letters.
+// Lines of this many letters.
 static void put_text(size_t width, size_t lines) {
     static char text[LEG_TREE];
     size_t n = 0;
@@ -137,7 +137,7 @@ static void flat(uint8_t tag, size_t cells, size_t width, size_t lines) {
     close_group(at);
 }
 
-// Rows of Cells of so many letters and lines, or of short ones.
+// Rows of Cells of this many letters and lines, or of short ones.
 static void grid(size_t rows, size_t columns, size_t width, size_t lines) {
     size_t at = open_group(COLUMN);
     for (size_t i = 0; i < rows; i++)
@@ -145,7 +145,7 @@ static void grid(size_t rows, size_t columns, size_t width, size_t lines) {
     close_group(at);
 }
 
-// So many children in Rows and Columns by turns.
+// This many children in Rows and Columns alternately.
 static void nested(size_t children, size_t depth, uint8_t tag) {
     size_t at = open_group(tag);
     for (size_t i = 0; i < children; i++) {
@@ -189,7 +189,7 @@ static void choose_places(uint64_t bytes) {
         places[i] = LEG_AT(7 * i % height, width == 0 ? 0 : 13 * i % width);
 }
 
-// Three drafts of the tree in a store that has room for no other: one saved anew, one returned to, one forgotten.
+// Three drafts of the tree in a store that no other fits: one saved again, one returned to, one forgotten.
 static void calls_on_store(void) {
     size_t room = 3 * (3 + tree_len) + 10;
     memset(store, 0, sizeof store);
@@ -231,7 +231,7 @@ static void calls_on_settings(const char *name, const uint8_t *bytes, size_t byt
     CALL(leg_read_margin, bytes, bytes_len, numbers, LEG_MARGIN);
 }
 
-// So many pieces, cut at a width.
+// This many pieces, cut at a width.
 static void calls_on_pieces(size_t count, uint16_t width) {
     static uint16_t pieces[LEG_PIECES], left[LEG_LIST];
     static char name[32];

@@ -1,4 +1,4 @@
-// Times the leaves of many places of one sheet, by one call of leg_places and by a call of leg_place for each, by turns, in one run; a time is the least of many. The sheet is a
+// Times the leaves of many places of one sheet, by one call of leg_places and by a call of leg_place for each, alternately, in one run; a time is the least of many. The sheet is a
 // Column of 7 Rows of Cells of a letter, of 8, 64 and 512 nodes. It answers 1 where one call for 256 places on 512 nodes misses the bar beside 256 calls.
 #include <stdio.h>
 #include <time.h>
@@ -24,7 +24,7 @@ static void front(uint8_t tag, size_t length) {
     tree[tree_len++] = (uint8_t)(length % 256);
 }
 
-// Rows of so many Cells, and places all over their sheet.
+// Rows of this many Cells, and places all over their sheet.
 static void build(size_t row) {
     size_t wide = row == 0 ? 4 : 4 * row + 1;
     for (size_t at = 0; at < LEG_PLACES; at++) {
@@ -57,7 +57,7 @@ static uint64_t alone(size_t at) {
     return leg_place(settings, sizeof settings, tree, tree_len, lines[at], columns[at], single[at], LEG_PLACE);
 }
 
-// The least nanoseconds of one call for so many places, and of a call for each.
+// The least nanoseconds of one call for this many places, and of a call for each.
 static void least(size_t count, double best[2]) {
     best[0] = best[1] = 1e18;
     double start = now();
@@ -75,7 +75,7 @@ static void least(size_t count, double best[2]) {
     }
 }
 
-// Whether both ways agree on so many places of a sheet of so many nodes.
+// Whether both ways agree on this many places of a sheet of this many nodes.
 static int agree(size_t count, size_t nodes) {
     if (together(count) != count || elements != nodes)
         return 0;

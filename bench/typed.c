@@ -25,7 +25,7 @@ static int example(const char *path) {
     return text_len == 0;
 }
 
-// A line more: so many levels deep, so many times a word.
+// A line more: this many levels deep, this many times a word.
 static void add(size_t level, const char *word, size_t times) {
     memset(text + text_len, ' ', 2 * level);
     text_len += 2 * level;

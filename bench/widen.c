@@ -1,4 +1,4 @@
-// Times leg_widen beside leg_sizes on the same trees, by turns, in one run; a time is the least of many. Answers 1 where leg_widen takes over BAR times as long.
+// Times leg_widen beside leg_sizes on the same trees, alternately, in one run; a time is the least of many. Answers 1 where leg_widen takes over BAR times as long.
 #include <stdio.h>
 #include <time.h>
 

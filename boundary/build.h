@@ -4,7 +4,7 @@
 
 #include "calls.h"
 
-/* Where the next byte will stand. */
+/* Where the next byte goes. */
 size_t mark(void);
 
 /* The bytes from there on, as a list of their own. */
@@ -18,7 +18,7 @@ void end(size_t start);
 
 void put(const char *text);
 
-/* The same byte so many times. */
+/* The same byte this many times. */
 void fill(char byte, size_t count);
 
 void cell(const char *text);

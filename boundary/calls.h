@@ -19,7 +19,7 @@ struct parameter {
     size_t size; /* of an item, in bytes */
     enum use use;
     size_t fixed, each;
-    int is_bound; /* no length is handed in: there are `fixed` items */
+    int is_bound; /* no length is passed in: there are `fixed` items */
 };
 
 struct call {
@@ -29,7 +29,7 @@ struct call {
     uint64_t (*run)(const struct list *lists, const size_t *numbers);
 };
 
-/* A function and what it is handed: the lists that it reads or changes, and the numbers. */
+/* A function and its arguments: the lists that it reads or changes, and the numbers. */
 struct question {
     const struct call *call;
     struct list given[LISTS];

@@ -16,7 +16,7 @@ static void hold(int holds, int line, const char *what) {
 }
 
 #define HOLDS(condition) hold(condition, __LINE__, #condition)
-/* The call is accepted and counts so many; or it has this refusal. */
+/* The call is accepted and counts this many; or it has this refusal. */
 #define COUNTS(call, count) HOLDS((call) == (uint64_t)(count))
 #define REFUSED(call, refusal) HOLDS((call) == (uint64_t)(refusal) << 32)
 
@@ -34,7 +34,7 @@ static struct list text_of(char byte, size_t length) {
     return taken(start);
 }
 
-/* So many empty Cells in a group. */
+/* This many empty Cells in a group. */
 static struct list cells(uint8_t tag, size_t count) {
     size_t start = mark(), at = begin(tag);
     while (count-- > 0) cell("");
@@ -42,7 +42,7 @@ static struct list cells(uint8_t tag, size_t count) {
     return taken(start);
 }
 
-/* A Cell in so many Columns. */
+/* A Cell in this many Columns. */
 static struct list nested(size_t depth) {
     size_t start = mark(), at[32], n;
     for (n = 0; n + 1 < depth; n++) at[n] = begin(3);
@@ -284,7 +284,7 @@ static void cuts(void) {
     REFUSED(leg_read_tree(IN(text_of('\t', 1))), LEG_BAD_TEXT);
 }
 
-/* A typed list that begins with this and goes on with so many bytes: accepted where line and column are 0. */
+/* A typed list that begins with this and goes on with this many bytes: accepted where line and column are 0. */
 static void typed(const char *list, char byte, size_t count, enum leg_refusal refusal, uint32_t line, uint32_t column) {
     size_t start = mark();
     uint64_t word;

@@ -7,7 +7,7 @@
 
 static size_t page;
 
-/* So many bytes in whole pages, with a page on either side that cannot be touched. Answers where they start; `whole` is how many they are. */
+/* This many bytes in whole pages, with a page on either side that cannot be touched. Answers where they start; `whole` is how many they are. */
 static uint8_t *between_guards(size_t list, size_t bytes, size_t *whole) {
     static struct list mapped[LISTS];
     uint8_t *start;

@@ -33,7 +33,7 @@ static void nested(size_t depth) {
     end(at);
 }
 
-/* So many Rows of so many empty Cells in a Column. */
+/* This many Rows of this many empty Cells in a Column. */
 static void grid(size_t rows, size_t cells) {
     size_t all = begin(3), row, n, at;
     for (row = 0; row < rows; row++) {

@@ -40,7 +40,7 @@ int main(void) {
     }
     printf("Columns: %zu, height: %u, tries: %u, miss: %u\n", LEG_COUNT(word), (unsigned)found[0], (unsigned)found[1], (unsigned)found[2]);
 
-    /* The Row: the list's Cells as they stand, those of each Column behind its tag and length. */
+    /* The Row: the list's Cells as they are, those of each Column behind its tag and length. */
     size_t from = 3, to = 3;
     for (size_t i = 0; i < LEG_COUNT(word); i++) {
         size_t end = from;

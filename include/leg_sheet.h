@@ -1,8 +1,8 @@
 /* Leg sheets: bordered tables of nested rows and columns. Each function below is proved to answer and to write what its definition says, for every input (README.md, 'What is proved').
- * The archive libleg_sheet.a holds them, and asks for nothing but memcpy and memset (x86-64 Linux).
+ * The archive libleg_sheet.a holds them, and needs nothing but memcpy and memset (x86-64 Linux).
  *
  * A lent list, memory of the caller's, is a pointer and then its length in items (not bytes). Give a pointer that is not null, aligned for the items, to as many
- * items as the length says, even where the length is 0; lists that are written must overlap no other argument. Nothing else is asked:
+ * items as the length says, even where the length is 0; lists that are written must overlap no other argument. Nothing else is required:
  * any bytes and any numbers may be passed.
  *
  * Every function answers a word: LEG_NUMBER is 0 or a refusal's number from the list below, LEG_COUNT what was counted or written, 0 beside a
@@ -11,7 +11,7 @@
  * the word: LEG_FAULT_LINE, LEG_FAULT_COLUMN. Where nothing is refused, items past those said to be written stay as they were.
  *
  * Memory. A null pointer, a pointer to fewer items than its length says, and a list that is written and overlaps another argument, even in one byte, are not memory-safe: the
- * functions were proved for lists that are there and lie apart, and with others they may read and write anywhere. Lists that are only read may overlap, and may be constant.
+ * functions were proved for lists that exist and do not overlap, and with others they may read and write anywhere. Lists that are only read may overlap, and may be constant.
  *
  * Threads. Any number of threads may call any of the functions at once, also on the same lists where none of these is written. Nothing is kept between calls and nothing is
  * allocated; no call waits, reads a clock, or touches errno.
@@ -31,7 +31,7 @@
  *   horizontal alignment (0 left, 1 center, 2 right), vertical alignment (0 top, 1 center, 2 bottom), line mode (0 moves all lines of a text
  *      as its widest, 1 each by itself), width priority and height priority (0 First, 1 Last, 2 List)
  * The defaults: "\x10\x00\x1C" "--||-|+++++++++" "\x01\x01\x00\x00" "    " "\x00\x00\x00\x01\x02".
- * The margin stands around the whole sheet. Behind these 31 bytes, 11 00 08, then
+ * The margin is around the whole sheet. After these 31 bytes, 11 00 08, then
  *   4 sizes, 0 to 16 (decimal): left, right, top, bottom; 4 fills in that order, 20 to 7E; the left and right ones go from the first line to the last
  * W and H, 400 and 160 at the most, are the columns and lines of the sheet with its margin: the root's natural width or height, 2 for the edge, and the
  * margin's sizes on both sides. Sizes, leaf records and blocks have no margin in them.
@@ -51,7 +51,7 @@
  * and blocks, stores that keep such trees, and trees that are returned or blanked, are then the same but for the texts' own bytes: those of the lines themselves, where they are printed.
  *
  * A store of drafts, of any length: fields back to back, then 00 to its end; bytes that are all 00 are a store without a draft. A field is a tag, 20 to 27, the length of
- * its contents in two bytes, the high one first, and its contents, a tree. Draft 'A', byte 41, has tag 20, and so on to 'H', byte 48, with tag 27; each stands there
+ * its contents in two bytes, the high one first, and its contents, a tree. Draft 'A', byte 41, has tag 20, and so on to 'H', byte 48, with tag 27; each is there
  * once at the most, in any order.
  *
  * A typed list is a tree as plain text, of up to LEG_TYPED bytes: lines split at 0A, a 0D at a line's end taken off. A line is
@@ -208,7 +208,7 @@ uint64_t leg_sizes(const uint8_t *settings, size_t settings_len, const uint8_t *
 /* A leaf's record. 1 to 6, 9; 8 last, where `out` has under LEG_RECORD numbers. Writes node, width, height; first_row, last_row, first_col, last_col,
  * no_right, lean_top, top_left, top_intersection (1 or 0); the pair (leg_short_splits3) of the cut that its parent made for it, of the horizontal list in
  * a Row, of the vertical one in a Column; 0 0 for the root; the horizontal list, then the vertical one, each a count and 512 entries with 0 past the
- * count. A length left of 0 in the pair tells nothing: borders may meet there, nothing may stand there, or the piece was lost on the way into a nested group. Ask leg_place for the cell
+ * count. A length left of 0 in the pair tells nothing: borders may meet there, nothing may be there, or the piece was lost on the way into a nested group. Ask leg_place for the cell
  * above the crossing at the leaf's top right, or in a Column beside the one at its bottom left: the place one line above the crossing, or one column to its left. Counts
  * LEG_RECORD. */
 uint64_t leg_leaf_record(const uint8_t *settings, size_t settings_len, const uint8_t *tree, size_t tree_len, size_t node, uint16_t *out, size_t out_len);
@@ -232,12 +232,12 @@ uint64_t leg_places(const uint8_t *settings, size_t settings_len, const uint8_t 
  * neighbours (0 without lines), the sheet's edges and margin not counted. A height t is tried by putting cells in a Column while its height, with as much between them, stays within t. One
  * Column is the beginning; then t is one lower each time, down to the tallest cell, with `budget` tries at the most. 1 to 5, 15, 16 (by the cell's width with its
  * padding); 8 last, where `columns` has fewer numbers than the answer has Columns. Writes how many cells each Column has at the least t that fitted; and to `found`
- * LEG_FOUND numbers: that t, the tries made, and the most by which t can lie above the least that fits: 0 if every t was tried, else t less the tallest cell's height.
+ * LEG_FOUND numbers: that t, the tries made, and the most by which t can exceed the least that fits: 0 if every t was tried, else t less the tallest cell's height.
  * Counts the Columns. */
 uint64_t leg_fold(const uint8_t *settings, size_t settings_len, const uint8_t *tree, size_t tree_len, size_t width, size_t budget, uint16_t *columns, size_t columns_len, uint64_t found[LEG_FOUND]);
 
 /* How large the sheet of a planning tree will be. 1 to 5 and 17. Writes to `ends` LEG_ENDS numbers: the least and the greatest W, the least and the greatest H.
- * Whatever texts within the ranges are put in, the sheet's W and H lie between these, and each of the four is reached by some texts; the limits on W, H and the bytes of
+ * Whatever texts within the ranges are put in, the sheet's W and H are between these, and each of the four is reached by some texts; the limits on W, H and the bytes of
  * the tree with its texts are ignored. Counts LEG_ENDS. */
 uint64_t leg_plan(const uint8_t *settings, size_t settings_len, const uint8_t *tree, size_t tree_len, uint32_t ends[LEG_ENDS]);
 
@@ -247,7 +247,7 @@ uint64_t leg_plan(const uint8_t *settings, size_t settings_len, const uint8_t *t
  * listed. Counts the Cells, 512 at the most. */
 uint64_t leg_widen(const uint8_t *settings, size_t settings_len, const uint8_t *tree, size_t tree_len, uint16_t *nodes, size_t nodes_len, uint32_t *letters, size_t letters_len);
 
-/* Saves a tree in a store under a name, 'A' to 'H': an older draft of that name is dropped, the drafts behind it close up, and the new one stands last; the other drafts keep
+/* Saves a tree in a store under a name, 'A' to 'H': an older draft of that name is dropped, the drafts behind it move down, and the new one is last; the other drafts keep
  * their bytes. 18 (the trees inside are not read); 19; the tree's own 2 to 5; 20 where the other fields, 3 and `tree_len` are together more than `store_len`: the older
  * draft is not counted, and stays. Writes the store. Counts 0. */
 uint64_t leg_save_draft(uint8_t *store, size_t store_len, uint8_t name, const uint8_t *tree, size_t tree_len);

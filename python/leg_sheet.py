@@ -142,7 +142,7 @@ def _count(word: int) -> int:
 
 
 def _within(number: int, bits: int) -> int:
-    """A line or column, or the greatest of so many bits: a greater one is outside every sheet, and so is one below 0."""
+    """A line or column, or the greatest of this many bits: a greater one is outside every sheet, and so is one below 0."""
     return min(number, (1 << bits) - 1) if number >= 0 else (1 << bits) - 1
 
 
@@ -153,7 +153,7 @@ def _element(tag: int, contents: bytes) -> bytes:
 
 
 def cell(text: str) -> bytes:
-    """The tree of one text. A line feed parts its lines.
+    """The tree of one text. Line feeds separate its lines.
 
     >>> cell("ab")
     b'\\x01\\x00\\x02ab'

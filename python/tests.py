@@ -64,7 +64,7 @@ class Examples(unittest.TestCase):
         self.assertGreaterEqual(result.attempted, 18)
 
     def test_bytes(self):
-        """Settings and tree of each file print what stands beside it."""
+        """Settings and tree of each file print the sheet beside it."""
         for path in sorted((ROOT / "examples").glob("*.legs")):
             data, text = path.read_bytes(), path.with_suffix(".txt").read_text()
             end = 42 if data[31:32] == b"\x11" else 31

@@ -7,7 +7,7 @@ ROOT = os.path.dirname(os.path.dirname(os.path.abspath(__file__)))
 EXAMPLES = os.path.join(ROOT, "examples")
 PROGRAM = os.path.join(ROOT, "library", "target", "debug", "legs")
 
-# So many places are passed at a time.
+# This many places are passed at a time.
 LOT = 256
 
 

@@ -11,7 +11,7 @@ from page import Page
 
 
 class Check:
-    """Counts what holds, and tells what does not."""
+    """Counts what holds, and prints what does not."""
 
     def __init__(self):
         self.passed = self.failed = 0

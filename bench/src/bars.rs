@@ -18,7 +18,7 @@ impl Measured {
 | shape | nodes | bytes | library | A | B | original | faster | by A | by B | ns a node | ns a byte |
 |---|---|---|---|---|---|---|---|---|---|---|---|";
 
-    /// So many times faster than the original.
+    /// This many times faster than the original.
     fn faster(&self) -> f64 {
         self.original / self.library
     }

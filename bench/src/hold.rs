@@ -1,4 +1,4 @@
-//! A and B held to the original: what is timed must be right.
+//! A and B checked against the original: what is timed must be right.
 
 use oracle::calls::{Calls, Counted};
 use oracle::gen::{any_case, Case, Margins, Rng};

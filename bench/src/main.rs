@@ -1,8 +1,8 @@
 //! The proved library's sheet printer against tabled's, and against two printers written for speed without proofs (crate `light`: A with split lists, B without), on
-//! the same tables in one run. First A and B are held to the original on random inputs; a table is timed after all four have printed the same sheet. Times are the
-//! least of many, by turns, per sheet.
+//! the same tables in one run. First A and B are checked against the original on random inputs; a table is timed after all four have printed the same sheet. Times are the
+//! least of many, alternately, per sheet.
 //!
-//! The library, A and B read settings and tree bytes and write into a lent output that is not cleared between runs; tabled is handed the tree as a value, builds its
+//! The library, A and B read settings and tree bytes and write into a lent output that is not cleared between runs; tabled gets the tree as a value, builds its
 //! own from it, and answers a new text. All are built for release, without overflow checks.
 
 mod bars;
@@ -25,7 +25,7 @@ const TIME: Duration = Duration::from_millis(500);
 /// A printer to be timed: one sheet a call.
 type Run<'a> = Box<dyn FnMut() + 'a>;
 
-/// Nanoseconds of one call, of so many.
+/// Nanoseconds of one call, of this many.
 fn time(run: &mut Run, calls: u32) -> f64 {
     let begun = Instant::now();
     for _ in 0..calls {
@@ -34,7 +34,7 @@ fn time(run: &mut Run, calls: u32) -> f64 {
     begun.elapsed().as_secs_f64() * 1e9 / f64::from(calls)
 }
 
-/// The least nanoseconds of a call of each printer, by turns; so many calls are timed together that the clock does not count.
+/// The least nanoseconds of a call of each printer, alternately; so many calls are timed together that the clock does not count.
 fn least<const N: usize>(mut runs: [Run; N]) -> [f64; N] {
     let mut best = [f64::MAX; N];
     let start = Instant::now();

@@ -8,7 +8,7 @@ use oracle::judge;
 /// How many numbers more than needed are lent.
 pub const MORE: usize = 3;
 
-/// In place of a call's number where the call leaves a lent list otherwise than include/leg_sheet.h says, or answers a word that has no meaning there.
+/// Instead of a call's number where the call leaves a lent list otherwise than include/leg_sheet.h says, or answers a word that has no meaning there.
 /// No call has it, so the comparison shows the input.
 const BROKEN: u8 = 255;
 
@@ -36,7 +36,7 @@ pub struct Lent<T> {
 }
 
 impl<T: Copy + Default + PartialEq + From<u16>> Lent<T> {
-    /// So many numbers: those given, as far as they go, and canaries behind them.
+    /// This many numbers: those given, as far as they go, and canaries behind them.
     pub fn new(given: &[T], length: usize) -> Self {
         let mut before = given[..length.min(given.len())].to_vec();
         before.extend((before.len()..length).map(canary::<T>));
@@ -75,7 +75,7 @@ pub fn sound(number: u8, kept: bool) -> u8 {
     }
 }
 
-/// A call that writes so many numbers, or none: on a list with more, and on one with one less, where 8 is the last of its refusals. Answers the
+/// A call that writes this many numbers, or none: on a list with more, and on one with one less, where 8 is the last of its refusals. Answers the
 /// number and the numbers written.
 pub fn record<const N: usize>(call: impl Fn(&mut [u16]) -> Answer) -> (u8, [u16; N]) {
     let mut long = Lent::new(&[], N + MORE);
@@ -94,7 +94,7 @@ pub fn record<const N: usize>(call: impl Fn(&mut [u16]) -> Answer) -> (u8, [u16;
     (sound(number, kept), long.written(number))
 }
 
-/// A call on bytes that stand between others, which must stay. Answers its number and its count.
+/// A call on bytes that are between others, which must stay. Answers its number and its count.
 pub fn between(bytes: &mut [u8], call: impl FnOnce(&mut [u8]) -> Answer) -> (u8, usize) {
     let around = [0xA5; MORE];
     let mut lent = [&around, &*bytes, &around].concat();
@@ -107,9 +107,9 @@ pub fn between(bytes: &mut [u8], call: impl FnOnce(&mut [u8]) -> Answer) -> (u8,
 
 /// What a cut writes.
 pub struct Writes {
-    /// Whether the list left takes the place of the pieces.
+    /// Whether the list left is written over the pieces.
     pub left: bool,
-    /// So many numbers to its two lists.
+    /// This many numbers to its two lists.
     pub lists: [usize; 2],
     /// What it counts.
     pub count: usize,
@@ -262,7 +262,7 @@ mod tests {
         DONE
     }
 
-    /// The number for a cut of so many pieces that does this before the good one, or in its place.
+    /// The number for a cut of this many pieces that does this before the good one, or instead of it.
     fn number_of(
         count: usize,
         left: bool,

@@ -182,7 +182,7 @@ impl Calls for Library {
         }
     }
 
-    /// Three numbers more than the answers lent stand behind them, and must stay.
+    /// Three numbers more than the answers lent are behind them, and must stay.
     fn places(
         &mut self,
         settings: &[u8],
@@ -210,7 +210,7 @@ impl Calls for Library {
         }
     }
 
-    /// Three numbers more stand behind the entries lent, and behind those found, and must stay; so must all of them beside a refusal.
+    /// Three numbers more are behind the entries lent, and behind those found, and must stay; so must all of them beside a refusal.
     fn fold(
         &mut self,
         settings: &[u8],
@@ -239,7 +239,7 @@ impl Calls for Library {
         }
     }
 
-    /// Three numbers more stand behind the ends, and must stay; so must all of them beside a refusal.
+    /// Three numbers more are behind the ends, and must stay; so must all of them beside a refusal.
     fn plan(&mut self, settings: &[u8], tree: &[u8]) -> Planned {
         let mut ends = Lent::<u32>::new(&[], ENDS + MORE);
         let four = ends.list.first_chunk_mut().expect("four numbers");
@@ -255,7 +255,7 @@ impl Calls for Library {
         }
     }
 
-    /// Three numbers more stand behind either list, and must stay.
+    /// Three numbers more are behind either list, and must stay.
     fn widen(
         &mut self,
         settings: &[u8],
@@ -470,7 +470,7 @@ mod tests {
         }
     }
 
-    /// The library parts the sheet program's input where the judge does.
+    /// The library splits the sheet program's input where the judge does.
     #[test]
     fn an_input_is_split_as_the_judge_says() {
         for tag in 0..=255 {

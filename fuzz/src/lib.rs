@@ -1,4 +1,4 @@
-//! The function that libFuzzer calls: what its bytes ask for, of the proved library and of the judge.
+//! The function that libFuzzer calls: it makes the calls of its bytes, of the proved library and of the oracle's reading of the documents (`sides::Paper`).
 
 use std::os::raw::c_int;
 use std::process;
@@ -7,7 +7,7 @@ use compare::side::Library;
 use oracle::compare::Comparison;
 use oracle::sides::Paper;
 
-/// Ends the process where the two answer otherwise.
+/// Ends the process where the two answer differently.
 ///
 /// # Safety
 ///

@@ -1,7 +1,7 @@
 //! The calls on bytes and lent buffers, as `include/leg_sheet.h` has them.
 //!
-//! Each answers how many nodes, numbers or bytes were counted or written. A refused call has written nothing; any other leaves what stands past the
-//! result as it was. Nothing is asked of the caller, nothing is allocated and nothing is kept.
+//! Each answers how many nodes, numbers or bytes were counted or written. A refused call has written nothing; any other leaves what is past the
+//! result as it was. Nothing is required of the caller, nothing is allocated and nothing is kept.
 //!
 //! ```
 //! let settings = leg_sheet::Settings::default().to_bytes();
@@ -11,7 +11,7 @@
 //! # Ok::<(), leg_sheet::Refusal>(())
 //! ```
 //!
-//! Every `unsafe` block below is sound for one reason. The C functions ask that a pointer be to as many items as the length beside it says, not null
+//! Every `unsafe` block below is sound for one reason. The C functions require that a pointer be to as many items as the length beside it says, not null
 //! and aligned even where that is none, and that what is written overlap no other argument. Each pair is of one slice, borrowed for the call, the
 //! written ones by `&mut`.
 
@@ -41,7 +41,7 @@ pub const PLACE: usize = 3;
 pub const PLACES: usize = 256;
 /// The Cells of a list to fold at the most, and so its Columns.
 pub const CELLS: usize = 200;
-/// What is found with a fold: the height, the tries made, the greatest miss.
+/// What is found with a fold: the height, the tries made, the greatest excess height.
 pub const FOUND: usize = 3;
 /// The ends of a planned sheet: the least and the greatest number of columns, then of lines.
 pub const ENDS: usize = 4;
@@ -321,7 +321,7 @@ pub fn widen(
     })
 }
 
-/// Saves a tree in a store of drafts under a name, a letter's byte from A to H, and counts nothing: an older draft of that name is dropped, and the new one stands last.
+/// Saves a tree in a store of drafts under a name, a letter's byte from A to H, and counts nothing: an older draft of that name is dropped, and the new one is last.
 /// [`DraftStore`](crate::DraftStore) says more of a store.
 ///
 /// # Errors
@@ -340,7 +340,7 @@ pub fn save_draft(store: &mut [u8], name: u8, tree: &[u8]) -> Result<usize, Refu
     })
 }
 
-/// Forgets a draft, and counts nothing: those behind it close up, and the bytes that are freed are zero.
+/// Forgets a draft, and counts nothing: those behind it move down, and the bytes that are freed are zero.
 ///
 /// # Errors
 /// [`BadStore`](Refusal::BadStore), [`NoDraft`](Refusal::NoDraft).

@@ -21,7 +21,7 @@ pub struct Draft {
 /// A store of up to eight drafts, named A to H, in bytes that the caller lends and keeps. Bytes that are all zero are a store without a draft.
 ///
 /// A draft is a tree, without settings. After any series of saves and forgettings on a store of zero bytes a name gives back the tree of the last accepted save under
-/// it, unless it was forgotten since; this is proved, as is every refusal. [`list`](DraftStore::list) and [`free`](DraftStore::free) ask the proved call for each name
+/// it, unless it was forgotten since; this is proved, as is every refusal. [`list`](DraftStore::list) and [`free`](DraftStore::free) call the proved function for each name
 /// and count up what it answers: no byte of the store is read here.
 ///
 /// ```

@@ -160,7 +160,7 @@ impl<'a> Input<'a> {
             .collect())
     }
 
-    /// The tree's bytes with the texts of these Cells blanked, of every Cell where none is named. The settings are not looked at.
+    /// The tree's bytes with the texts of these Cells blanked, of every Cell where none is named. The settings are not read.
     ///
     /// # Errors
     /// [`BadTree`](Refusal::BadTree), [`BadText`](Refusal::BadText), [`TooManyNodes`](Refusal::TooManyNodes), [`TooDeep`](Refusal::TooDeep), [`NoLeaf`](Refusal::NoLeaf).

@@ -31,7 +31,7 @@
 //!
 //! A [`Sheet`] has [`Settings`] and a [`Tree`]; the functions here take the two, or a [`Plan`], and answer values; those of [`Input`] take them as bytes; those of [`calls`] take bytes and
 //! write to buffers that the caller lends. A [`DraftStore`] keeps trees in such a buffer. Under all of them are the same proved functions, which decide every refusal and
-//! write every byte: this crate puts values into bytes and makes values of what was written.
+//! write every byte: this crate encodes values to bytes and decodes what was written.
 
 #![deny(missing_docs, clippy::undocumented_unsafe_blocks)]
 

@@ -22,7 +22,7 @@ pub struct TypedLine<'a> {
     pub number: usize,
     /// The spaces in front.
     pub spaces: usize,
-    /// What stands behind them; a carriage return at the line's end is taken off.
+    /// What follows them; a carriage return at the line's end is taken off.
     pub typed: &'a [u8],
 }
 
@@ -46,7 +46,7 @@ impl TypedLine<'_> {
     }
 }
 
-/// The lines of a typed list. In one that is accepted those that are nodes stand in node order: the first is node 0.
+/// The lines of a typed list. In one that is accepted those that are nodes are in node order: the first is node 0.
 ///
 /// ```
 /// use leg_sheet::typed_lines;

@@ -2,7 +2,7 @@
 
 use crate::tree::Tree;
 
-/// A node of a tree: its number, where it stands, and what it is.
+/// A node of a tree: its number, its place in the tree, and what it is.
 #[derive(Debug, Clone, Copy, PartialEq, Eq)]
 pub struct Node<'a> {
     /// Its number, as every call has it: a parent before its children, these from left to right, from 0 on.

@@ -21,7 +21,7 @@ use crate::tree::{put, Tree};
 /// ```
 #[derive(Debug, Clone, PartialEq, Eq, Hash)]
 pub enum Plan {
-    /// A text that is known; a line feed parts its lines.
+    /// A text that is known; line feeds separate its lines.
     Cell(String),
     /// A text that is to come.
     Range {
@@ -59,7 +59,7 @@ impl From<Tree> for Plan {
 }
 
 impl Plan {
-    /// A text that is to come: so many columns wide, of so many lines.
+    /// A text that is to come: this many columns wide, of this many lines.
     #[must_use]
     pub const fn range(width: RangeInclusive<u8>, lines: RangeInclusive<u8>) -> Plan {
         Plan::Range { width, lines }

@@ -150,7 +150,7 @@ pub struct CutPair {
     pub taken: usize,
     /// The length left of the first piece not taken; 0 if there is none or it was removed.
     ///
-    /// In a leaf's record 0 tells nothing: borders may meet there, nothing may stand there, or the piece was lost on the way into a nested group. The cell above the crossing at the leaf's
+    /// In a leaf's record 0 tells nothing: borders may meet there, nothing may be there, or the piece was lost on the way into a nested group. The cell above the crossing at the leaf's
     /// top right, or in a Column beside the one at its bottom left, is that of the [place](crate::place) one line above the crossing, or one column to its left.
     pub rest: u16,
 }
@@ -217,7 +217,7 @@ impl Place {
     }
 }
 
-/// The leaf of a place: each place of a sheet inside its margin lies in the block of one leaf.
+/// The leaf of a place: each place of a sheet inside its margin is in the block of one leaf.
 ///
 /// The first line and column of a block are 0 and 0: its top-left mark.
 #[derive(Debug, Clone, Copy, Default, PartialEq, Eq, Hash)]
@@ -270,7 +270,7 @@ pub struct Folded {
     pub height: usize,
     /// The tries made.
     pub tries: usize,
-    /// The most by which the height can lie above the least that fits at all; 0 where every height was tried.
+    /// The most by which the height can exceed the least that fits at all; 0 where every height was tried.
     pub miss: usize,
 }
 
@@ -288,7 +288,7 @@ impl Folded {
     }
 }
 
-/// How large a planned sheet will be, its margin included: whatever texts within the ranges are put in, it lies between these ends, and each of them is reached by
+/// How large a planned sheet will be, its margin included: whatever texts within the ranges are put in, it is between these ends, and each of them is reached by
 /// some texts.
 #[derive(Debug, Clone, PartialEq, Eq, Hash)]
 pub struct Planned {

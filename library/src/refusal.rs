@@ -152,7 +152,7 @@ impl Error for Refusal {}
 mod tests {
     use super::*;
 
-    /// From 1 to 20, and 7 is kept free; then those of typed lists, from 30 on.
+    /// From 1 to 20, and 7 is reserved; then those of typed lists, from 30 on.
     #[test]
     fn the_table_is_by_number() {
         let numbers = Refusal::TABLE.iter().map(|refusal| refusal.number());

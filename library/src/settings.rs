@@ -10,7 +10,7 @@ pub use words::Word;
 use crate::calls;
 use crate::refusal::Refusal;
 
-/// Where a text stands in a larger space.
+/// How a text is aligned in a larger space.
 #[derive(Debug, Clone, Copy, Default, PartialEq, Eq, Hash)]
 pub enum Alignment {
     /// Left, or at the top.
@@ -114,7 +114,7 @@ pub struct Settings {
 /// The default marks.
 const ASCII: [u8; 15] = *b"--||-|+++++++++";
 
-/// The marks where there are none, as they stand in the record.
+/// The marks without lines, as they are in the record.
 const NO_MARKS: [u8; 15] = [0; 15];
 
 /// The margin where there is none: its sizes and its fills.
@@ -153,7 +153,7 @@ impl From<[u8; 15]> for Marks {
 }
 
 impl From<Marks> for [u8; 15] {
-    /// As they stand in the record.
+    /// As they are in the record.
     fn from(marks: Marks) -> [u8; 15] {
         match marks {
             Marks::None => NO_MARKS,
@@ -272,13 +272,13 @@ impl Settings {
         self.fills
     }
 
-    /// Where a text stands in a wider leaf.
+    /// How a text is aligned in a wider leaf.
     #[must_use]
     pub const fn horizontal(&self) -> Alignment {
         self.horizontal
     }
 
-    /// Where a text stands in a higher leaf.
+    /// How a text is aligned in a higher leaf.
     #[must_use]
     pub const fn vertical(&self) -> Alignment {
         self.vertical

@@ -8,7 +8,7 @@ use crate::settings::Settings;
 use crate::tree::{blanked, Tree};
 use crate::typed::TypedFault;
 
-/// Settings and a tree that the proved reader accepts. They are put into bytes once, and every method hands these to a proved call.
+/// Settings and a tree that the proved reader accepts. They are encoded once, and every method passes the bytes to a proved call.
 ///
 /// ```
 /// use leg_sheet::{Place, Refusal, Settings, Sheet, Tree};

@@ -7,7 +7,7 @@ use crate::refusal::Refusal;
 
 impl Input<'_> {
     /// The place of the printed sheet, its margin included, where each node starts, by its number: the first line and the first column that it or a node below it has. None where there
-    /// are no such, as for a leaf of width 0 in a sheet without lines. Every place of the sheet is asked for.
+    /// are no such, as for a leaf of width 0 in a sheet without lines. Every place of the sheet is looked up.
     ///
     /// ```
     /// use leg_sheet::{Input, Place, Settings, Tree};
@@ -32,7 +32,7 @@ impl Input<'_> {
                 });
             }
         }
-        // A node is behind those that it stands inside, and all below it are behind it: from the last one on each is looked at once it has its own start.
+        // A node is behind those that it is inside, and all below it are behind it: from the last one on each is looked at once it has its own start.
         for node in (0..sizes.len()).rev() {
             let below = node + 1..=node + usize::from(sizes[node].below);
             let first = below.filter_map(|node| starts[node]).reduce(first);

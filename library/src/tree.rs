@@ -16,7 +16,7 @@ use crate::refusal::Refusal;
 /// ```
 #[derive(Debug, Clone, PartialEq, Eq, Hash)]
 pub enum Tree {
-    /// A text; a line feed parts its lines.
+    /// A text; line feeds separate its lines.
     Cell(String),
     /// Children side by side.
     Row(Vec<Tree>),
@@ -49,7 +49,7 @@ impl Tree {
         Tree::Column(children.into_iter().map(Into::into).collect())
     }
 
-    /// A list folded, as [`fold`](crate::fold) says how: the Row of Columns that have so many of this Column's children each, in order. None where it is no Column, or
+    /// A list folded, as [`fold`](crate::fold) says how: the Row of Columns that have these numbers of this Column's children, in order. None where it is no Column, or
     /// the counts are not those of all its children.
     ///
     /// ```
@@ -114,7 +114,7 @@ impl Tree {
 }
 
 /// Puts an element behind the bytes, as far as they are not too many for a tree yet. Too many are refused for that alone, so that it does not matter then
-/// which length stands where.
+/// which length is where.
 pub(crate) fn put(bytes: &mut Vec<u8>, tag: u8, contents: impl FnOnce(&mut Vec<u8>)) {
     if bytes.len() > calls::TREE {
         return;
@@ -138,7 +138,7 @@ pub(crate) fn blanked(tree: &[u8], nodes: &[usize]) -> Result<Vec<u8>, Refusal> 
     Ok(out)
 }
 
-/// Takes so many bytes off the front.
+/// Takes this many bytes off the front.
 fn take<'a>(bytes: &mut &'a [u8], count: usize) -> Result<&'a [u8], Refusal> {
     let (front, rest) = bytes.split_at_checked(count).ok_or(Refusal::BadTree)?;
     *bytes = rest;

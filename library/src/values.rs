@@ -185,7 +185,7 @@ pub fn fold(
     on_bytes(settings, tree, |input| input.fold(width, budget))
 }
 
-/// How large a sheet will be whose texts are not all known yet: whatever texts within the ranges are put in, its columns and lines, the margin included, lie between
+/// How large a sheet will be whose texts are not all known yet: whatever texts within the ranges are put in, its columns and lines, the margin included, are between
 /// the ends, and each end is reached by some texts. A sheet too large to be printed is planned, too.
 ///
 /// ```

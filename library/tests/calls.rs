@@ -1,4 +1,4 @@
-//! The calls on lent buffers by themselves: figure F1 of document 01, with lines and without, refusals, what they leave of a lent output, where the pair of a cut stands, the leaves of
+//! The calls on lent buffers by themselves: figure F1 of document 01, with lines and without, refusals, what they leave of a lent output, where the pair of a cut is, the leaves of
 //! places, a list folded, a sheet planned, the letters that widen it, and priorities that no settings have.
 
 use leg_sheet::calls::{
@@ -141,7 +141,7 @@ fn cuts_say_their_pair() {
 #[test]
 fn cuts_are_refused_in_order() {
     const LENT: u32 = 0xA5A5_A5A5;
-    // Of each cut, lent so many pieces and one number less than it writes or as many: the number.
+    // Of each cut, lent this many pieces and one number less than it writes or as many: the number.
     let refused = |count: usize, held: usize, less: usize| {
         let (mut pieces, mut out) = (vec![0xA5A5; held], [0xA5A5; CUT]);
         let three = short_splits3(&pieces, count, 6, &mut out[..CUT - less]);
@@ -167,7 +167,7 @@ fn cuts_are_refused_in_order() {
     }
 }
 
-/// Column[Row[`a`, `b`, `c`], Row[``, `efghijk`]], node 7, whose Row cuts 1 3 3 at 9 for it: the pair, 2 taken and none left, stands behind the
+/// Column[Row[`a`, `b`, `c`], Row[``, `efghijk`]], node 7, whose Row cuts 1 3 3 at 9 for it: the pair, 2 taken and none left, is behind the
 /// flags, before the lists 1 3 and 1.
 #[test]
 fn a_record_has_its_pair() {

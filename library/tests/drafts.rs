@@ -32,7 +32,7 @@ fn left(before: &[u8], after: Vec<u8>, answer: Result<usize, Refusal>) -> Answer
     }
 }
 
-/// The number and the bytes copied, with so many lent; those past them stay.
+/// The number and the bytes copied, with this many lent; those past them stay.
 fn returned(store: &[u8], name: u8, length: usize) -> Answer {
     let mut out = vec![0xA5; length];
     let answer = return_draft(store, name, &mut out);

@@ -1,4 +1,4 @@
-//! What legs replaces is on the disk before it takes its place, and its folder after: the calls of the built command, in order, as a library loaded before the C library tells them.
+//! A new file of legs is on the disk before it replaces the old one, and its folder after: the calls of the built command, in order, as a library loaded before the C library reports them.
 
 use std::fs;
 use std::path::{Path, PathBuf};

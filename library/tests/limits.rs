@@ -4,7 +4,7 @@ use leg_sheet::{
     print_leaf, print_sheet, Draft, DraftStore, Plan, Refusal, Settings, SizeRecord, Tree,
 };
 
-/// A text that makes a tree or a Cell of so many bytes.
+/// A text that makes a tree or a Cell of this many bytes.
 fn text(bytes: usize) -> String {
     "x".repeat(bytes - 3)
 }

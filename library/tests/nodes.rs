@@ -10,7 +10,7 @@ fn next(seed: &mut u64) -> usize {
     (*seed >> 33) as usize
 }
 
-/// A tree no deeper than so many levels.
+/// A tree no deeper than this many levels.
 fn some_tree(seed: &mut u64, levels: usize) -> Tree {
     let number = next(seed);
     if levels == 1 || number % 4 == 0 {
@@ -209,7 +209,7 @@ fn the_cell_at_a_crossing() {
     assert!(cut > 200 && under > cut, "{cut} {under}");
 }
 
-/// A range is a line that begins with `? `; what is none is told with its place.
+/// A range is a line that begins with `? `; what is none is reported with its place.
 #[test]
 fn plans_are_typed() {
     let name = || Plan::range(4..=20, 1..=1);

@@ -12,7 +12,7 @@ const PAPER: &[u8; 30] =
 /// The figures' set M.
 const M: &[u8; 31] = b"\x10\x00\x1C-_()hv123456789\x01\x01\x00\x00    \x00\x00\x00\x02\x02";
 
-/// The bytes written, with so many lent; those past them stay, and a refusal leaves all.
+/// The bytes written, with this many lent; those past them stay, and a refusal leaves all.
 fn blanked(tree: &[u8], nodes: &[u16], length: usize) -> Result<Vec<u8>, u8> {
     let mut out = vec![0xA5; length];
     let answer = calls::blank(tree, nodes, &mut out);
@@ -114,7 +114,7 @@ fn values() {
     assert_eq!(input.blank(&[3, 4]), Ok(PAPER.to_vec()));
 }
 
-/// The sheet of a tree, or its number, with so many bytes lent.
+/// The sheet of a tree, or its number, with this many bytes lent.
 fn sheet(settings: &[u8], tree: &[u8], length: usize) -> Result<String, u8> {
     let mut out = vec![0; length];
     let count = print_sheet(settings, tree, &mut out).map_err(Refusal::number)?;
@@ -136,7 +136,7 @@ fn agree(settings: &[u8], trees: [&[u8]; 2], own: &[(usize, usize, usize)]) {
     assert_eq!(covered[0], covered[1]);
 }
 
-/// Document 02's examples, by its readings: with lines; without lines and with a margin; several lines and padding.
+/// The examples of document 02's readings: with lines; without lines and with a margin; several lines and padding.
 #[test]
 fn sheets_agree_outside_the_texts() {
     agree(M, [KEY, PAPER], &[(1, 2, 7), (3, 2, 5), (3, 10, 3)]);

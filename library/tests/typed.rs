@@ -4,7 +4,7 @@
 use leg_sheet::calls::{self, NODES, TREE, TYPED};
 use leg_sheet::{typed_lines, LineKind, Refusal, Tree, TypedFault};
 
-/// The bytes written, with so many lent, or the number, line and column; bytes past the count stay, and a refusal leaves all.
+/// The bytes written, with this many lent, or the number, line and column; bytes past the count stay, and a refusal leaves all.
 fn read(text: &[u8], length: usize) -> Result<Vec<u8>, (u8, u32, u32)> {
     let mut out = vec![0xA5; length];
     let answer = calls::read_typed(text, &mut out);
@@ -209,7 +209,7 @@ const TEXTS: [&str; 20] = [
     "\n", "a\nb", "a\\", " \n", "abc  ", "~",
 ];
 
-/// A tree for a number, by its digits: no deeper than so many levels.
+/// A tree for a number, by its digits: no deeper than this many levels.
 fn some_tree(seed: &mut u64, levels: usize) -> Tree {
     *seed = seed.wrapping_mul(6_364_136_223_846_793_005).wrapping_add(1);
     let number = (*seed >> 33) as usize;

@@ -219,7 +219,7 @@ fn figure_2_by_every_call() {
     assert_eq!(set, ["last_row", "first_col", "no_right", "top_left"]);
 }
 
-/// Figure F3: the last leaf is handed the list 3 3.
+/// Figure F3: the last leaf gets the list 3 3.
 #[test]
 fn a_leaf_has_its_lists() {
     let tree = Tree::column([Tree::row(["a", "b"]), "c".into()]);
@@ -353,7 +353,7 @@ fn places_have_their_leaves() {
     }
 }
 
-/// Document 02, 5: the sheet's byte at each place is the one of its leaf's block at the place inside; as many places lie in a leaf as its block has bytes.
+/// Document 02, 5: the sheet's byte at each place is the one of its leaf's block at the place inside; as many places are in a leaf as its block has bytes.
 #[test]
 fn every_byte_leads_back() {
     let settings = figures_m(MARGIN);
@@ -506,7 +506,7 @@ fn other_trees_are_not_folded() {
     assert_eq!(folded(&Tree::column(["\t"]), 0, 0), Err(3));
 }
 
-/// The Row of a fold is as wide inside as the fold had room for, no Column is higher than it says, and all cells stand in it in order.
+/// The Row of a fold is as wide inside as the fold's width, no Column is higher than it says, and all cells are in it in order.
 #[test]
 fn the_row_of_a_fold() {
     let settings = Settings::default();
@@ -611,7 +611,7 @@ fn a_tree_is_a_plan() {
     }
 }
 
-/// The sheet of each choice of two texts lies between the ends, and they are reached.
+/// The sheet of each choice of two texts is between the ends, and they are reached.
 #[test]
 fn the_sheets_of_a_plan() {
     let settings = Settings::default();

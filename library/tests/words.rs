@@ -83,7 +83,7 @@ fn each_word() {
     assert_eq!(read("spare-height last").height_priority(), Priority::Last);
 }
 
-/// Words that are named stand over others, which stay.
+/// Words that are named replace those of others, which stay.
 #[test]
 fn words_over_settings() {
     let bare = read("lines no\npadding 3");

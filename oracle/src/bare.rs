@@ -60,7 +60,7 @@ fn marks(lines: &mut Lines) {
     lines.sheet();
 }
 
-/// The sheets of document 02, without an extra blank where the crate has one; the sizes and a leaf of each.
+/// The sheets of document 02's readings, without an extra blank where the crate has one; the sizes and a leaf of each.
 fn sheets(lines: &mut Lines) {
     lines.title("Sheets by hand");
     let left = Settings {
@@ -131,7 +131,7 @@ fn limits(lines: &mut Lines) {
     }
 }
 
-/// So many small random tables, four deep: the sizes of a node, a leaf, and the sheet.
+/// This many small random tables, four deep: the sizes of a node, a leaf, and the sheet.
 fn nested(lines: &mut Lines, rng: &mut Rng, count: usize) {
     lines.title("Nested Rows and Columns");
     let growth = Growth { width: 3, lines: 2 };
@@ -189,7 +189,7 @@ pub fn lines(seed: u64) -> [String; 2] {
     [lines.text, on_places.text]
 }
 
-/// The lines, as crate `test_requests` takes them: document 02's examples of 9 to 11, then random ones.
+/// The lines, as crate `test_requests` takes them: the examples of document 02's readings, 9 to 11, then random ones.
 pub fn requests(seed: u64) -> String {
     let mut rng = Rng::new(seed).bare();
     let mut lines = Lines::default();

@@ -1,5 +1,5 @@
 //! Document 02, 14: question paper and key from one layout. Which trees are alike, and the tree that is left of a key when its answers are blanked with dots. It follows
-//! the document's sentences and shares no code with the port. The document has no call that blanks: what it is handed, and its numbers, are said in include/leg_sheet.h.
+//! the document's sentences and shares no code with the port. The document has no call that blanks: its arguments and its numbers are defined in include/leg_sheet.h.
 //! Which bytes of a sheet are 'the texts' own' is in `paper`.
 
 use crate::form::{encode_tree, Tree};
@@ -65,7 +65,7 @@ fn named(tree: &Tree, nodes: &[u16]) -> Result<Vec<usize>, u8> {
     }
 }
 
-/// The bytes of the tree with the texts of these Cells blanked, for a buffer of so many bytes; or the tree's own 2 to 5, 9, 8.
+/// The bytes of the tree with the texts of these Cells blanked, for a buffer of this many bytes; or the tree's own 2 to 5, 9, 8.
 pub fn blanked(tree: &[u8], nodes: &[u16], buffer: usize) -> Result<Vec<u8>, u8> {
     let read = judge::read_tree(tree)?;
     let nodes = named(&read, nodes)?;

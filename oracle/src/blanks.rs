@@ -18,7 +18,7 @@ fn given(lines: &mut Lines, tree: &Tree) -> usize {
     tree.len()
 }
 
-/// Document 02's keys and papers, by their readings: a question and two answers; several lines; part of a text cannot be blanked, the whole of it can.
+/// The keys and papers of document 02's readings: a question and two answers; several lines; part of a text cannot be blanked, the whole of it can.
 fn papers(lines: &mut Lines) {
     lines.title("Keys and question papers");
     let answers = Tree::Row(["54 kt", "6 s"].map(Tree::cell).to_vec());
@@ -35,7 +35,7 @@ fn papers(lines: &mut Lines) {
     lines.blank(length + 1, &[2]);
 }
 
-/// Feeds alone, no text, dots already, groups without children; every kind of number that names no Cell.
+/// Line feeds alone, no text, dots already, groups without children; every kind of number that names no Cell.
 fn small(lines: &mut Lines) {
     lines.title("Small trees");
     for text in ["", "\n", "\n\na\n", ".", " ~"] {
@@ -86,7 +86,7 @@ fn refused(lines: &mut Lines) {
     }
 }
 
-/// So many random trees of a few bytes: with as many bytes lent as it has, one less, one more and ten more.
+/// This many random trees of a few bytes: with as many bytes lent as it has, one less, one more and ten more.
 fn random(lines: &mut Lines, rng: &mut Rng, trees: usize) {
     lines.title("Random trees");
     let mut left = trees;

@@ -19,11 +19,11 @@ use crate::gen::{self, Case, Margins, Rng};
 use crate::judge;
 use crate::widening;
 
-/// Where two sides part.
+/// Where two sides differ.
 #[derive(Debug, Clone, PartialEq, Eq)]
 pub struct Difference {
     pub call: &'static str,
-    /// What was handed in.
+    /// The input.
     pub input: String,
     pub one: String,
     pub other: String,
@@ -118,7 +118,7 @@ pub struct Comparison<'a> {
     pub counts: Counts,
 }
 
-/// A part of the comparison: its name and its inputs, with so many rounds of the random ones.
+/// A part of the comparison: its name and its inputs, with this many rounds of the random ones.
 pub type Part = (
     &'static str,
     fn(&mut Comparison, &mut Rng, usize) -> Result<(), Difference>,
@@ -271,7 +271,7 @@ impl<'a> Comparison<'a> {
         }
     }
 
-    /// Run a call on both sides and hold the two answers, number first, side by side.
+    /// Run a call on both sides and compare the two answers, number first.
     fn call<T: PartialEq + fmt::Debug>(
         &mut self,
         call: &'static str,
@@ -410,7 +410,7 @@ impl<'a> Comparison<'a> {
         )
     }
 
-    /// Many places, with so many answers lent.
+    /// Many places, with this many answers lent.
     fn mark(
         &mut self,
         settings: &[u8],
@@ -473,7 +473,7 @@ impl<'a> Comparison<'a> {
         self.mark(settings, tree, &outside, 0)
     }
 
-    /// The fold of a list for a width and a budget, with so many entries lent.
+    /// The fold of a list for a width and a budget, with this many entries lent.
     fn fold(
         &mut self,
         settings: &[u8],
@@ -549,7 +549,7 @@ impl<'a> Comparison<'a> {
         )
     }
 
-    /// The letters that widen a sheet, with so many nodes and so many numbers lent.
+    /// The letters that widen a sheet, with this many nodes and this many numbers lent.
     fn widen(
         &mut self,
         settings: &[u8],
@@ -768,13 +768,13 @@ impl<'a> Comparison<'a> {
         self.each(two_groups(), settings, Comparison::places)
     }
 
-    /// Every list of up to so many Cells with a few texts, under each of the settings.
+    /// Every list of up to this many Cells with a few texts, under each of the settings.
     pub fn small_folds(&mut self, cells: usize, settings: &[Settings]) -> Result<(), Difference> {
         let lists = gen::small_lists(cells, &["", "a", "bcd", "e\nfg"]);
         self.each(lists.into_iter(), settings, Comparison::every_fold)
     }
 
-    /// Lists of great heights and widths, then so many random ones.
+    /// Lists of great heights and widths, then this many random ones.
     pub fn folds(&mut self, rng: &mut Rng, rounds: usize) -> Result<(), Difference> {
         for (settings, tree) in gen::great_lists() {
             self.some_folds(rng, &rng.lined(settings), &tree)?;
@@ -786,7 +786,7 @@ impl<'a> Comparison<'a> {
         Ok(())
     }
 
-    /// So many lists of any kind, damaged bytes among them, each with a random width and budget.
+    /// This many lists of any kind, damaged bytes among them, each with a random width and budget.
     pub fn any_folds(&mut self, rng: &mut Rng, rounds: usize) -> Result<(), Difference> {
         for _ in 0..rounds {
             let (settings, tree) = gen::any_list(rng);
@@ -827,7 +827,7 @@ impl<'a> Comparison<'a> {
         Ok(())
     }
 
-    /// The greatest planning trees, then so many random ones.
+    /// The greatest planning trees, then this many random ones.
     pub fn plans(&mut self, rng: &mut Rng, rounds: usize) -> Result<(), Difference> {
         for (settings, plan) in gen::great_plans() {
             self.plan(&encode_settings(&rng.lined(settings)), &encode_plan(&plan))?;
@@ -839,7 +839,7 @@ impl<'a> Comparison<'a> {
         Ok(())
     }
 
-    /// So many planning trees of any kind, damaged bytes among them; each is handed to every other call, too, which takes no range.
+    /// This many planning trees of any kind, damaged bytes among them; every other call, which takes no range, gets each of them, too.
     pub fn any_plans(&mut self, rng: &mut Rng, rounds: usize) -> Result<(), Difference> {
         for _ in 0..rounds {
             let (settings, tree) = gen::any_plan(rng);
@@ -858,7 +858,7 @@ impl<'a> Comparison<'a> {
         self.each(small_trees(nodes), settings, Comparison::every_need)
     }
 
-    /// The letters of the greatest trees, then of so many random ones.
+    /// The letters of the greatest trees, then of this many random ones.
     pub fn needs(&mut self, rng: &mut Rng, rounds: usize) -> Result<(), Difference> {
         for (settings, tree) in gen::wide_tables() {
             self.every_need(&rng.lined(settings), &tree)?;
@@ -870,7 +870,7 @@ impl<'a> Comparison<'a> {
         Ok(())
     }
 
-    /// The letters of elements with several faults, with no entry lent; then of so many trees of any kind, damaged bytes among them, with lists of random lengths.
+    /// The letters of elements with several faults, with no entry lent; then of this many trees of any kind, damaged bytes among them, with lists of random lengths.
     pub fn any_needs(&mut self, rng: &mut Rng, rounds: usize) -> Result<(), Difference> {
         let settings = encode_settings(&Settings::M);
         for tree in gen::faults().into_iter().chain(gen::long_trees()) {
@@ -905,7 +905,7 @@ impl<'a> Comparison<'a> {
         Ok(())
     }
 
-    /// Sheets around 400 columns by 160 lines with margins and without, then so many tables on each side of each limit, −2 to 2 from it.
+    /// Sheets around 400 columns by 160 lines with margins and without, then this many tables on each side of each limit, −2 to 2 from it.
     pub fn limits(&mut self, rng: &mut Rng, rounds: usize) -> Result<(), Difference> {
         for sizes in [[0; 4], [1, 0, 0, 1], [0, 3, 2, 0], [16; 4]] {
             for (width, height) in [(0, 0), (-1, 0), (0, -1), (1, 0), (0, 1), (1, 1)] {
@@ -930,7 +930,7 @@ impl<'a> Comparison<'a> {
         Ok(())
     }
 
-    /// So many whole tables of ordinary size.
+    /// This many whole tables of ordinary size.
     pub fn tables(&mut self, rng: &mut Rng, rounds: usize) -> Result<(), Difference> {
         for _ in 0..rounds {
             let (settings, tree) = gen::table(rng, Margins::Half);
@@ -939,7 +939,7 @@ impl<'a> Comparison<'a> {
         Ok(())
     }
 
-    /// The places of so many.
+    /// The places of this many.
     pub fn tables_places(&mut self, rng: &mut Rng, rounds: usize) -> Result<(), Difference> {
         for _ in 0..rounds {
             let (settings, tree) = gen::table(rng, Margins::Half);
@@ -949,7 +949,7 @@ impl<'a> Comparison<'a> {
         Ok(())
     }
 
-    /// So many cases of any kind, damaged bytes among them.
+    /// This many cases of any kind, damaged bytes among them.
     pub fn cases(&mut self, rng: &mut Rng, rounds: usize) -> Result<(), Difference> {
         for _ in 0..rounds {
             let case = gen::any_case(rng, Margins::Half);
@@ -970,7 +970,7 @@ impl<'a> Comparison<'a> {
         self.mark(settings, tree, &places, gen::around(rng, places.len()))
     }
 
-    /// Every list of up to three pieces of 0 to 4 at widths 0 to 9, lists of 511 and 512 equal pieces, then so many random ones, each also
+    /// Every list of up to three pieces of 0 to 4 at widths 0 to 9, lists of 511 and 512 equal pieces, then this many random ones, each also
     /// with a count past the limit, of which C can be lent as many pieces.
     pub fn lists(&mut self, rng: &mut Rng, rounds: usize) -> Result<(), Difference> {
         for count in 0..=3 {
@@ -998,7 +998,7 @@ impl<'a> Comparison<'a> {
     fn any_list(&mut self, rng: &mut Rng) -> Result<(), Difference> {
         let (list, width) = gen::list(rng);
         let mut list = SplitList::new(&list);
-        // What stands past the count is the caller's.
+        // What is past the count is the caller's.
         if rng.one_in(2) {
             for place in &mut list.pieces[list.count..] {
                 *place = rng.below(65_536) as u16;
@@ -1038,7 +1038,7 @@ impl<'a> Comparison<'a> {
         self.share(spare, n, priority, index)
     }
 
-    /// Every part, each with the seed anew.
+    /// Every part, each started from the seed.
     pub fn all(&mut self, seed: u64, rounds: usize) -> Result<(), Difference> {
         for (_, run) in parts() {
             run(self, &mut Rng::new(seed), rounds)?;

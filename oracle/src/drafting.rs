@@ -1,4 +1,4 @@
-//! Document 02, 12: drafts an author can return to. A store is read into a list of drafts, the list is changed, and the store is written anew from it. It follows the
+//! Document 02, 12: drafts an author can return to. A store is read into a list of drafts, the list is changed, and the store is written again from it. It follows the
 //! document's sentences and shares no code with the port.
 
 use std::collections::BTreeMap;
@@ -62,7 +62,7 @@ fn encode_draft(draft: &Draft) -> Vec<u8> {
     [&[tag], &length.to_be_bytes()[..], &draft.tree].concat()
 }
 
-/// The store of so many bytes that has these drafts, in this order.
+/// The store of this many bytes that has these drafts, in this order.
 pub fn encode_store(drafts: &[Draft], length: usize) -> Vec<u8> {
     let mut store: Vec<u8> = drafts.iter().flat_map(encode_draft).collect();
     assert!(store.len() <= length, "the drafts fit in the store");
@@ -75,7 +75,7 @@ fn named(name: u8) -> Result<(), u8> {
     NAMES.contains(&name).then_some(()).ok_or(19)
 }
 
-/// Where the draft of a name stands, or 19: the name is none, or 'one returned to or forgotten while not saved'.
+/// Where the draft of a name is, or 19: the name is none, or 'one returned to or forgotten while not saved'.
 fn find(drafts: &[Draft], name: u8) -> Result<usize, u8> {
     named(name)?;
     let at = drafts.iter().position(|draft| draft.name == name);
@@ -106,7 +106,7 @@ pub fn forget(store: &[u8], name: u8) -> Result<Vec<u8>, u8> {
     Ok(encode_store(&drafts, store.len()))
 }
 
-/// The tree that is returned to a buffer of so many bytes, or 18, 19, 8: 'a lent tree buffer that is too short is 8, after 19'.
+/// The tree that is returned to a buffer of this many bytes, or 18, 19, 8: 'a lent tree buffer that is too short is 8, after 19'.
 pub fn returned(store: &[u8], name: u8, buffer: usize) -> Result<Vec<u8>, u8> {
     let mut drafts = read_store(store)?;
     let at = find(&drafts, name)?;

@@ -25,7 +25,7 @@ fn short_tree(rng: &mut Rng) -> Vec<u8> {
     }
 }
 
-/// So many calls, each on the store that the call before has left, the first on so many zero bytes; after each third one a return to one of the names, and in the end
+/// This many calls, each on the store that the call before has left, the first on this many zero bytes; after each third one a return to one of the names, and in the end
 /// to each, and to one that was never saved.
 fn series(lines: &mut Lines, rng: &mut Rng, length: usize, calls: usize) {
     lines.title(&format!("A series of calls from {length} zero bytes"));
@@ -106,7 +106,7 @@ fn name_of(rng: &mut Rng, store: &[u8]) -> u8 {
     }
 }
 
-/// So many stores of the form and so many with a fault, as a rule: a call that writes, and a return.
+/// This many stores of the right form and this many with a fault, as a rule: a call that writes, and a return.
 fn random_stores(lines: &mut Lines, rng: &mut Rng, many: usize) {
     lines.title("Random stores");
     let kinds = [stores::store, stores::damaged_store];

@@ -23,7 +23,7 @@ pub fn columns(heights: &[usize], separator: usize, t: usize) -> Vec<usize> {
     columns
 }
 
-/// The Row of Columns that have so many of the cells, in order.
+/// The Row of Columns that have these numbers of the cells, in order.
 pub fn row(cells: &[Tree], columns: &[usize]) -> Tree {
     let mut rest = cells.iter();
     let column = |&count: &usize| Tree::Column(rest.by_ref().take(count).cloned().collect());

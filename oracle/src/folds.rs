@@ -99,7 +99,7 @@ fn refused_lists(lines: &mut Lines) {
     }
 }
 
-/// So many random lists of a few bytes, each with some widths and budgets.
+/// This many random lists of a few bytes, each with some widths and budgets.
 pub fn random_lists(lines: &mut Lines, rng: &mut Rng, lists: usize) {
     lines.title("Random lists");
     let mut left = lists;

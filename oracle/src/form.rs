@@ -1,6 +1,6 @@
 //! Settings and trees as plain values, and the byte forms of documents 01 and 02 of them.
 
-/// The white edge around a sheet: document 02's second settings field, its numbers as they stand in the bytes.
+/// The white edge around a sheet: document 02's second settings field, its numbers as they are in the bytes.
 #[derive(Debug, Clone, Copy, PartialEq, Eq)]
 pub struct Margin {
     /// Left, right, top, bottom.
@@ -16,14 +16,14 @@ impl Margin {
         fills: [b' '; 4],
     };
 
-    /// What stands beside a refusal.
+    /// The value beside a refusal.
     pub const BLANK: Margin = Margin {
         sizes: [0; 4],
         fills: [0; 4],
     };
 }
 
-/// The settings, their numbers as they stand in the bytes: document 01's record and document 02's margin.
+/// The settings, their numbers as they are in the bytes: document 01's record and document 02's margin.
 #[derive(Debug, Clone, Copy, PartialEq, Eq)]
 pub struct Settings {
     /// Top, bottom, left, right, horizontal, vertical, top_left, top_right, top_intersection, bottom_left, bottom_right,
@@ -66,7 +66,7 @@ impl Settings {
         margin: Margin::NONE,
     };
 
-    /// What stands beside a refusal.
+    /// The value beside a refusal.
     pub const BLANK: Settings = Settings {
         marks: [0; 15],
         padding: [0; 4],
@@ -325,7 +325,7 @@ pub struct Leaf {
     pub block: Vec<u8>,
 }
 
-/// Whose a place is (document 02, 5): 'the leaf's number and the line and column inside its block'.
+/// The leaf of a place (document 02, 5): 'the leaf's number and the line and column inside its block'.
 #[derive(Debug, Clone, Copy, Default, PartialEq, Eq)]
 pub struct Owner {
     pub node: usize,
@@ -333,7 +333,7 @@ pub struct Owner {
     pub column: usize,
 }
 
-/// Whose each place of a printed sheet is, line by line; no one's in the margin.
+/// The leaf of each place of a printed sheet, line by line; none in the margin.
 pub type Owners = Vec<Vec<Option<Owner>>>;
 
 /// A list folded for a height (document 02, 9).
@@ -371,7 +371,7 @@ pub struct Answer {
     pub sheet: Vec<u8>,
 }
 
-/// What `short_splits3` makes of a list.
+/// What `short_splits3` answers for a list.
 #[derive(Debug, Clone, PartialEq, Eq)]
 pub struct Cut3 {
     pub yes: bool,
@@ -380,7 +380,7 @@ pub struct Cut3 {
     pub pair: CutPair,
 }
 
-/// What `short_splits` makes of a list, and `squash_splits` of its positions.
+/// What `short_splits` answers for a list, and `squash_splits` for its positions.
 #[derive(Debug, Clone, PartialEq, Eq)]
 pub struct Cut {
     pub positions: Vec<usize>,

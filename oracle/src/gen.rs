@@ -105,7 +105,7 @@ impl Rng {
 
 // Exhaustive
 
-/// Every tree of exactly so many nodes whose Cells have these texts.
+/// Every tree of exactly this many nodes whose Cells have these texts.
 pub fn small_trees(nodes: usize, texts: &[&str]) -> Vec<Tree> {
     let mut trees: Vec<Vec<Tree>> = vec![Vec::new()];
     let mut forests: Vec<Vec<Vec<Tree>>> = vec![vec![Vec::new()]];
@@ -133,7 +133,7 @@ pub fn small_trees(nodes: usize, texts: &[&str]) -> Vec<Tree> {
     trees.swap_remove(nodes)
 }
 
-/// Every tree of at most so many bytes whose texts hold `a` and 0A.
+/// Every tree of at most this many bytes whose texts hold `a` and 0A.
 pub fn short_trees(bytes: usize) -> Vec<Tree> {
     fn forests(bytes: usize) -> Vec<Vec<Tree>> {
         let mut list = vec![Vec::new()];
@@ -191,7 +191,7 @@ pub fn two_groups(texts: &[&str]) -> Vec<Tree> {
     list
 }
 
-/// Every list of one to so many Cells with these texts.
+/// Every list of one to this many Cells with these texts.
 pub fn small_lists(cells: usize, texts: &[&str]) -> Vec<Tree> {
     let mut lists: Vec<Vec<Tree>> = vec![Vec::new()];
     let mut first = 0;
@@ -285,7 +285,7 @@ pub fn bare_settings() -> Vec<Settings> {
     few.map(Settings::bare).collect()
 }
 
-/// All byte strings of up to so many bytes, over a few that look like elements.
+/// All byte strings of up to this many bytes, over a few that look like elements.
 pub fn short_bytes(most: usize) -> impl Iterator<Item = Vec<u8>> {
     const FEW: [u8; 7] = [0, 1, 2, 3, 4, b'a', 0x0A];
     (0..=most).flat_map(|length| {
@@ -320,7 +320,7 @@ const RANGES: [&[u8]; 9] = [
     b"\x04\x00\x04\x00\x00\x01",
 ];
 
-/// Elements with a fault or none, each as node 512 or 513, at depth 16 or 17, both or neither: behind so many Cells of a Row, inside so
+/// Elements with a fault or none, each as node 512 or 513, at depth 16 or 17, both or neither: behind this many Cells of a Row, inside this
 /// many Rows more.
 pub fn faults() -> Vec<Vec<u8>> {
     faults_of(&LASTS)
@@ -408,7 +408,7 @@ fn margin(rng: &mut Rng) -> Margin {
     margin
 }
 
-/// Settings of the form, mostly with fifteen different marks.
+/// Settings of the right form, mostly with fifteen different marks.
 pub fn settings(rng: &mut Rng, margins: Margins) -> Settings {
     let mut bytes: Vec<u8> = (0x20..=0x7E).collect();
     for at in 0..19 {
@@ -447,7 +447,7 @@ pub fn settings(rng: &mut Rng, margins: Margins) -> Settings {
     rng.lined(settings)
 }
 
-/// Up to so many lines of up to so many columns.
+/// Up to this many lines of up to this many columns.
 pub fn text(rng: &mut Rng, width: usize, lines: usize) -> Vec<u8> {
     let mut text = Vec::new();
     for line in 0..rng.between(1, lines) {
@@ -488,7 +488,7 @@ fn group(rng: &mut Rng, children: Vec<Tree>) -> Tree {
     }
 }
 
-/// Trees of so many nodes together, each of at most this depth.
+/// Trees of this many nodes together, each of at most this depth.
 fn forest(rng: &mut Rng, nodes: usize, depth: usize, growth: Growth) -> Vec<Tree> {
     let mut list = Vec::new();
     let most = if rng.one_in(3) {
@@ -509,7 +509,7 @@ fn forest(rng: &mut Rng, nodes: usize, depth: usize, growth: Growth) -> Vec<Tree
     list
 }
 
-/// A tree of exactly so many nodes and at most this depth, which is 2 or more where there are two nodes.
+/// A tree of exactly this many nodes and at most this depth, which is 2 or more where there are two nodes.
 pub fn tree(rng: &mut Rng, nodes: usize, depth: usize, growth: Growth) -> Tree {
     if nodes == 1 {
         return leaf(rng, growth);
@@ -518,7 +518,7 @@ pub fn tree(rng: &mut Rng, nodes: usize, depth: usize, growth: Growth) -> Tree {
     group(rng, children)
 }
 
-/// A tree of exactly so many nodes and exactly this depth; nodes at least depth.
+/// A tree of exactly this many nodes and exactly this depth; nodes at least depth.
 pub fn tree_of_depth(rng: &mut Rng, nodes: usize, depth: usize, growth: Growth) -> Tree {
     if depth == 1 {
         return leaf(rng, growth);
@@ -550,7 +550,7 @@ pub const LIMITS: [Limit; 5] = [
     Limit::Bytes,
 ];
 
-/// Row of Columns (or the reverse) of so many nodes, which a sheet has room for.
+/// Row of Columns (or the reverse) of this many nodes, which fits a sheet.
 fn grid(rng: &mut Rng, nodes: usize) -> Tree {
     let growth = Growth { width: 3, lines: 1 };
     let is_row = rng.one_in(2);
@@ -570,7 +570,7 @@ fn grid(rng: &mut Rng, nodes: usize) -> Tree {
     }
 }
 
-/// So many text bytes in lines of this width.
+/// This many text bytes in lines of this width.
 fn long_text(rng: &mut Rng, bytes: usize, width: usize) -> Vec<u8> {
     (1..=bytes)
         .map(|at| {
@@ -583,7 +583,7 @@ fn long_text(rng: &mut Rng, bytes: usize, width: usize) -> Vec<u8> {
         .collect()
 }
 
-/// A tree of exactly so many bytes; its texts are long.
+/// A tree of exactly this many bytes; its texts are long.
 fn tree_of_bytes(rng: &mut Rng, bytes: usize) -> Tree {
     let cells = rng.between(4, 6);
     let texts = bytes - 3 - 3 * cells;
@@ -654,7 +654,7 @@ fn tree_of_extent(rng: &mut Rng, settings: &Settings, target: usize, is_width: b
     }
 }
 
-/// Settings and a tree that stand exactly so far from a limit.
+/// Settings and a tree that are exactly this far from a limit.
 pub fn near(rng: &mut Rng, margins: Margins, limit: Limit, offset: isize) -> (Settings, Tree) {
     let at = |limit: usize| limit.checked_add_signed(offset).expect("a small offset");
     let growth = Growth { width: 3, lines: 2 };
@@ -685,7 +685,7 @@ pub fn near(rng: &mut Rng, margins: Margins, limit: Limit, offset: isize) -> (Se
     (settings, tree)
 }
 
-/// The set D, or D without lines, with a margin of these sizes, and a Cell over another: W is so far from its limit, and H from its.
+/// The set D, or D without lines, with a margin of these sizes, and a Cell over another: W is this far from its limit, and H from its.
 pub fn corner(d: Settings, sizes: [u8; 4], width: isize, height: isize) -> (Settings, Tree) {
     let at =
         |limit: usize, offset: isize| limit.checked_add_signed(offset).expect("a small offset");
@@ -693,7 +693,7 @@ pub fn corner(d: Settings, sizes: [u8; 4], width: isize, height: isize) -> (Sett
     let separator = paper::separator(&d);
     // The padding; the sheet's edge.
     let letters = at(judge::SHEET_WIDTH, width) - 2 - 2 * separator - left - right;
-    // The line of the Cell above, and the one that no feed ends; the sheet's edge, and the line between.
+    // The line of the Cell above, and the one that no line feed ends; the sheet's edge, and the line between.
     let feeds = at(judge::SHEET_HEIGHT, height) - 2 - 3 * separator - top - bottom;
     let settings = Settings {
         margin: Margin {
@@ -758,7 +758,7 @@ pub fn table(rng: &mut Rng, margins: Margins) -> (Settings, Tree) {
 
 // Lists to fold
 
-/// A list of so many Cells.
+/// A list of this many Cells.
 fn list_of(rng: &mut Rng, cells: usize, growth: Growth) -> Tree {
     let cell = |_| Tree::Cell(text(rng, growth.width, growth.lines));
     Tree::Column((0..cells).map(cell).collect())
@@ -870,7 +870,7 @@ pub fn any_list(rng: &mut Rng) -> (Vec<u8>, Vec<u8>) {
 
 // Planning trees
 
-/// Every planning tree of exactly so many nodes whose leaves are empty groups, two texts and three ranges.
+/// Every planning tree of exactly this many nodes whose leaves are empty groups, two texts and three ranges.
 pub fn small_plans(nodes: usize) -> Vec<Plan> {
     const RANGES: [Range; 3] = [
         Range {
@@ -907,7 +907,7 @@ fn range(rng: &mut Rng, most: usize, spread: usize) -> Range {
     }
 }
 
-/// Ranges and a Cell that fills up: a planning tree of exactly so many bytes.
+/// Ranges and a Cell that fills up: a planning tree of exactly this many bytes.
 fn plan_of_bytes(rng: &mut Rng, bytes: usize) -> Plan {
     let ranges = rng.between(1, 40);
     let range = |_| Plan::Range(range(rng, 255, 255));
@@ -991,7 +991,7 @@ fn bad_cell(rng: &mut Rng) -> Plan {
     })
 }
 
-/// The planning tree with such a one in the place of one or two of its Cells and ranges.
+/// The planning tree with such a one instead of one or two of its Cells and ranges.
 fn spoilt(rng: &mut Rng, mut plan: Plan) -> Plan {
     let mut cells = plan.cells_mut();
     if !cells.is_empty() {
@@ -1027,7 +1027,7 @@ pub fn any_plan(rng: &mut Rng) -> (Vec<u8>, Vec<u8>) {
 
 // Trees to widen
 
-/// Stairs: a Column of so many Cells of 0, 1, 2 .. letters.
+/// Stairs: a Column of this many Cells of 0, 1, 2 .. letters.
 fn stairs(cells: usize) -> Tree {
     Tree::Column((0..cells).map(|n| Tree::Cell(vec![b'w'; n])).collect())
 }
@@ -1164,7 +1164,7 @@ pub fn around(rng: &mut Rng, needed: usize) -> usize {
     }
 }
 
-/// A case for these bytes: the node is mostly a leaf, the lengths lie around what is needed.
+/// A case for these bytes: the node is mostly a leaf, the lengths are close to what is needed.
 pub fn case(rng: &mut Rng, settings: Vec<u8>, tree: Vec<u8>) -> Case {
     let read = judge::read(&settings, &tree).ok();
     let nodes = read.as_ref().map_or(1, |read| read.sizes.len());
@@ -1218,7 +1218,7 @@ pub fn any_case(rng: &mut Rng, margins: Margins) -> Case {
 /// Steps far out of a sheet: 0 in their lower 8, 16 or 32 bits, or 1 in all of 32 or 64.
 const FAR: [usize; 5] = [1 << 8, 1 << 16, u32::MAX as usize, 1 << 32, usize::MAX];
 
-/// Places so far from a place: below it, to the right of it, and both.
+/// Places this far from a place: below it, to the right of it, and both.
 pub fn far_from((line, column): (usize, usize)) -> impl Iterator<Item = (usize, usize)> {
     FAR.into_iter().flat_map(move |far| {
         let (below, right) = (line.saturating_add(far), column.saturating_add(far));
@@ -1226,7 +1226,7 @@ pub fn far_from((line, column): (usize, usize)) -> impl Iterator<Item = (usize, 
     })
 }
 
-/// A line or a column of a sheet that has so many before its inside, inside and in all: mostly any of them, else at an edge, or far outside. Of none at all it is the first
+/// A line or a column of a sheet that has this many before its inside, inside and in all: mostly any of them, else at an edge, or far outside. Of none at all it is the first
 /// that there would be.
 fn coordinate(rng: &mut Rng, before: usize, inside: usize, all: usize) -> usize {
     let after = before + inside;
@@ -1260,7 +1260,7 @@ fn inside(rng: &mut Rng, read: &judge::Read) -> (usize, usize) {
     )
 }
 
-/// So many places of a sheet inside its margin, where it has one, each third one a repeat.
+/// This many places of a sheet inside its margin, where it has one, each third one a repeat.
 pub fn insides(rng: &mut Rng, read: &judge::Read, count: usize) -> Vec<(usize, usize)> {
     let mut list = Vec::new();
     while list.len() < count {

@@ -334,7 +334,7 @@ pub fn tree(tree: &[u8]) -> u8 {
     number(read_tree(tree))
 }
 
-/// The size collector, lent a list of so many entries.
+/// The size collector, lent a list of this many entries.
 pub fn sizes(settings: &[u8], tree: &[u8], list: usize) -> u8 {
     number(read(settings, tree).and_then(|read| {
         if list < read.sizes.len() {
@@ -352,7 +352,7 @@ pub fn leaf_record(settings: &[u8], tree: &[u8], node: usize) -> u8 {
     }))
 }
 
-/// The leaf printer, lent so many bytes.
+/// The leaf printer, lent this many bytes.
 pub fn leaf(settings: &[u8], tree: &[u8], node: usize, output: usize) -> u8 {
     number(read(settings, tree).and_then(|read| {
         read.fits()?;
@@ -372,7 +372,7 @@ pub fn leaf_bytes(settings: &[u8], tree: &[u8], node: usize) -> Option<usize> {
     Some(read.block_bytes(&leaf))
 }
 
-/// The sheet printer, lent so many bytes.
+/// The sheet printer, lent this many bytes.
 pub fn sheet(settings: &[u8], tree: &[u8], output: usize) -> u8 {
     number(shown(settings, tree).and_then(|read| {
         if output < read.sheet_bytes() {
@@ -394,12 +394,12 @@ pub fn place(settings: &[u8], tree: &[u8], line: usize, column: usize) -> u8 {
     number(shown(settings, tree).and_then(|read| read.place(line, column)))
 }
 
-/// The leaves of many places, lent a list of so many answers: '14 .. after 7'.
+/// The leaves of many places, lent a list of this many answers: '14 .. after 7'.
 pub fn places(settings: &[u8], tree: &[u8], places: &[(usize, usize)], list: usize) -> u8 {
     number(shown(settings, tree).and_then(|read| read.places(places, list)))
 }
 
-/// The fold of a list, lent so many entries: '15 .., then 16 ..; these come after 2 to 5, and a short answer list is 8, after them'.
+/// The fold of a list, lent this many entries: '15 .., then 16 ..; these come after 2 to 5, and a short answer list is 8, after them'.
 pub fn fold(settings: &[u8], tree: &[u8], width: usize, budget: usize, list: usize) -> u8 {
     number(read(settings, tree).and_then(|read| {
         let cells = read.cells()?;
@@ -417,7 +417,7 @@ pub fn plan(settings: &[u8], tree: &[u8]) -> u8 {
     number(planning::read(settings, tree))
 }
 
-/// The letters that widen a sheet, lent so many entries for the nodes and for the numbers: 'a short list is 8'. There is no 6: 'the limits on W and the tree's bytes put
+/// The letters that widen a sheet, lent this many entries for the nodes and for the numbers: 'a short list is 8'. There is no 6: 'the limits on W and the tree's bytes put
 /// aside'.
 pub fn widen(settings: &[u8], tree: &[u8], nodes: usize, letters: usize) -> u8 {
     number(read(settings, tree).and_then(|read| {
@@ -428,7 +428,7 @@ pub fn widen(settings: &[u8], tree: &[u8], nodes: usize, letters: usize) -> u8 {
     }))
 }
 
-/// Either cut of a list with so many pieces.
+/// Either cut of a list with this many pieces.
 pub fn cut(count: usize) -> u8 {
     if count > PIECES {
         10
@@ -437,7 +437,7 @@ pub fn cut(count: usize) -> u8 {
     }
 }
 
-/// Either cut of the first `count` of so many lent pieces, as C has it; `lists` says of each list that it writes how long it is and how long it must be. 'Calls check in table
+/// Either cut of the first `count` of this many lent pieces, as in C; `lists` says of each list that it writes how long it is and how long it must be. 'Calls check in table
 /// order', which has 8 above 10.
 pub fn lent_cut(count: usize, pieces: usize, lists: &[(usize, usize)]) -> u8 {
     if pieces < count || lists.iter().any(|&(length, needed)| length < needed) {

@@ -14,7 +14,7 @@ pub struct Lines {
     pub original: Original,
 }
 
-/// Bytes as they stand, all but `\` and those that are not printable, which are `\` and two hex digits.
+/// Bytes as they are, all but `\` and those that are not printable, which are `\` and two hex digits.
 fn escaped(bytes: &[u8]) -> String {
     bytes
         .iter()
@@ -173,7 +173,7 @@ impl Lines {
         places.iter().for_each(|&place| self.place(place));
     }
 
-    /// So many places together, those given over and over, with room for so many answers; then the number and the elements read, the places given, and their
+    /// This many places together, the given ones repeated, with room for this many answers; then the number and the elements read, the places given, and their
     /// answers.
     pub fn marks(&mut self, room: usize, count: usize, given: &[(usize, usize)]) {
         let places: Vec<(usize, usize)> = given.iter().copied().cycle().take(count).collect();
@@ -197,7 +197,7 @@ impl Lines {
         );
     }
 
-    /// A list folded within a width, with a budget of tries and room for so many Columns; then the number, the Columns, the height, the tries and the miss, and the
+    /// A list folded within a width, with a budget of tries and room for this many Columns; then the number, the Columns, the height, the tries and the miss, and the
     /// cells in each Column.
     pub fn fold(&mut self, room: usize, width: usize, budget: usize) {
         let mut columns = vec![0; room];
@@ -227,7 +227,7 @@ impl Lines {
         self.line('e', &words(&ends));
     }
 
-    /// The letters that widen the sheet, with room for so many nodes and so many numbers; then the number and the count, and the node and the letters of each Cell.
+    /// The letters that widen the sheet, with room for this many nodes and this many numbers; then the number and the count, and the node and the letters of each Cell.
     pub fn widen(&mut self, (room, other): (usize, usize)) {
         let (mut nodes, mut letters) = (vec![0; room], vec![0; other]);
         let (settings, tree) = (&self.settings, &self.tree);
@@ -244,7 +244,7 @@ impl Lines {
         );
     }
 
-    /// The store that the next call is about, where the last one has not left it so. It stands where settings do.
+    /// The store for the next call, where the last one has not left it so. It is written as settings are.
     fn store(&mut self, store: &[u8]) {
         if self.settings != store {
             self.settings = store.to_vec();

@@ -224,7 +224,7 @@ pub fn is_even(leaf: &Leaf) -> bool {
     leaf.width > 0 && lines.all(|columns| Some(columns) == first)
 }
 
-/// All that the original says about a table. Panics where the stand-in `Table` filled up though each block is even: no compared sheet
+/// All that the original answers for a table. Panics where the stand-in `Table` filled up though each block is even: no compared sheet
 /// rests on how it fills.
 pub fn answer(settings: &Settings, tree: &Tree) -> Answer {
     let Seen { answer, uneven } = seen(settings, tree);
@@ -233,7 +233,7 @@ pub fn answer(settings: &Settings, tree: &Tree) -> Answer {
     answer
 }
 
-/// Whose each place of the sheet is. The original does not say it, but shows it: it joins its blocks' lines side by side in a Row, one under the other in a Column,
+/// The leaf of each place of the sheet. The original does not say it, but shows it: it joins its blocks' lines side by side in a Row, one under the other in a Column,
 /// and puts the margin around them. So are their places joined here. Panics where the sheet's byte at a place is not that of its owner's block.
 pub fn owners(settings: &Settings, tree: &Tree, answer: &Answer) -> Owners {
     /// A place with the byte of the block there.
@@ -359,7 +359,7 @@ pub fn ends(settings: &Settings, plan: &Plan) -> Ends {
 }
 
 /// The Cells with the letters that each needs to widen the sheet (document 02, 11). The number is guessed: of very many letters those that only filled up are missing in
-/// the width. Panics where by the original's sizes one letter less changes the width, or so many do not make it larger.
+/// the width. Panics where by the original's sizes one letter less changes the width, or this many do not make it larger.
 pub fn needs(settings: &Settings, tree: &Tree) -> Vec<Need> {
     let width = |tree: &Tree| naturals(settings, tree)[0].0;
     let natural = width(tree);
@@ -405,7 +405,7 @@ pub fn cut(list: &[usize], width: usize) -> Cut {
     }
 }
 
-/// The parts of `n` children, out of a table with so much spare: a Row of empty Cells under a Cell that is wider by it.
+/// The parts of `n` children, out of a table with this much spare: a Row of empty Cells under a Cell that is wider by it.
 pub fn shares_of_width(spare: usize, n: usize, priority: u8) -> Vec<usize> {
     let settings = Settings {
         padding: [0; 4],

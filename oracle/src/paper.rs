@@ -1,5 +1,5 @@
 //! The words of documents 01 and 02 as plain Rust: sizes, sharing, cuts, flags, blocks, the sheet and its margin. It follows the documents'
-//! sentences and shares no code with the crate or the port, so that the crate and the documents can be held side by side by running. The headings
+//! sentences and shares no code with the crate or the port, so that the crate and the documents can be compared by running. The headings
 //! are document 01's.
 
 use crate::form::{Answer, Cut, Cut3, CutPair, Flags, Leaf, Owner, Owners, Settings, Size, Tree};
@@ -348,7 +348,7 @@ fn line_start(settings: &Settings, leaf: usize, text: &[u8], line: &[u8]) -> usi
     left + indent(settings.horizontal, leaf - left - right - widest)
 }
 
-/// What stands between the marks, line by line: 'top indent (spaces), top padding (its fill), text, bottom padding, bottom indent'.
+/// What is between the marks, line by line: 'top indent (spaces), top padding (its fill), text, bottom padding, bottom indent'.
 fn body(settings: &Settings, leaf: &Leaf, text: &[u8]) -> Vec<Vec<u8>> {
     let [pad_left, pad_right, pad_top, pad_bottom] = padding(settings);
     let [fill_left, fill_right, fill_top, fill_bottom] = settings.fills;
@@ -399,7 +399,7 @@ fn corners(settings: &Settings, flags: Flags) -> [u8; 3] {
     [top_left_mark, top_right_mark, bottom_left_mark]
 }
 
-/// The block of a leaf. Without lines it is what stands between the marks: 'no marks printed' (document 02, 13).
+/// The block of a leaf. Without lines it is what is between the marks: 'no marks printed' (document 02, 13).
 fn block(settings: &Settings, leaf: &Leaf, text: &[u8]) -> Vec<u8> {
     let body = body(settings, leaf, text);
     if separator(settings) == 0 {
@@ -521,7 +521,7 @@ fn sheet(settings: &Settings, nodes: &Nodes, sizes: &[Size], leaves: &[Leaf]) ->
     lines.join(&0x0A)
 }
 
-/// Whose each place of the printed sheet is. 'Every byte of every block, its line feeds apart, leads back to that leaf and place': so each of them is gone through,
+/// The leaf of each place of the printed sheet. 'Every byte of every block, its line feeds apart, leads back to that leaf and place': so each of them is gone through,
 /// from its leaf's start on, which counts from the rectangle inside the margin. Panics where two lead to one place.
 pub fn owners(settings: &Settings, tree: &Tree, answer: &Answer) -> Owners {
     let nodes = Nodes::of(tree);
@@ -543,7 +543,7 @@ pub fn owners(settings: &Settings, tree: &Tree, answer: &Answer) -> Owners {
     owners
 }
 
-/// A line of a text where it stands in a block, or in the sheet as printed: 'the texts' own bytes' (document 02, 14). Padding, indent and the spaces after a line are none.
+/// A line of a text where it is in a block, or in the sheet as printed: 'the texts' own bytes' (document 02, 14). Padding, indent and the spaces after a line are none.
 #[derive(Debug, Clone, Copy, PartialEq, Eq)]
 pub struct Own<'a> {
     pub line: usize,
@@ -552,7 +552,7 @@ pub struct Own<'a> {
     pub bytes: &'a [u8],
 }
 
-/// The lines of a leaf's text where they stand in its block; those without a byte are nowhere.
+/// The lines of a leaf's text where they are in its block; those without a byte are nowhere.
 fn own_of_leaf<'a>(settings: &Settings, size: Size, text: &'a [u8]) -> Vec<Own<'a>> {
     let edge = separator(settings);
     let (above, _) = indents(settings, size.allotted_height, text);
@@ -606,7 +606,7 @@ fn blanks(settings: &Settings, leaf: &Leaf, text: &[u8]) -> Vec<usize> {
     printed.take_while(|line| !texts.contains(line)).collect()
 }
 
-/// The block without the blank that stands before each of these lines. Panics where none stands there.
+/// The block without the blank before each of these lines. Panics where there is none.
 fn without(block: &[u8], blanks: &[usize]) -> Vec<u8> {
     let mut lines = lines(block);
     for &line in blanks {

@@ -37,7 +37,7 @@ const FAR: [(usize, usize); 5] = [
     (1, 2 + (1 << 16)),
 ];
 
-/// Sheets by hand, with places at their edges and where leaves meet: document 02's examples, one Cell, the widest and the highest sheet, one of 512 nodes.
+/// Sheets by hand, with places at their edges and where leaves meet: the readings' examples, one Cell, the widest and the highest sheet, one of 512 nodes.
 fn edges(lines: &mut Lines) {
     let beside = Tree::Row(vec![Tree::Column(a_b()), Tree::cell("c")]);
     let (m, figure_2) = (encode_settings(&Settings::M), encode_tree(&figure_2()));
@@ -95,7 +95,7 @@ fn nodes_512(lines: &mut Lines) {
     lines.repeated(&encode_settings(&Settings::M), &[3, 0x05, 0xFD], 7, &row);
 }
 
-/// Sheets that are refused with 1 to 6, and what is asked of each.
+/// Sheets that are refused with 1 to 6, and the places looked up in each.
 fn refused_sheets(lines: &mut Lines, ask: fn(&mut Lines)) {
     lines.title("Refused sheets");
     let m = encode_settings(&Settings::M);
@@ -120,7 +120,7 @@ fn refused_sheets(lines: &mut Lines, ask: fn(&mut Lines)) {
     }
 }
 
-/// So many random tables of a few bytes, and what is asked of each.
+/// This many random tables of a few bytes, and the places looked up in each.
 pub fn random_tables(
     lines: &mut Lines,
     rng: &mut Rng,
@@ -141,7 +141,7 @@ pub fn random_tables(
     }
 }
 
-/// Lists by hand: document 02's examples, about as many places as a list may have, some of 512 nodes, and all of a sheet with a blank leaf, over and over.
+/// Lists by hand: the readings' examples, about as many places as a list may have, some of 512 nodes, and all of a sheet with a blank leaf, over and over.
 fn lists(lines: &mut Lines) {
     lines.title("Places together");
     lines.given(&encode_settings(&EDGED), &encode_tree(&figure_2()));

@@ -5,7 +5,7 @@ use crate::form::{Ends, Plan, Range, Settings, Tree};
 use crate::judge::{self, DEPTH, NODES, TREE_BYTES};
 use crate::paper;
 
-/// The elements met so far.
+/// The elements seen so far.
 struct Reader {
     nodes: usize,
 }
@@ -154,7 +154,7 @@ pub fn choices(ranges: &[Range]) -> Vec<Choice> {
     (0..count).map(nth).collect()
 }
 
-/// A text of this width and so many lines: one of them has the width, which one is told by `at`; the others have a letter, or none.
+/// A text of this width and this many lines: the one that `at` chooses has the width; the others have a letter, or none.
 pub fn text_of(width: usize, lines: usize, at: usize) -> Vec<u8> {
     let line = |n: usize| vec![b'x'; if n == at % lines { width } else { width.min(1) }];
     (0..lines).map(line).collect::<Vec<_>>().join(&0x0A)

@@ -77,7 +77,7 @@ fn refused_plans(lines: &mut Lines) {
     }
 }
 
-/// So many random settings, each with four planning trees of a few bytes and two that are refused.
+/// This many random settings, each with four planning trees of a few bytes and two that are refused.
 pub fn random_plans(lines: &mut Lines, rng: &mut Rng, many: usize) {
     lines.title("Random plans");
     let mut refused = [17, 3, 17, 2].into_iter().cycle();

@@ -7,7 +7,7 @@ use crate::judge;
 use crate::lines::Lines;
 use crate::{bare, blanks, drafts, folds, places, plans, widths};
 
-/// The same tree with these texts in its Cells, by turns.
+/// The same tree with these texts in its Cells, alternately.
 fn with_texts(tree: &Tree, texts: &mut impl Iterator<Item = &'static str>) -> Tree {
     let mut group = |children: &[Tree]| {
         children
@@ -22,7 +22,7 @@ fn with_texts(tree: &Tree, texts: &mut impl Iterator<Item = &'static str>) -> Tr
     }
 }
 
-/// Every shape of up to four nodes, under one of two settings: sheets. Rows and Columns come by turns, so the settings change with every
+/// Every shape of up to four nodes, under one of two settings: sheets. Rows and Columns alternate, so the settings change with every
 /// second shape.
 fn shapes(lines: &mut Lines) {
     lines.title("Every shape of up to 4 nodes");
@@ -172,7 +172,7 @@ fn margins(lines: &mut Lines, rng: &mut Rng, most: usize, count: usize) {
     }
 }
 
-/// Margins that are not of the form, random damage to settings with a margin, and both sides of the limits that a margin moves.
+/// Margins that are not of the right form, random damage to settings with a margin, and both sides of the limits that a margin moves.
 fn bad_margins(lines: &mut Lines, rng: &mut Rng, count: usize) {
     lines.title("Margins out of form");
     let cell = encode_tree(&Tree::cell("ab"));
@@ -278,7 +278,7 @@ fn lines(seed: u64) -> [String; 2] {
     [good.text, faulty.text]
 }
 
-/// The files of the program's data/, in the order of its arguments. The first line says whose the others are.
+/// The files of the program's data/, in the order of its arguments. The first line names the library of the others.
 pub fn files(seed: u64) -> [(&'static str, String); 11] {
     let [tables, faults] = lines(seed);
     let [bare, bare_places] = bare::lines(seed);

@@ -133,7 +133,7 @@ impl<T> Last<T> {
     }
 }
 
-/// A side made of answers and the judge's refusals. It keeps its last answer, its last sheet, its last list and its last needs: a comparison asks for every node of one
+/// A side made of answers and the judge's refusals. It keeps its last answer, its last sheet, its last list and its last needs: a comparison makes calls for every node of one
 /// table, for every place, for many folds, and with lists of many lengths.
 #[derive(Debug, Default)]
 pub struct Side<A> {

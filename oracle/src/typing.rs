@@ -1,4 +1,4 @@
-//! Typed lists: plain text, one row, column or text to a line, read into a tree's bytes; and a tree typed. It follows the sentences of the form as they were handed over, which
+//! Typed lists: plain text, one row, column or text to a line, read into a tree's bytes; and a tree typed. It follows the sentences of the form as they were given, which
 //! docs/FORMS.md ('Typed lists') has in its own words, and shares no code with the port.
 
 use std::iter::Peekable;
@@ -9,7 +9,7 @@ use crate::judge::{DEPTH, NODES, TREE_BYTES};
 /// 'A list has at most 131,072 bytes.'
 pub const LIST_BYTES: usize = 131_072;
 
-/// What is wrong, and where: 'line and column count from 1'. Both are 0 where no place is told.
+/// What is wrong, and where: 'line and column count from 1'. Both are 0 where no place is reported.
 #[derive(Debug, Clone, Copy, PartialEq, Eq)]
 pub struct Fault {
     pub number: u8,
@@ -41,7 +41,7 @@ fn lines(list: &[u8]) -> impl Iterator<Item = &[u8]> {
     lines.map(|line| line.strip_suffix(b"\r").unwrap_or(line))
 }
 
-/// 'The line's first bad byte': 31 or 32, and how many bytes stand before it. Of a byte behind a backslash that may stand in no text the sentences do not say which of the two it is; here
+/// 'The line's first bad byte': 31 or 32, and how many bytes are before it. For a byte behind a backslash that no text may have the sentences do not say which of the two it is; here
 /// it is 32 (FAITHFUL.md, 'Differences found').
 fn bad_byte(line: &[u8]) -> Option<(u8, usize)> {
     let mut is_escaped = false;
@@ -181,7 +181,7 @@ pub fn read(list: &[u8]) -> Result<Tree, Fault> {
     Ok(tree(&mut typed.nodes.into_iter().peekable()))
 }
 
-/// The bytes of the tree, for a buffer of so many; or its fault, '8 last'.
+/// The bytes of the tree, for a buffer of this many; or its fault, '8 last'.
 pub fn read_into(list: &[u8], buffer: usize) -> Result<Vec<u8>, Fault> {
     let tree = encode_tree(&read(list)?);
     if buffer < tree.len() {

@@ -34,7 +34,7 @@ fn text_mut(tree: &mut Tree, node: usize) -> &mut Vec<u8> {
     }
 }
 
-/// The tree with so many letters 'added to [the] longest line alone' of the Cell with this node. Where several lines are longest, one of them gets the letters.
+/// The tree with this many letters 'added to [the] longest line alone' of the Cell with this node. Of several longest lines one gets the letters.
 pub fn widened(tree: &Tree, node: usize, letters: usize) -> Tree {
     let mut tree = tree.clone();
     let text = text_mut(&mut tree, node);

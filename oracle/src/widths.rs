@@ -1,6 +1,6 @@
 //! The letters that widen a sheet as lines (document 02, 11), by the crate's sizes of trees with letters added. Settings and trees are given as in the replays:
 //!   = the settings' bytes      : the tree's bytes      + N, bytes: these go on the tree N times
-//! Room for so many nodes and so many numbers of letters, then the number and the count, then the node and the letters of each Cell, or none:
+//! Room for this many nodes and this many numbers of letters, then the number and the count, then the node and the letters of each Cell, or none:
 //!   n NODES LETTERS, NUMBER COUNT, NODE LETTERS NODE LETTERS ..
 
 use crate::form::{encode_settings, encode_tree, Settings, Tree};
@@ -56,7 +56,7 @@ fn refused_trees(lines: &mut Lines) {
     }
 }
 
-/// So many random settings, each with four trees of a few bytes: with as much room as is needed or more, then with too little in one list or in both; and with one
+/// This many random settings, each with four trees of a few bytes: with as much room as is needed or more, then with too little in one list or in both; and with one
 /// tree that is refused.
 pub fn random_trees(lines: &mut Lines, rng: &mut Rng, settings: usize) {
     lines.title("Random trees");

@@ -1,6 +1,6 @@
 //! Stand-in for `Table`, as far as `table_pool.rs` uses it: `builder.build()`, `with(Style::empty())`, `with(Padding::zero())`, `to_string()`.
-//! It assumes (document 01: 'a sheet printer that lays blocks side by side'): the texts of a record stand side by side, line by line;
-//! the records stand one under the other; lines are joined by 0A, none at the end.
+//! It assumes (document 01: 'a sheet printer that lays blocks side by side'): the texts of a record are side by side, line by line;
+//! the records are one under another; lines are joined by 0A, none at the end.
 //! A text that is narrower than its column or lower than its record is filled with spaces on the right and below (FAITHFUL.md, 'How Table joins');
 //! `uneven` counts the joins where this happened.
 
@@ -21,7 +21,7 @@ thread_local! {
     static UNEVEN: Cell<usize> = const { Cell::new(0) };
 }
 
-/// How many joins met texts of unequal height in a record or of unequal width in a column, since the last call.
+/// How many joins had texts of unequal height in a record or of unequal width in a column, since the last call.
 pub fn uneven() -> usize {
     UNEVEN.with(|count| count.replace(0))
 }

@@ -304,13 +304,13 @@ fn has_range(tree: &[u8]) -> bool {
     planning::read_plan(tree).is_ok_and(|plan| !plan.ranges().is_empty())
 }
 
-/// Whether a range with its least above its greatest stands somewhere in the bytes.
+/// Whether a range with its least above its greatest is somewhere in the bytes.
 fn has_bad_range(tree: &[u8]) -> bool {
     let mut parts = tree.windows(7);
     parts.any(|part| matches!(part, [4, 0, 4, a, b, c, d] if a > b || c > d))
 }
 
-/// The tree with an empty Cell in the place of each empty Row and Column.
+/// The tree with an empty Cell instead of each empty Row and Column.
 fn filled(tree: &Tree) -> Tree {
     let list = |children: &[Tree]| children.iter().map(filled).collect();
     match tree {
@@ -552,7 +552,7 @@ impl Calls for Faulty {
             // An answer, or the elements read, beside a refusal.
             41 if number == 12 && !answers.is_empty() => answers[0] = Owner::default(),
             42 if number == 8 => answer.read = 1,
-            // No walk for no places; the answers counted in the place of the elements.
+            // No walk for no places; the answers counted instead of the elements.
             43 if count == 0 => answer.read = 0,
             44 => answer.read = count,
             // The last place's refusal; 14 after the places; 14 for 256 of them; 8 before the places.
@@ -667,7 +667,7 @@ impl Calls for Faulty {
         let number = answer.number;
         let Ends { width, height } = &mut answer.ends;
         match self.fault {
-            // A range where it stands alone: of another length 17; without a line, or without a column, 0 or 17; of one size 17.
+            // A range alone: of another length 17; without a line, or without a column, 0 or 17; of one size 17.
             76 if number == 2 && tree.first() == Some(&4) => answer = refused(17),
             77 if number == 17 && matches!(tree, [4, 0, 4, a, b, 0, _] if a <= b) => {
                 answer.number = 0;
@@ -676,7 +676,7 @@ impl Calls for Faulty {
             79 if number == 0 && matches!(tree, [4, 0, 4, a, b, ..] if a == b) => {
                 answer = refused(17);
             }
-            // 17 before 5, before 4, and before what stands in a node before it; 6 for what is no sheet; ends beside a refusal.
+            // 17 before 5, before 4, and before what is in a node before it; 6 for what is no sheet; ends beside a refusal.
             80 if number == 5 && has_bad_range(tree) => answer = refused(17),
             81 if number == 4 && has_bad_range(tree) => answer = refused(17),
             82 if number == 3 && has_bad_range(tree) => answer = refused(17),
@@ -743,7 +743,7 @@ impl Calls for Faulty {
             // The letters that change nothing; one letter for every Cell.
             97 => letters[..count].iter_mut().for_each(|n| *n -= 1),
             98 => letters[..count].fill(1),
-            // A short list in the place of 2; a planning tree taken; a Cell alone not listed; no Cells as too short a list.
+            // A short list instead of 2; a planning tree taken; a Cell alone not listed; no Cells as too short a list.
             99 if number == 2 && nodes.is_empty() => answer = refused(8),
             100 if has_range(tree) => answer = refused(0),
             101 if tree.first() == Some(&1) && number == 0 => answer.count = 0,

@@ -1,4 +1,4 @@
-//! Document 02, 14: the comparison of alike trees finds a call whose answer hangs on a text's bytes, though both sides have it.
+//! Document 02, 14: the comparison of alike trees finds a call whose answer depends on a text's bytes, though both sides have it.
 
 use oracle::calls::{
     Calls, Counted, CutParts, CutPositions, Folded, LeafPlace, LeafRecord, Marked, Planned,
@@ -48,7 +48,7 @@ impl Swayed {
         }
     }
 
-    /// Whether a call on a store is swayed: its drafts have a dot.
+    /// Whether the fault shows in a call on a store: its drafts have a dot.
     fn is_swayed(&self, call: &'static str, store: &[u8]) -> bool {
         self.fault == Fault::Seen(call) && store.contains(&b'.')
     }

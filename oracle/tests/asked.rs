@@ -1,11 +1,11 @@
-//! What bytes ask for, as the fuzzer hands them over.
+//! The calls that bytes from the fuzzer make.
 
 use oracle::compare::{Comparison, Counts, NUMBERS};
 use oracle::gen::Rng;
 use oracle::sides::{Original, Paper};
 use oracle::{encode_settings, encode_tree, Settings, Tree};
 
-/// What both sides were asked by these bytes, which they agree on.
+/// The calls that these bytes make, on which both sides agree.
 fn asked<'a>(list: impl IntoIterator<Item = &'a Vec<u8>>) -> Counts {
     let (mut one, mut other) = (Original::default(), Paper::default());
     let mut comparison = Comparison::new(&mut one, &mut other);
@@ -41,7 +41,7 @@ fn every_call_is_asked() {
     }
 }
 
-/// No byte asks for nothing; settings and a tree behind the bytes that choose are handed over as they are.
+/// An empty input makes no call; settings and a tree behind the bytes that choose are passed on as they are.
 #[test]
 fn an_input_is_handed_over() {
     assert_eq!(asked(&[vec![]]).total(), 0);

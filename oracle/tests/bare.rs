@@ -32,7 +32,7 @@ fn edged(settings: Settings, sizes: [u8; 4]) -> Settings {
     }
 }
 
-/// The sheet on both sides. The judge wants as many bytes, and no fewer.
+/// The sheet on both sides. The judge requires as many bytes, and no fewer.
 fn sheet(settings: &Settings, tree: &Tree) -> String {
     let sheet = paper::answer(settings, tree).sheet;
     assert_eq!(Crate.answer(settings, tree).sheet, sheet);
@@ -116,7 +116,7 @@ fn records() {
     assert_eq!((bare.width, bare.height), (6, 1));
     assert_eq!(bare.horizontal.list(), [3, 3]);
     assert_eq!((bare.flags, bare.pair), (lined.flags, lined.pair));
-    // 'The list, cut and squashed, still names columns 3, and nothing prints them.'
+    // A reading: 'The list, cut and squashed, still names columns 3, and nothing prints them.'
     assert_eq!(original::cut(&[3, 3], 6).squashed, [3]);
     assert_eq!(block(&Settings::N, &tree, 4), " c    ");
 }
@@ -143,7 +143,7 @@ fn limits() {
     }
 }
 
-/// Sheets of no columns: H − 1 feeds, and a margin around them where there is one.
+/// Sheets of no columns: H − 1 line feeds, and a margin around them where there is one.
 #[test]
 fn no_columns() {
     for (settings, tree, printed) in [
@@ -166,7 +166,7 @@ fn no_columns() {
     assert_eq!(block(&Settings::N0, &cell(""), 0), "");
 }
 
-/// The sheet program's input, as the judge parts it.
+/// The sheet program's input, as the judge splits it.
 #[test]
 fn the_program() {
     for (tree, printed) in [(&b"\x01\x00\x00"[..], ""), (b"\x01\x00\x01\n", "\n")] {
@@ -177,7 +177,7 @@ fn the_program() {
     }
 }
 
-/// No place lies in a leaf of no columns, which may start where its neighbour does.
+/// No place is in a leaf of no columns, which may start where its neighbour does.
 #[test]
 fn places() {
     let place = |tree: &Tree, line: usize, column: usize| {
@@ -228,7 +228,7 @@ fn mixtures() {
     }
 }
 
-/// The second pair of trees of document 02, 14: without lines, with a margin, each line right by itself.
+/// The second pair of trees of the readings of document 02, 14: without lines, with a margin, each line right by itself.
 #[test]
 fn question_and_key() {
     let settings = Settings {

@@ -13,7 +13,7 @@ fn hex(text: &str) -> Vec<u8> {
     text.split_whitespace().map(byte).collect()
 }
 
-/// The sheet of both sides, with so many bytes lent.
+/// The sheet of both sides, with this many bytes lent.
 fn sheet(settings: &[u8], tree: &[u8], length: usize) -> Result<String, u8> {
     let run = |side: &mut dyn Calls| {
         let mut output = vec![0; length];
@@ -37,7 +37,7 @@ fn places(own: &[Own]) -> Vec<(usize, usize, usize)> {
         .collect()
 }
 
-/// What is printed, with `#` in the place of each of the texts' own bytes, which must be those of the lines.
+/// What is printed, with `#` instead of each of the texts' own bytes, which must be those of the lines.
 fn covered(sheet: &str, own: &[Own]) -> Vec<u8> {
     let lines = sheet.as_bytes().split(|&byte| byte == 0x0A);
     let mut lines: Vec<Vec<u8>> = lines.map(<[u8]>::to_vec).collect();
@@ -154,7 +154,7 @@ fn both_are_refused_alike() {
     }
 }
 
-/// The tree with these texts blanked, by the call, with so many bytes lent: bytes past it stay, and a refusal writes none.
+/// The tree with these texts blanked, by the call, with this many bytes lent: bytes past it stay, and a refusal writes none.
 fn blank(tree: &[u8], nodes: &[u16], length: usize) -> Result<Vec<u8>, u8> {
     let mut output = vec![0xA5; length];
     let Counted { number, count } = Paper::default().blank(tree, nodes, &mut output);
@@ -261,7 +261,7 @@ fn alike_trees_have_the_same_paper() {
     assert!(counts.iter().all(|&count| count > 300), "{counts:?}");
 }
 
-/// The texts' own bytes are where the crate prints the texts: with a letter that is no mark and no fill in every text, it stands there and nowhere else.
+/// The texts' own bytes are where the crate prints the texts: with a letter that is no mark and no fill in every text, it is there and nowhere else.
 #[test]
 fn own_bytes_are_where_the_crate_prints_them() {
     let mut bytes = 0;
@@ -296,7 +296,7 @@ fn marked(tree: &Tree) -> Tree {
     }
 }
 
-/// Whether `#` stands at these places and nowhere else; answers how many they are.
+/// Whether `#` is at these places and nowhere else; answers how many they are.
 fn is_own(printed: &[u8], own: &[Own]) -> usize {
     let lines: Vec<&[u8]> = printed.split(|&byte| byte == 0x0A).collect();
     let mut found = Vec::new();

@@ -1,4 +1,4 @@
-//! Where the crate goes its own way: docs/DIFFERENCES.md, each with the smallest input.
+//! Where the crate differs from the port: docs/DIFFERENCES.md, each with the smallest input.
 
 use oracle::gen::{self, Margins, Rng};
 use oracle::{encode_settings, encode_tree, judge, original, paper, Margin, Settings, Tree};
@@ -150,7 +150,7 @@ fn the_smallest_tree_with_a_blank() {
     }
 }
 
-/// Document 02, 8 and 13: without lines a leaf of no columns shows in a sheet of no columns alone, by its feeds; in any other the crate's sheet, by the stand-in `Table`, is the
+/// Document 02, 8 and 13: without lines a leaf of no columns shows in a sheet of no columns alone, by its line feeds; in any other the crate's sheet, by the stand-in `Table`, is the
 /// port's.
 #[test]
 fn zero_wide_leaves_without_lines() {
@@ -175,7 +175,7 @@ fn zero_wide_leaves_without_lines() {
     }
 }
 
-/// Texts that the crate takes and document 01 refuses. The widths are the stand-in's.
+/// Texts that the crate accepts and document 01 refuses. The widths are the stand-in's.
 #[test]
 fn other_texts() {
     for text in ["\t", "\r", "\u{7f}", "é"] {

@@ -27,7 +27,7 @@ fn forget(store: &[u8], name: u8) -> (u8, Vec<u8>) {
     (number, after)
 }
 
-/// A return with so many bytes lent: the number, and the bytes copied; those past them stay.
+/// A return with this many bytes lent: the number, and the bytes copied; those past them stay.
 fn return_to(store: &[u8], name: u8, length: usize) -> (u8, Vec<u8>) {
     let mut output = vec![0xA5; length];
     let Counted { number, count } = Paper::default().return_draft(store, name, &mut output);
@@ -91,7 +91,7 @@ fn returns() {
     );
 }
 
-/// 18 or not, and each call says so, whatever the name.
+/// 18 or not, and each call answers it, whatever the name.
 #[test]
 fn forms() {
     let good = [
@@ -175,7 +175,7 @@ fn stores_and_their_drafts_are_one() {
     assert_eq!(encode_store(&[empty], 5), hex("22 00 00 00 00"));
 }
 
-/// Of the damaged stores most are 18; of the others some are still of the form.
+/// Of the damaged stores most are 18; of the others some are still of the right form.
 #[test]
 fn damage() {
     let mut rng = Rng::new(42);

@@ -210,7 +210,7 @@ fn a_margin_of_no_size() {
     }
 }
 
-/// Sizes, records and blocks are those without the margin, and each block stands in the rectangle inside it.
+/// Sizes, records and blocks are those without the margin, and each block is in the rectangle inside it.
 #[test]
 fn inside_the_margin() {
     let (settings, tree) = (edged([3, 0, 2, 0]), figure_2());

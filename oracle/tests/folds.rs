@@ -185,7 +185,7 @@ fn refusals() {
     assert_eq!(number(&cells(200), (usize::MAX, usize::MAX, 200)), 0);
 }
 
-/// The search as the document tells it: one Column, then one try after the other. And the promise about the miss: no t from the tallest cell on, whether tried or
+/// The search as the document describes it: one Column, then one try after the other. And the promise about the miss: no t from the tallest cell on, whether tried or
 /// not, fits and is lower by more.
 #[test]
 fn the_search_as_it_is_told() {

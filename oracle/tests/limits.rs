@@ -1,4 +1,4 @@
-//! The limits of documents 01 and 02, and that the generator of inputs near them stands where it says.
+//! The limits of documents 01 and 02, and that the generator's inputs near them are as far from them as it says.
 
 use oracle::gen::{self, Limit, Margins, Rng};
 use oracle::judge;
@@ -88,7 +88,7 @@ fn depth() {
 
 #[test]
 fn nodes() {
-    // Too wide for a sheet, so the collector is asked; then a grid that a sheet has room for.
+    // Too wide for a sheet, so the collector is called; then a grid that fits a sheet.
     let row = |nodes: usize| Tree::Row(vec![Tree::cell(""); nodes - 1]);
     assert_eq!(sizes(&Settings::D, &row(512)), 0);
     assert_eq!(sizes(&Settings::D, &row(513)), 4);
@@ -186,7 +186,7 @@ fn inputs_near_the_limits() {
     stand_near(Rng::new(3).bare());
 }
 
-/// Each input stands as far from its limit as it should, and is answered accordingly.
+/// Each input is as far from its limit as it should be, and is answered accordingly.
 fn stand_near(mut rng: Rng) {
     for limit in gen::LIMITS {
         for offset in -2..=2 {

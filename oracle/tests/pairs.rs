@@ -96,7 +96,7 @@ fn a_root_leaf() {
     }
 }
 
-/// F3: `c` is handed the list 3 3, but its own cut is the Column's, of a vertical list without pieces.
+/// F3: `c` gets the list 3 3, but its own cut is the Column's, of a vertical list without pieces.
 #[test]
 fn a_column_cuts_no_horizontal_list() {
     let tree = column([row([cell("a"), cell("b")]), cell("c")]);
@@ -167,7 +167,7 @@ fn a_group_keeps_its_pair() {
 /// Random tables have leaves with every kind of pair, in Rows and in Columns: what agrees on them is not zeros alone.
 #[test]
 fn every_kind_is_reached() {
-    /// Whether each node stands in a Row.
+    /// Whether each node is in a Row.
     fn put(tree: &Tree, in_row: bool, list: &mut Vec<bool>) {
         list.push(in_row);
         for child in tree.children() {

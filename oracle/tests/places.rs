@@ -214,7 +214,7 @@ fn the_largest_sheet() {
 }
 
 /// 'Every byte of every block, its line feeds apart, leads back to that leaf and place, and going forward from the answer returns the marker's place.' Of each leaf
-/// every place of its block is found, once, all from one start; each byte of the sheet there is the block's; nothing in the margin is anyone's. A block of feeds alone, as
+/// every place of its block is found, once, all from one start; each byte of the sheet there is the block's; nothing in the margin is anyone's. A block of line feeds alone, as
 /// there are without lines, has no place.
 #[test]
 fn back_and_forward() {
@@ -275,7 +275,7 @@ const LENT: Owner = Owner {
     column: 99,
 };
 
-/// The leaves of places, lent a list of so many answers, on both sides: the entries written and the elements read. Those past them stay; a refusal, which is the
+/// The leaves of places, lent a list of this many answers, on both sides: the entries written and the elements read. Those past them stay; a refusal, which is the
 /// judge's, writes none, counts none and has read none.
 fn marked(
     settings: &[u8],

@@ -139,7 +139,7 @@ fn other_calls_take_no_range() {
     }
 }
 
-/// The two readers agree: where one has a tree the other has that tree without ranges; and the reader of trees says 2 of a range, or what stands before it.
+/// The two readers agree: where one has a tree the other has that tree without ranges; and the reader of trees says 2 of a range, or what is before it.
 #[test]
 fn a_tree_is_a_plan_without_ranges() {
     let mut rng = Rng::new(41);

@@ -24,7 +24,7 @@ fn nested(depth: usize, tag: u8, contents: &[u8]) -> Vec<u8> {
     })
 }
 
-/// A Row of so many empty Cells and then these bytes.
+/// A Row of this many empty Cells and then these bytes.
 fn row(cells: usize, rest: &[u8]) -> Vec<u8> {
     let inside = [&[1, 0, 0].repeat(cells)[..], rest].concat();
     nested(1, 2, &inside)

@@ -76,7 +76,7 @@ fn trees_typed_and_read_again() {
     }
 }
 
-/// The mark stands only where the line would be something else without it.
+/// The mark is only where the line would be something else without it.
 #[test]
 fn marks_are_needed() {
     let mut rng = Rng::new(62);
@@ -100,7 +100,7 @@ fn marks_are_needed() {
     assert!(counts.iter().all(|&count| count > 100), "{counts:?}");
 }
 
-/// Whatever is read is read again when it is typed; every number is met among the short lists but for the limits'.
+/// Whatever is read is read again when it is typed; every number but those of limits occurs among the short lists.
 #[test]
 fn short_lists() {
     let mut numbers = BTreeSet::new();

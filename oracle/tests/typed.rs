@@ -1,4 +1,4 @@
-//! Typed lists: the form, its faults and where they are told, its limits.
+//! Typed lists: the form, its faults and where they are reported, its limits.
 
 use oracle::calls::{Calls, Typed};
 use oracle::sides::Paper;
@@ -16,7 +16,7 @@ fn cells(texts: &[&str]) -> Vec<Tree> {
     texts.iter().map(Tree::cell).collect()
 }
 
-/// The call with so many bytes lent: what it answers and what it writes. Bytes past that stay.
+/// The call with this many bytes lent: what it answers and what it writes. Bytes past that stay.
 fn call(list: &[u8], length: usize) -> (Typed, Vec<u8>) {
     let mut output = vec![0xA5; length];
     let answer = Paper::default().read_typed(list, &mut output);
@@ -227,7 +227,7 @@ fn which_fault_is_told() {
     assert_eq!(answer("ro\\w"), Err((32, 1, 4)));
 }
 
-/// So many lines of `row`, each a level deeper.
+/// This many lines of `row`, each a level deeper.
 fn chain(rows: usize) -> Vec<u8> {
     let lines = (0..rows).map(|level| "  ".repeat(level) + "row\n");
     lines.collect::<String>().into_bytes()
@@ -261,7 +261,7 @@ fn levels() {
     }
 }
 
-/// A Row of so many Cells.
+/// A Row of this many Cells.
 fn many(cells: usize) -> Vec<u8> {
     [b"row\n", &b"  a\n".repeat(cells)[..]].concat()
 }

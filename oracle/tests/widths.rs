@@ -10,7 +10,7 @@ use oracle::{
 /// The node and the letters of each Cell, in the order of the list.
 type List = Vec<(u16, u32)>;
 
-/// The list on both sides, with so many entries lent for the nodes and for the numbers. Entries past the count stay; a refusal, which is the judge's, writes none.
+/// The list on both sides, with this many entries lent for the nodes and for the numbers. Entries past the count stay; a refusal, which is the judge's, writes none.
 fn widen(settings: &[u8], tree: &[u8], lent: (usize, usize)) -> Result<List, u8> {
     let widen = |side: &mut dyn Calls| {
         let (mut nodes, mut letters) = (vec![777; lent.0], vec![777; lent.1]);
@@ -121,7 +121,7 @@ fn refusals() {
     assert_eq!(listed(&d(), &cells(511), 511), Ok(all));
 }
 
-/// The search as the document tells it, one letter after the other, by the W of the crate: the first number that makes it larger. From there on each letter more
+/// The search as the document describes it, one letter after the other, by the W of the crate: the first number that makes it larger. From there on each letter more
 /// makes it larger by one.
 #[test]
 fn the_search_as_it_is_told() {

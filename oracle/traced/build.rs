@@ -1,4 +1,4 @@
-// The original with trace lines. Each insertion names the line before it and the line after it; the two must stand together exactly once in
+// The original with trace lines. Each insertion names the line before it and the line after it; the two must be next to each other exactly once in
 // table_pool.rs, or the build fails. Nothing is taken out and nothing is altered. FAITHFUL.md lists them.
 
 include!("../standins/build.rs");

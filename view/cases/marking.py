@@ -51,7 +51,7 @@ def long_lists(check, browser):
 
 
 def copying(check, browser):
-    """The clipboard has a line for each place, parted by tabs; where it may not be used, the text is shown."""
+    """The clipboard has a line for each place, separated by tabs; where it may not be used, the text is shown."""
     page, example = Page(browser, "flight.list"), legs.Example("flight.list")
     page.type("#places", "6 45\n99 1\nfive")
     head = "line\tcolumn\tnode\tblock_line\tblock_column\ttext\trefused\n"

@@ -1,13 +1,13 @@
 //! Painting in the lent output: lines of 16 bytes at a time.
 //!
-//! A store of 16 bytes may run over what stands to the right on the same line: leaves are painted in node order, so whatever stands to the
+//! A store of 16 bytes may run over what is to the right on the same line: leaves are painted in node order, so whatever is to the
 //! right of a leaf is painted after it, and the right marks and line feeds come last. Near a line's end (`FAST` is false) stores are exact.
 
 use crate::nodes::{feeds64, padded, Node};
 use crate::record::{mark, Settings};
 use core::arch::x86_64::*;
 
-/// From so many bytes on the C library's memset and memcpy are faster.
+/// From this many bytes on the C library's memset and memcpy are faster.
 const LONG: usize = 96;
 
 #[inline(always)]

@@ -1,7 +1,7 @@
 //! The sheet printer of document 01 as it would be written for speed, without proofs: a yardstick for `bench/run`, which holds both printers to the original before it times them. It
 //! knows neither margins nor sheets without lines.
 //!
-//! `lists` (A in the tables): the proved code's algorithm, split lists handed on. `stamps` (B): the fastest algorithm found, crossing marks from the neighbours' ends, over the same flat nodes
+//! `lists` (A in the tables): the proved code's algorithm, split lists passed on. `stamps` (B): the fastest algorithm found, crossing marks from the neighbours' ends, over the same flat nodes
 //! and the same painter. Nothing is allocated; the scratch is some 10 KiB of stack that is not cleared.
 
 mod canvas;

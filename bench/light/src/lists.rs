@@ -1,5 +1,5 @@
-//! The proved code's algorithm: split lists cut by each group and handed on, eight flags, a crossing pass over the list of each side. The nodes
-//! are flat, sizes are allotted on the way, the pieces of both axes lie in two stacks that are not cleared, the painter is that of `stamps`.
+//! The proved code's algorithm: split lists cut by each group and passed on, eight flags, a crossing pass over the list of each side. The nodes
+//! are flat, sizes are allotted on the way, the pieces of both axes are in two stacks that are not cleared, the painter is that of `stamps`.
 
 use crate::canvas::{fill, splat, Canvas};
 use crate::nodes::{Node, Nodes, Sharing};
@@ -29,7 +29,7 @@ struct Place {
     h: usize,
 }
 
-/// Pieces that lie on a stack, from `at` on.
+/// Pieces on a stack, from `at` on.
 #[derive(Clone, Copy)]
 struct List {
     at: usize,
@@ -137,7 +137,7 @@ impl Walker<'_> {
         }
     }
 
-    /// The next node; the counts of what it gives back, which lies where the lists were.
+    /// The next node; the counts of what it gives back, which is where the lists were.
     unsafe fn walk(&mut self, at: Place, f: Flags, across: List, down: List) -> (usize, usize) {
         let i = self.next;
         self.next += 1;

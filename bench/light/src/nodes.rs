@@ -50,7 +50,7 @@ struct Open {
     row: bool,
 }
 
-/// The bytes that may stand in a text, and the line feeds.
+/// The bytes that a text may have, and the line feeds.
 #[inline(always)]
 unsafe fn classes(v: __m128i) -> (__m128i, __m128i) {
     let feed = _mm_cmpeq_epi8(v, _mm_set1_epi8(10));
@@ -157,7 +157,7 @@ fn measure_long(tree: &[u8], at: usize, len: usize) -> (bool, u64, usize, usize)
             feeds &= feeds - 1;
         }
     };
-    // Whole blocks: what is good is gathered, and where no byte of the 64 is a feed nothing is looked for.
+    // Whole blocks: what is good is gathered, and where no byte of the 64 is a line feed nothing is searched.
     let mut all = unsafe { _mm_set1_epi8(-1) };
     while len - done > 64 && at + done + 64 <= tree.len() {
         unsafe {
@@ -334,7 +334,7 @@ impl Nodes {
 #[derive(Clone, Copy)]
 pub struct Sharing {
     q: u32,
-    /// So many children from the first get one more.
+    /// This many children from the first get one more.
     more: u32,
     /// The first child's, the last one's own part.
     first: u32,

@@ -1,7 +1,7 @@
 //! Crossing marks without split lists. A leaf leaves two numbers behind: at its column the line below it, at its line the column right of it.
-//! A top line at y is met from above in column c exactly where a leaf that starts in column c ends above y, so where the column's number is y;
-//! a left side in column x is met from the left at line l exactly where the line's number is x. Nothing has to be cleared: a number that is
-//! out of date is less than the line (the column) that asks.
+//! A top line at y is crossed from above in column c exactly where a leaf that starts in column c ends above y, so where the column's number is y;
+//! a left side in column x is crossed from the left at line l exactly where the line's number is x. Nothing has to be cleared: a number that is
+//! out of date is less than the line (the column) in question.
 
 use crate::canvas::{splat, store16, store_part, Canvas};
 use crate::nodes::{Node, Nodes, Sharing};
@@ -20,7 +20,7 @@ struct Group {
     sharing: Sharing,
 }
 
-/// What stands at a leaf's start: the sheet's corner, a Row's later child, a Column's later child.
+/// What is at a leaf's start: the sheet's corner, a Row's later child, a Column's later child.
 #[derive(Clone, Copy, PartialEq)]
 enum Start {
     Corner,

@@ -16,7 +16,7 @@ use Rattle.block.specs.Block.{Leaf, mark, topLeft, topRight, bottomLeft, edge, 
 use Rattle.alike.proofs.ReplacedBytes.{lines-recast, width-recast, height-recast}
 use Rattle.alike.proofs.RelatedBytes.{Over, Rows, over-append, over-replicate, over-map, over-pick, over-ruled, rows-append, rows-paired, rows-column, rows-replicate, rows-map}
 
--- what a sheet has beside the texts' own bytes is related to itself
+-- what a sheet has in addition to the texts' own bytes is related to itself
 pub record Surround (R : ℕ → ℕ → Type 0) (s : Settings) : Type 0 where
   pub marks : (i : ℕ) → R (getD (s .marks) i 0) (getD (s .marks) i 0)
   pub fills : (i : ℕ) → R (getD (s .fills) i 0) (getD (s .fills) i 0)

@@ -1,4 +1,4 @@
--- Bytes that are equal once the texts of the Cells that a reader meets are covered are alike.
+-- Bytes that are equal once the texts of the Cells that a reader visits are covered are alike.
 use mathlib.Core.Path.{_≡_, refl, sym, ap, ap₂, _∙_}
 use Prim.Native.Nat.{ℕ, zero, suc, _+_, _*_, _≤_, _<_}
 use native.Mathlib.Omega.{arith}

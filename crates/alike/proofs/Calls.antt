@@ -1,6 +1,5 @@
--- The calls whose answers have no byte of a text: for bytes that are alike, under equal settings and whatever else is handed in, with as much memory lent, the
--- answers
--- and all that is written are equal, and what is past that stays.
+-- The calls whose answers have no byte of a text: for bytes that are alike, with all other inputs equal and as much memory lent, the answers and all that is
+-- written are equal, and what is past that stays.
 use mathlib.Core.Path.{_≡_, refl, ap}
 use Prim.Native.Nat.{ℕ}
 use mathlib.Core.Bool.{Bool, true, false}
@@ -38,7 +37,7 @@ use Rattle.alike.proofs.Shapes.{belows-recast, locate-recast, listed-re
 use Rattle.alike.proofs.Pairs.{plan-alike-by, reads-alike, inputs-alike, plan-inputs-alike}
 use Rattle.alike.proofs.Lent.{collect-lent, finds-lent, fold-lent, nearest-lent}
 
--- what depends on what is handed in through the tree's mask alone
+-- what depends on the input through the tree's mask alone
 pub same-by : {A : Type 0} (g : Input → A) → ((s : Settings) (t : Tree) → g (given s (masked t)) ≡ g (given s t)) → {x y : Input} → SameInput x y → g x ≡ g y
 same-by g e (pairs.both-refused k) = refl
 same-by g e (pairs.both-given s t u h) = alike-by (λ (v : Tree). g (given s v)) (e s) t u h
@@ -147,7 +146,7 @@ module _ {p q : List ℕ} (b : AlikeBytes p q) where
     pub leaf-at-alike : (line column : ℕ) → leafPlaceOf x line column ≡ leafPlaceOf y line column
     leaf-at-alike line column = same-by (λ (i : Input). leafPlaceOf i line column) (λ s t. masked-leaf-place s t line column) (inputs-alike b settings)
 
-    -- with as much lent
+    -- with as much memory lent
 
     pub collect-sizes-alike : (o r : List SizeRecord) → length o ≡ length r → BothCollect o r (collectOf x o) (collectOf y r)
     collect-sizes-alike o r e =

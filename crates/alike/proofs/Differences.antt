@@ -1,4 +1,4 @@
--- Where two contents of one shape differ: only where the parts do in which they are not the same.
+-- Two contents of one shape differ only inside those of their parts that differ.
 use mathlib.Core.Path.{_≡_, refl, sym, ap, _∙_}
 use Prim.Native.Nat.{ℕ, zero, suc, _+_, _-_, _*_, _≤_, _<_}
 use native.Mathlib.Omega.{arith}
@@ -15,7 +15,7 @@ use Rattle.paint.proofs.Feeds.{feeds-at}
 
 -- ---- one line
 
--- behind a front that is the same, before a back that is the same
+-- after an equal front, before an equal back
 pub record MiddlePart (n : ℕ) (l m : List ℕ) (i : ℕ) : Type 0 where
   pub at : ℕ
   pub is : i ≡ n + at

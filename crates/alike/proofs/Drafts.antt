@@ -26,7 +26,7 @@ use Rattle.alike.proofs.Readers.{length-alike}
 use Rattle.alike.proofs.Pairs.{reads-alike}
 use Rattle.alike.proofs.Lent.{both-through, return-lent}
 
--- the same number, and stores of the form again
+-- the same number, and stores of the right form again
 record FormedAnswer (x y : Outcome ℕ (List ℕ)) : Type 0 where
   number : x .answer ≡ y .answer
   stores : FormedStores (x .memory) (y .memory)
@@ -207,7 +207,7 @@ module _ {o r : List ℕ} (a : FormedStores o r) where
         go true name = read name (reads-alike b)
         go false name = record { number = refl; stores = a }
 
--- ---- two stores of the form, or one of any
+-- ---- two stores of the right form, or one of any
 
 formed-answer : {x y : Outcome ℕ (List ℕ)} → FormedAnswer x y → SameStoreAnswer x y
 formed-answer k = record { number = k .number; stores = pairs.two-stores (k .stores) }

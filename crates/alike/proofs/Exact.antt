@@ -1,4 +1,4 @@
--- The mask is exact: under settings that are read, where the masked sheet or block has 1, some tree alike has any byte but 0A.
+-- The mask is exact: under settings that are read, where the masked sheet or block has 1, some alike tree has any byte but 0A.
 use mathlib.Core.Path.{_≡_, refl, sym, ap, ap₂}
 use Prim.Native.Nat.{ℕ, _≤_}
 use native.Mathlib.Omega.{arith}

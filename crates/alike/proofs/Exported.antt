@@ -1,6 +1,5 @@
 -- The C functions (include/leg_sheet.h) for bytes that are alike: each contract's word and numbers, as c_api/src states them. The lists of places, folds and
--- letters,
--- the printers' outputs, those of drafts and of blanked trees are the calls' own.
+-- letters, the printers' outputs, those of drafts and of blanked trees are the calls' own.
 use mathlib.Core.Path.{_≡_, refl, sym, ap}
 use Prim.Native.Nat.{ℕ}
 use mathlib.Core.Bool.{Bool, true, false}

@@ -1,4 +1,4 @@
--- Each call looks at lent memory's length alone: with as much lent it answers the same and writes the same, and what is past that stays.
+-- Of lent memory each call uses the length alone: with as much lent it answers the same and writes the same, and what is past that stays.
 use mathlib.Core.Path.{_≡_, refl, sym, ap, subst, _∙_}
 use Prim.Native.Nat.{ℕ}
 use mathlib.Core.Bool.{Bool, true, false}

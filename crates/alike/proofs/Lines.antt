@@ -1,4 +1,4 @@
--- `alike-is`: the mask compares just what document 02, 14 asks, the lines' lengths.
+-- `alike-is`: the mask compares exactly what document 02, 14 requires, the lines' lengths.
 use mathlib.Core.Path.{_≡_, refl, sym, ap, ap₂, _∙_}
 use mathlib.Core.Logic.{_↔_}
 use Prim.Native.Nat.{ℕ, suc}
@@ -53,7 +53,7 @@ tails e = cc
 
 -- ---- one text
 
--- no byte's lines are those of no bytes
+-- only an empty text has the line lengths of an empty text
 one-more : (c : Bool) {ns : List ℕ} → Some ns → 0 ∷ [] ≡ pick c (0 ∷ ns) (bumped ns) → ⊥
 unfolding bumped
 one-more true (at-least n ns) e = let z : 0 ≡ suc (length ns) = ap length (tails e) in omega arith

@@ -132,7 +132,7 @@ module _ (some : ℕ → Bool) (settings p q : List ℕ) (s : Settings) (t u : T
 
 -- ---- the sheet of what `blank_texts` wrote
 
--- bytes that were printed: one that is not 0 stands where it stood
+-- a byte that is not 0 is printed at its place
 printed-at : (bytes r : List ℕ) (i v : ℕ) → (v ≡ 0 → ⊥) → printTo bytes r .answer .number ≡ 0 → getD bytes i 0 ≡ v → getD (printTo bytes r .memory) i 0 ≡ v
 printed-at bytes r i v k n e = go (ltb (length r) (length bytes)) n (ltb i (length bytes)) refl
   where

@@ -1,6 +1,5 @@
--- `sheet-own-layout`, `leaf-own-layout`: the texts' own bytes of a sheet and of a block are just those that the layout gives the texts; `text-printed`: the
--- sheet printer has written the
--- texts' bytes there.
+-- `sheet-own-layout`, `leaf-own-layout`: the texts' own bytes of a sheet and of a block are exactly those that the layout gives the texts; `text-printed`: the
+-- sheet printer has written the texts' bytes there.
 use mathlib.Core.Path.{_≡_, refl, sym, ap, ap₂, _∙_}
 use mathlib.Core.Logic.{_↔_, _≢_}
 use Prim.Native.Nat.{ℕ}
@@ -62,7 +61,7 @@ second-frame s r = record {
   feed = (λ d. absurd (omega arith), λ n. refl);
 }
 
--- the first mask has 1 just where the two differ
+-- the first mask has 1 exactly where the two differ
 one-differs : {m b : List ℕ} → Over Second m b → (i : ℕ) → getD b i 0 ≡ 1 → getD b i 0 ≡ getD m i 0 → ⊥
 one-differs {m} {b} o i e d = go (ltb i (length b)) refl
   where

@@ -1,4 +1,4 @@
--- What the calls are handed for bytes that are alike: the same refusal, or alike trees. The bytes of alike trees, and of alike planning trees, are.
+-- What the calls get for bytes that are alike: the same refusal, or alike trees. The bytes of alike trees, and of alike planning trees, are alike.
 use mathlib.Core.Path.{_≡_, refl, sym, ap, ap₂, _∙_}
 use Prim.Native.Nat.{ℕ, _+_, _≤_}
 use native.Mathlib.Omega.{arith}

@@ -1,4 +1,4 @@
--- The sheets, and the blocks, of a tree with its texts' bytes replaced in two ways differ just where the layout puts the texts (`SheetPlace`, `BlockPlace`).
+-- The sheets, and the blocks, of a tree with its texts' bytes replaced in two ways differ exactly where the layout puts the texts (`SheetPlace`, `BlockPlace`).
 use mathlib.Core.Path.{_≡_, refl, sym, ap, _∙_}
 use mathlib.Core.Logic.{_≢_}
 use Prim.Native.Nat.{ℕ, _+_, _-_, _*_, _<_}

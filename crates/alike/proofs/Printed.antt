@@ -232,7 +232,7 @@ module _ {i j : List ℕ} (b : AlikeInputs i j) where
       go (pairs.both-refused n) d = refl
       go (pairs.both-given s t u h) d = ended-agree s t u h (refusedText 6) k d
 
-  -- the buffers of `answer`, by its contract: n and m answered, u and v held before, x and y after
+  -- the buffers of `answer`, by its contract: it answered n and m, they held u and v before, x and y after
   pub program-lent : (n m : ℕ) (u v x y : List ℕ) → take n x ≡ programOf i → take m y ≡ programOf j → n ≤ length x → m ≤ length y → drop n x ≡ drop n u
       → drop m y ≡ drop m v
       → (n ≡ m) × Lent (Agree (SheetOwn (programInput i))) n u v x y

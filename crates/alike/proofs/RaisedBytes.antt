@@ -1,6 +1,5 @@
--- A tree with the texts of some Cells masked, blanked or left as they are: all three are made byte by byte from one tree, in which those texts' bytes are
--- raised by 256.
--- So where the first has the mask on a sheet the second has a dot, and elsewhere the first and the third agree.
+-- A tree with the texts of some Cells masked, blanked or left as they are: all three are made byte by byte from one tree, in which 256 is added to the bytes of
+-- those texts. So where the first has the mask on a sheet the second has a dot, and elsewhere the first and the third agree.
 use mathlib.Core.Path.{_≡_, refl, sym, ap, ap₂, _∙_}
 use Prim.Native.Nat.{ℕ, suc, _+_, _-_, _≤_, _<_}
 use native.Mathlib.Omega.{arith}
@@ -29,7 +28,7 @@ use Rattle.alike.proofs.Exact.{no-one, printable, mark-range}
 raised : ℕ → ℕ
 raised b = pick (eqb b 10) 10 (256 + b)
 
--- bytes stay, 1 apart, of which there is none; what is raised is replaced
+-- bytes below 256 stay, but for 1, which does not occur; raised bytes are replaced
 under : (ℕ → ℕ) → ℕ → ℕ
 under g c = pick (ltb c 256) (pick (eqb c 1) 0 c) (g c)
 

@@ -99,7 +99,7 @@ mores-same p q e (both-all ps qs n d) = both-all (Plans.more p ps) (Plans.more q
 -- ---- with planning, or without
 
 module _ (P : Bool) where
-  -- the tests look at the length, the tag and the two length bytes alone
+  -- the tests use the length, the tag and the two length bytes alone
   abbrev front : ℕ → ℕ → ℕ → ℕ → ℕ → Header
   front long tag len d n =
       pick (ltb long 3) (Fault 2)

@@ -1,4 +1,4 @@
--- A tree whose texts are replaced byte for byte, line feeds staying line feeds: its sizes are the same.
+-- A tree whose texts are replaced byte for byte, with the same line feeds: its sizes are the same.
 use mathlib.Core.Path.{_≡_, refl, ap, ap₂}
 use Prim.Native.Nat.{ℕ, suc, _+_}
 use mathlib.Core.Bool.{Bool, true, false}

@@ -1,4 +1,4 @@
--- What the calls on sizes, places, folds, plans and letters make of a tree whose texts are replaced byte for byte, line feeds staying line feeds.
+-- The answers of the calls on sizes, places, folds, plans and letters for a tree whose texts are replaced byte for byte, with the same line feeds.
 use mathlib.Core.Path.{_≡_, refl, ap, ap₂}
 use Prim.Native.Nat.{ℕ, suc, _+_}
 use mathlib.Core.Bool.{Bool}

@@ -1,4 +1,4 @@
--- The blocks of a leaf with its text's bytes replaced in two ways differ just at the bytes of the text (`TextPlace`).
+-- The blocks of a leaf with its text's bytes replaced in two ways differ exactly at the bytes of the text (`TextPlace`).
 use mathlib.Core.Path.{_≡_, refl, sym, ap, _∙_}
 use mathlib.Core.Logic.{_≢_}
 use Prim.Native.Nat.{ℕ, zero, suc, _+_, _-_, _<_}
@@ -111,7 +111,7 @@ module _ (s : Settings) (f g : ℕ → ℕ) (keep : (b : ℕ) → eqb (f b) 10 �
   abbrev inner : ℕ
   inner = z .width - s .left - s .right
 
-  -- what stands below the text in the body
+  -- what is below the text in the body
   abbrev under : List (List ℕ)
   under = replicate (s .bottom) (replicate (z .width) (getD (s .fills) 3 0)) ++ replicate (slack - slackBefore (s .vertical) slack) (replicate (z .width) 32)
 

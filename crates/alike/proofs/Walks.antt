@@ -61,7 +61,7 @@ module _ (f : ℕ → ℕ) (mask-keeps : (b : ℕ) → eqb (f b) 10 ≡ eqb b 10
   beside-cast across w v k = k .vertical
   beside-cast down w v k = k .horizontal
 
-  -- a child, and the children after it with the list that it hands on
+  -- a child, and the children after it with the list that it passes on
   step-cast : (a : Axis) (w v : Walked) (r q : List ℕ → Walked) → Cast f R w v → ((x : List ℕ) → Cast f R (r x) (q x))
       → Cast f R (joinWalked a w (r (besideList a (w .horizontal) (w .vertical)))) (joinWalked a v (q (besideList a (v .horizontal) (v .vertical))))
   step-cast a w v r q k m =

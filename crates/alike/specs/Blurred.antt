@@ -1,4 +1,5 @@
--- The same condition on bytes as an equation: "differ only inside Cells' texts" is to be equal once the text of each Cell that a reader meets is covered.
+-- The same condition on bytes as an equation: bytes "differ only inside Cells' texts" where they are equal once the text of each Cell that a reader visits is
+-- covered.
 use mathlib.Core.Path.{_≡_}
 use Prim.Native.Nat.{ℕ, zero, suc, _+_}
 use mathlib.Core.Bool.{Bool, true, false}
@@ -20,9 +21,8 @@ whole? s = leb (3 + lengthAt s) (length s)
 abbrev pub group? : ℕ → Bool
 group? tag = pick (eqb tag 2) true (eqb tag 3)
 
--- element by element up to a container's end: a Cell's text covered, line feeds staying; a Row's or a Column's contents likewise; all other bytes as they are.
--- By fuel, of
--- which the bytes' length is enough
+-- element by element up to a container's end: a Cell's text is covered, but for line feeds; a Row's or a Column's contents likewise; all other bytes stay. By
+-- fuel, of which the bytes' length is enough
 unfoldable pub blurred : ℕ → List ℕ → List ℕ
 blurred zero s = s
 blurred (suc f) s = elim (whole? s) [

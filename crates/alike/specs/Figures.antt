@@ -1,4 +1,4 @@
--- Pairs of trees as document 02, 14, takes them, computed on the definitions: which bytes of both sheets are the texts' own, and which trees are alike.
+-- Pairs of trees as in document 02, 14, computed on the definitions: which bytes of both sheets are the texts' own, and which trees are alike.
 use mathlib.Core.Path.{_≡_, refl, ap}
 use native.Mathlib.Omega.{arith}
 use Prim.Native.Nat.{ℕ, zero, suc, _+_, _*_}

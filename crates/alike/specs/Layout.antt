@@ -1,5 +1,5 @@
--- Where the texts' own bytes stand (document 02, 14), told by the layout: the margin, the leaf's start, its marks, padding and indents (documents 01, "Block
--- and sheet", and 02, 1).
+-- Where the texts' own bytes are (document 02, 14), by the layout: the margin, the leaf's start, its marks, padding and indents (documents 01, "Block and
+-- sheet", and 02, 1).
 use mathlib.Core.Path.{_≡_}
 use Prim.Native.Nat.{ℕ, _+_, _-_, _*_, _<_}
 use mathlib.Core.Bool.{false}
@@ -47,7 +47,7 @@ pub record BlockPlace (s : Settings) (t : Tree) (n i : ℕ) : Type 0 where
   pub text : TextPlace s (leaf .text) (leaf .at .size) line column
   pub place : i ≡ line * (blockWidth s (leaf .at .size) (leaf .at .flags) + 1) + column
 
--- of settings and a tree that are read, and a sheet within the limits
+-- where settings and tree are read and the sheet is within the limits
 abbrev pub SheetText : Input → ℕ → Type 0
 SheetText (refused k) i = ⊥
 SheetText (given s t) i = (tooLarge s t ≡ false) × SheetPlace s t i

@@ -14,7 +14,7 @@ use Rattle.drafts.specs.declared.Returned.{Returned}
 use Rattle.blank.specs.declared.Blanked.{Blanked}
 use Rattle.typed.specs.declared.Typed.{Typed}
 
--- o and r were lent, and hold x and y afterwards: n entries were written at the front of each, that are so related; past them each is as it was
+-- o and r were lent, and hold x and y afterwards: n entries were written at the front of each, and they are related so; past them each is unchanged
 pub record Lent {A : Type 0} (Same : List A → List A → Type 0) (n : ℕ) (o r x y : List A) : Type 0 where
   pub front : Same (take n x) (take n y)
   pub rest : drop n x ≡ drop n o
@@ -33,7 +33,7 @@ Equal x y = x ≡ y
 abbrev pub Agree : (ℕ → Type 0) → List ℕ → List ℕ → Type 0
 Agree Own x y = (i : ℕ) → (Own i → ⊥) → getD x i 0 ≡ getD y i 0
 
--- ---- by the call
+-- ---- for each call
 
 abbrev pub BothCollect : List SizeRecord → List SizeRecord → Outcome Collected (List SizeRecord) → Outcome Collected (List SizeRecord) → Type 0
 BothCollect o r x y = BothAnswer (λ (k : Collected). k .count) Equal o r x y
@@ -56,13 +56,13 @@ BothBlank Same o r x y = BothAnswer (λ (k : Blanked). k .count) Same o r x y
 abbrev pub BothType : (List ℕ → List ℕ → Type 0) → List ℕ → List ℕ → Outcome Typed (List ℕ) → Outcome Typed (List ℕ) → Type 0
 BothType Same o r x y = BothAnswer (λ (k : Typed). k .count) Same o r x y
 
--- two lists are lent
+-- where two lists are lent
 pub record BothNearest (ns ms ls ks : List ℕ) (x y : Outcome Widened (List ℕ × List ℕ)) : Type 0 where
   pub answer : x .answer ≡ y .answer
   pub nodes : Lent Equal (x .answer .count) ns ms (x .memory .0) (y .memory .0)
   pub letters : Lent Equal (x .answer .count) ls ks (x .memory .1) (y .memory .1)
 
--- a C function: equal words, and some numbers written
+-- of a C function: equal words, and some numbers written
 pub record BothGive (o r : List ℕ) (x y : Outcome ℕ (List ℕ)) : Type 0 where
   pub answer : x .answer ≡ y .answer
   pub many : ℕ

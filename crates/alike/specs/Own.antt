@@ -1,6 +1,5 @@
--- The texts' own bytes in what is printed (document 02, 14). Read as: the bytes of the lines themselves, where they stand. They are the places where the sheet,
--- or the
--- block, of the masked tree has the mask.
+-- The texts' own bytes in what is printed (document 02, 14), read as: the bytes of the lines themselves, where they are printed. They are the places where the
+-- sheet, or the block, of the masked tree has the mask.
 use mathlib.Core.Path.{_≡_}
 use Prim.Native.Nat.{ℕ, suc, _+_}
 use mathlib.Core.Bool.{Bool, false}
@@ -38,7 +37,7 @@ abbrev pub LeafOwn : Input → ℕ → ℕ → Type 0
 LeafOwn (refused k) n i = ⊥
 LeafOwn (given s t) n i = (tooLarge s t ≡ false) × (getD (leafBytes s (masked t) n) i 0 ≡ 1)
 
--- some tree alike has the byte v there
+-- some alike tree has the byte v there
 pub record CanShow (f : Tree → List ℕ) (t : Tree) (i v : ℕ) : Type 0 where
   pub tree : Tree
   pub alike : Alike t tree
@@ -58,7 +57,7 @@ unfoldable mutual
   recastAt* f n none = none
   recastAt* f n (more t ts) = more (recastAt f n t) (recastAt* f (n + nodes t) ts)
 
--- a byte changed where the text is one of them
+-- a byte, changed where the text is one of them
 abbrev pub changed : (ℕ → ℕ) → Bool → ℕ → ℕ
 changed f c b = pick c (f b) b
 

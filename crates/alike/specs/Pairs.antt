@@ -1,4 +1,4 @@
--- The bytes of two trees, or of two planning trees, that are alike (document 02, 14), and what the readers make of them.
+-- The bytes of two trees, or of two planning trees, that are alike (document 02, 14), and what the readers answer for them.
 use mathlib.Core.Path.{_≡_}
 use Prim.Native.Nat.{ℕ, _+_, _≤_}
 use mathlib.Core.Bool.{true}
@@ -20,7 +20,7 @@ use Rattle.plan.specs.Answers.{PlanInput}
 use Rattle.drafts.specs.Promises.{DraftCall, save, forget, return}
 use Rattle.blank.specs.Alike.{covered, Alike}
 
--- ---- bytes, of a tree or of none
+-- ---- bytes, of a tree or not
 
 -- what is behind the element at the front of s
 abbrev pub afterElement : List ℕ → List ℕ
@@ -34,13 +34,11 @@ pub record SameFront (s r : List ℕ) : Type 0 where
   pub other-whole : 3 + lengthAt r ≤ length r
 
 -- Two byte strings "that differ only inside Cells' texts, each text having in both the same number of lines, line for line of the same length": whole elements,
--- one
--- after the other, that do, and then the same bytes, whatever they are. No tree need be there: a reader may turn both away, anywhere. Of two texts that differ
--- both
--- hold a forbidden byte, or neither.
+-- one after the other, that do, and then the same bytes, whatever they are. They need not be a tree: a reader may refuse both, anywhere. Of two texts that
+-- differ both hold a forbidden byte, or neither.
 pub data AlikeBytes : List ℕ → List ℕ → Type 0 where
   same : (s : List ℕ) → AlikeBytes s s
-  -- an element of any tag with equal contents; a Cell; a Row or a Column whose contents differ so
+  -- an element of any tag with equal contents; a Cell; a Row or a Column whose contents differ in this way
   kept : {s r : List ℕ} → SameFront s r → contents s ≡ contents r → AlikeBytes (afterElement s) (afterElement r) → AlikeBytes s r
   cell : {s r : List ℕ} → SameFront s r → getD s 0 0 ≡ 1 → lineLengths (contents s) ≡ lineLengths (contents r) → isText (contents s) ≡ isText (contents r)
       → AlikeBytes (afterElement s) (afterElement r) → AlikeBytes s r
@@ -107,7 +105,7 @@ pub data SameRead : ReadOne → ReadOne → Type 0 where
   both-refused : (k : ℕ) → SameRead (ReadOne.refused k) (ReadOne.refused k)
   both-read : (t u : Tree) (z n : ℕ) → Alike t u → SameRead (ReadOne.one t z n) (ReadOne.one u z n)
 
--- what the calls are handed
+-- what the calls get
 pub data SameInput : Input → Input → Type 0 where
   both-refused : (k : ℕ) → SameInput (refused k) (refused k)
   both-given : (s : Settings) (t u : Tree) → Alike t u → SameInput (given s t) (given s u)
@@ -122,7 +120,7 @@ pub record AlikeInputs (i j : List ℕ) : Type 0 where
   pub settings : take (settingsEnd i) i ≡ take (settingsEnd j) j
   pub trees : AlikeBytes (drop (settingsEnd i) i) (drop (settingsEnd j) j)
 
--- what the program is handed
+-- what the program gets
 abbrev pub programInput : List ℕ → Input
 programInput i = inputOf (take (settingsEnd i) i) (drop (settingsEnd i) i)
 
@@ -146,17 +144,17 @@ pub record FormedStores (o r : List ℕ) : Type 0 where
   pub same : SameFields fields others
   pub long : length o ≡ length r
 
--- such stores, or one and the same, of the form or not
+-- such stores, or twice the same one, of the right form or not
 pub data AlikeStores : List ℕ → List ℕ → Type 0 where
   one-store : (o : List ℕ) → AlikeStores o o
   two-stores : {o r : List ℕ} → FormedStores o r → AlikeStores o r
 
--- the same number, and stores that are again alike
+-- the same number, and stores that are alike again
 pub record SameStoreAnswer (x y : Outcome ℕ (List ℕ)) : Type 0 where
   pub number : x .answer ≡ y .answer
   pub stores : AlikeStores (x .memory) (y .memory)
 
--- two calls of one kind under one name, of bytes that are alike, with as much lent; two series of such calls
+-- two calls of one kind under one name, with bytes that are alike and as much memory lent; two series of such calls
 pub data SameCall : DraftCall → DraftCall → Type 0 where
   both-save : (n : ℕ) {p q : List ℕ} → AlikeBytes p q → SameCall (save n p) (save n q)
   both-forget : (n : ℕ) → SameCall (forget n) (forget n)

@@ -23,8 +23,7 @@ use Rattle.alike.specs.Pairs.{AlikeBytes, AlikeStores, SameStoreAnswer}
 use Rattle.alike.specs.Lent.{Agree, BothCollect, BothPrint, BothFind, BothFold, BothNearest, BothBlank}
 
 -- "Under equal settings, buffer lengths and whatever else is handed in, they must get equal refusals from every call ..; equal sizes, flags, split lists and
--- places; and
--- sheets that agree at every byte outside the texts' own bytes."
+-- places; and sheets that agree at every byte outside the texts' own bytes."
 pub record OneLayout (p q : List ℕ) : Type 0 where
   pub read-tree : treeAnswer (readTree p) ≡ treeAnswer (readTree q)
   pub collect-sizes : (settings : List ℕ) (o r : List SizeRecord) → length o ≡ length r

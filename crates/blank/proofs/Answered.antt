@@ -1,4 +1,4 @@
--- The answer for every input, by what the calls say of the tree and of the numbers.
+-- The answer for every input, from the answers of the calls on the tree and on the numbers.
 use mathlib.Core.Path.{_≡_, refl, sym, ap, ap₂, _∙_}
 use Prim.Native.Nat.{ℕ, suc, _+_, _≤_, _<_}
 use native.Mathlib.Omega.{arith}

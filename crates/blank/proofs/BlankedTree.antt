@@ -18,7 +18,7 @@ use Rattle.blank.specs.Paper.{inTexts, inTexts*}
 use Rattle.blank.proofs.Lengths.{blanked*-bytes-in}
 use Rattle.tree.proofs.Lengths.{bytes*-length}
 
--- ---- one byte: a dot may stand in a text, and a line feed stays
+-- ---- one byte: a dot is allowed in a text, and a line feed stays
 
 shown-filled : (d : Bool) (b : ℕ) → covered 1 b ≡ covered 1 (shownByte d b)
 unfolding covered shownByte

@@ -1,4 +1,4 @@
--- `paper-read`, `paper-made`: what the call's answer 0 says.
+-- `paper-read`, `paper-made`: what follows where the call answers 0.
 use mathlib.Core.Path.{_≡_, refl, sym, ap, ap₂, subst, _∙_}
 use Prim.Native.Nat.{ℕ, suc, _<_}
 use native.Mathlib.Omega.{arith}
@@ -24,7 +24,7 @@ use Rattle.blank.proofs.Lengths.{blanked-length}
 use Rattle.tree.proofs.Exact.{tree-exact}
 use Rattle.blank.proofs.BlankedTree.{blanked-nodes, blanked-depth, blanked-texts, blanked-alike, blanked-outside}
 
--- a number that is no Cell's is 9, an output that is too short 8
+-- a number that is not a Cell's is 9, an output that is too short 8
 zero-is : (c d : Bool) (o : List ℕ) (x : Outcome Blanked (List ℕ)) → pick c (pick d (noBlank 8 o) x) (noBlank 9 o) .answer .number ≡ 0
     → pick c (pick d (noBlank 8 o) x) (noBlank 9 o) ≡ x
 zero-is true true o x h = absurd (omega arith)
@@ -93,11 +93,11 @@ zero-read {A} tree ns o k h = go (readTree tree) refl h
 pub paper-read : (tree ns o : List ℕ) → blankOf tree ns o .answer .number ≡ 0 → PaperRead tree ns (blankOf tree ns o)
 paper-read tree ns o h = zero-read tree ns o (λ t z n r. read-as tree ns o t z n r h) h
 
--- of lists of numbers; of slices it is promised by `blank_texts` itself
+-- for lists of numbers; for slices `blank_texts` itself promises it
 pub paper-made : (tree ns o : List ℕ) → Every (λ b. b < 256) tree → blankOf tree ns o .answer .number ≡ 0 → PaperOf tree ns (blankOf tree ns o)
 paper-made tree ns o b h = zero-read tree ns o (λ t z n r. made-as tree ns o t z n r h b) h
 
--- ---- of slices
+-- ---- for slices
 
 each-byte : (s : List ℕ) → ((i : ℕ) → Fits w8 (getD s i 0)) → Every (λ b. b < 256) s
 each-byte [] h = tt

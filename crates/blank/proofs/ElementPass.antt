@@ -1,4 +1,4 @@
--- One pass over the elements of an accepted tree: where it stands, and what find_cells and put_elements have yet to store.
+-- One pass over the elements of an accepted tree: how far it is, and what find_cells and put_elements have yet to store.
 use mathlib.Core.Path.{_≡_, refl, sym, ap, _∙_}
 use Prim.Native.Nat.{ℕ, suc, _+_, _-_, _≤_, _<_, _/_, _%_}
 use native.Mathlib.Omega.{arith}
@@ -41,7 +41,7 @@ high-byte : (n : ℕ) → n < 65536 → n / 256 % 256 ≡ n / 256
 high-byte n h = omega arith
 
 module _ (s : List ℕ) (q : ReadElements s) where
-  -- at byte `at` stands the element of that node, the first of those still to come
+  -- at byte `at` is the element of that node, the first of those still to come
   pub record Sweep (at node : ℕ) (rest : Trees) : Type 0 where
     pub passing : Passing s at rest
     pub left : node + nodes* rest ≡ nodes (q .tree)
@@ -76,7 +76,7 @@ module _ (s : List ℕ) (q : ReadElements s) where
 
   -- ---- the flags of the Cells
 
-  -- with the flags of the elements still to come, the array is what it is to be
+  -- with the flags of the elements still to come, the array is the result
   pub record Finding (cells : List ℕ) (at node : ℕ) (rest : Trees) : Type 0 where
     pub sweep : Sweep at node rest
     pub stored : sets cells node (cellFlags* rest) ≡ padded (cellFlags (q .tree))
@@ -122,7 +122,7 @@ module _ (s : List ℕ) (q : ReadElements s) where
   -- ---- the bytes
 
   module _ (ds o₀ : List ℕ) where
-    -- with the bytes of the elements still to come, the output is what it is to be
+    -- with the bytes of the elements still to come, the output is the result
     pub record PuttingBytes (o : List ℕ) (at node : ℕ) (rest : Trees) : Type 0 where
       pub sweep : Sweep at node rest
       pub stored : sets o at (bytesOf* (blanked* (isDotted ds) node rest)) ≡ sets o₀ 0 (bytesOf (blanked (isDotted ds) 0 (q .tree)))

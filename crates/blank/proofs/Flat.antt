@@ -131,7 +131,7 @@ module _ (t : Tree) (ts : Trees) (s : List ℕ) (k : EncodesAll (more t ts) s) w
       go (cell x) k = rw (eq-eqb (getD s 0 0) 1 (k .0 .1))
       go (group a us) k = rw (ne-eqb (getD s 0 0) 1 (λ z. omega (arith, k .0 .1, tag-low a))) (ap (λ (l : List ℕ). 0 ∷ l) (sym (joined-flags us ts)))
 
-  -- its front, its text with dots where they are due, and the elements after it
+  -- its front, its text with dots where it is blanked, and the elements after it
   pub after-bytes : (dots : ℕ → Bool) (n : ℕ)
       → bytesOf* (blanked* dots n (more t ts)) ≡ getD s 0 0 ∷ (lengthAt s / 256) ∷ (lengthAt s % 256)
       ∷ (map (shownByte (dots n)) (take (textAt s) (drop 3 s)) ++ bytesOf* (blanked* dots (suc n) nextTrees))

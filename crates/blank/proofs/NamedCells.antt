@@ -26,7 +26,7 @@ pub all-dotted : (ns : List ℕ) → length ns ≡ 0 → DotsAre ns (replicate 5
 unfolding dotsFor
 all-dotted ns h n l = rw (no-numbers ns h, getD-replicate {A = ℕ} 512 n 1 0 l)
 
--- where a number is no Cell's, nothing is asked of the dots
+-- where a number is not a Cell's, nothing is required of the dots
 pub no-dots : {X : Type 0} → false ≡ true → X
 no-dots e = let z : _≡_ {A = ℕ} 0 1 = cc in absurd (omega arith)
 

@@ -36,7 +36,7 @@ shown-kept d b e = kept d (eqb b 10) b refl e
 -- ---- a text, byte by byte
 
 module _ (d : Bool) (text o₀ : List ℕ) (at : ℕ) where
-  -- with the bytes from j on, the output is what it is to be
+  -- with the bytes from j on, the output is the result
   pub record Showing (o : List ℕ) (j : ℕ) : Type 0 where
     pub few : j ≤ length text
     pub long : length o ≡ length o₀

@@ -20,7 +20,7 @@ unfoldable mutual
 unfoldable pub covered : ℕ → ℕ → ℕ
 covered v b = pick (eqb b 10) 10 v
 
--- 1 stands in no text that is accepted, and is no mark, no fill and no space
+-- no text that is accepted has the byte 1, and no mark, fill or space is 1
 unfoldable pub masked : Tree → Tree
 unfolding recast covered
 masked t = recast (covered 1) t

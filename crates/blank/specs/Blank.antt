@@ -47,13 +47,13 @@ unfoldable pub oneOf : ℕ → List ℕ → Bool
 oneOf n [] = false
 oneOf n (k ∷ ks) = pick (eqb k n) true (oneOf n ks)
 
--- a reading (docs/DECISIONS.md): a list that names none names all
+-- a reading (docs/DECISIONS.md): an empty list names all Cells
 unfoldable pub dotsFor : List ℕ → ℕ → Bool
 unfolding oneOf
 dotsFor [] n = true
 dotsFor (k ∷ ks) n = oneOf n (k ∷ ks)
 
--- each number is a Cell's, by the flags of the nodes
+-- each number is that of a Cell, by the flags of the nodes
 unfoldable pub allCells : List ℕ → List ℕ → Bool
 allCells cs [] = true
 allCells cs (k ∷ ks) = pick (eqb (getD cs k 0) 0) false (allCells cs ks)

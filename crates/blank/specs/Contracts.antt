@@ -1,4 +1,4 @@
--- What the passes over a tree's elements ask and give.
+-- What the passes over a tree's elements require and ensure.
 use mathlib.Core.Path.{_≡_}
 use Prim.Native.Nat.{ℕ, _+_, _≤_, _<_}
 use mathlib.Core.Bool.{Bool}
@@ -11,7 +11,7 @@ use Rattle.tree.specs.Bytes.{lengthAt}
 use Rattle.tree.specs.Promises.{Encodes}
 use Rattle.blank.specs.Blank.{dotsFor}
 
--- the text's bytes of the element at the front of s: none but a Cell's
+-- the bytes of the text of the element at the front of s: none but for a Cell
 abbrev pub textAt : List ℕ → ℕ
 textAt s = pick (eqb (getD s 0 0) 1) (lengthAt s) 0
 
@@ -27,6 +27,6 @@ pub record ReadElements (s : List ℕ) : Type 0 where
   pub short : length s ≤ 32768
   pub few : nodes tree ≤ 512
 
--- the list has 1 for just the nodes that are blanked
+-- the list has 1 for exactly the nodes that are blanked
 abbrev pub DotsAre : List ℕ → List ℕ → Type 0
 DotsAre ns ds = (n : ℕ) → n < 512 → isDotted ds n ≡ dotsFor ns n

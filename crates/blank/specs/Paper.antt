@@ -1,4 +1,4 @@
--- The words of the theorem about a blanked tree (document 02, 14).
+-- Definitions used in the statement of the theorem about a blanked tree (document 02, 14).
 use mathlib.Core.Path.{_≡_}
 use Prim.Native.Nat.{ℕ, suc, _+_}
 use mathlib.Core.Bool.{Bool, false}
@@ -11,7 +11,7 @@ use Rattle.blank.specs.declared.Blanked.{Blanked}
 use Rattle.blank.specs.Alike.{Alike}
 use Rattle.blank.specs.Blank.{blanked, dotsFor}
 
--- for each byte of the tree whose first node is n: whether it is in a text that is blanked
+-- for each byte of the tree whose first node is n: whether it is in a blanked text
 unfoldable mutual
   unfolding nodes
 
@@ -32,7 +32,7 @@ pub record PaperRead (tree ns : List ℕ) (o : Outcome Blanked (List ℕ)) : Typ
   pub tree-is : Tree
   pub size : ℕ
   pub count : ℕ
-  -- the tree was accepted, and so is what was written: as the tree with the named texts blanked
+  -- the tree was accepted, and what was written is accepted too: as the tree with the named texts blanked
   pub reads : readTree tree ≡ ReadOne.one tree-is size count
   pub accepted : readTree (blankWritten o) ≡ ReadOne.one (blanked (dotsFor ns) 0 tree-is) size count
   -- it is alike, and of equal length

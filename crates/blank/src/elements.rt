@@ -1,4 +1,4 @@
-// One pass over the elements of an accepted tree, in node order: a front, and behind a Cell's its text.
+// One pass over the elements of an accepted tree, in node order: each element's tag and length, and after a Cell's its text.
 ghost use mathlib.Core.Path.{_≡_};
 ghost use Prim.Native.Nat.{_+_, _≤_, _<_};
 ghost use mathlib.Core.List.{map};
@@ -9,7 +9,7 @@ ghost use Rattle.tree.specs.Accepted.{bytesOf};
 ghost use Rattle.blank.specs.Blank.{blanked, cellFlags, shownByte};
 ghost use Rattle.blank.specs.Contracts.{ReadElements, textAt, isDotted};
 
-// The text's bytes of the element at the front of `s`: a Row or a Column has none of its own.
+// The bytes of the text of the element at the front of `s`: none for a Row or a Column.
 fn text_length(s: &[u8]) -> usize
     requires { ⌜ 2 < length (now s) ⌝ }
     ensures { λ r. ⌜ r ≡ textAt (now (s .entry)) ⌝ }
@@ -38,7 +38,7 @@ pub fn find_cells(tree: &[u8]) -> [u8; 512]
     cells
 }
 
-// The bytes of a text over those from `at` on: dots but for line feeds, if asked.
+// Writes a text from `at` on: as it is, or with `dots` a dot for each byte but line feeds.
 fn put_text(text: &[u8], dots: bool, out: &mut [u8], at: usize)
     requires { ⌜ at + length (now text) ≤ length (now out) ⌝ }
     ensures { λ _. ⌜ now (out .exit) ≡ sets (now (out .entry)) at (map (shownByte dots) (now (text .entry))) ⌝ }
@@ -57,7 +57,7 @@ fn show_byte(dots: bool, b: u8) -> u8
     if common::both(dots, b != 10) { 46 } else { b }
 }
 
-// The whole tree over the front of `out`, with dots in the Cells that have 1 in `dots`.
+// Writes the whole tree to the front of `out`, with dots in the Cells that have 1 in `dots`.
 pub fn put_elements(tree: &[u8], dots: [u8; 512], out: &mut [u8])
     requires { ⌜ ReadElements (now tree) × (length (now tree) ≤ length (now out)) ⌝ }
     ensures { λ _. ⌜ ((q : ReadElements (now (tree .entry))) → now (out .exit) ≡ sets (now (out .entry)) 0 (bytesOf (blanked (isDotted dots) 0 (q .tree)))) ⌝ }

@@ -21,7 +21,7 @@ fn refuse(n: u8) -> Blanked
     }
 }
 
-// The tree with the texts of the Cells that `nodes` names, or of all where it names none, is written to the front of `out`.
+// Writes to the front of `out` the tree with the texts of the Cells that `nodes` names blanked, or of all Cells where it names none.
 pub fn blank_texts(tree: &[u8], nodes: &[u16], out: &mut [u8]) -> Blanked
     ensures { λ r. ⌜ r ≡ blankOf (now (tree .entry)) (now (nodes .entry)) (now (out .entry)) .answer ⌝ }
     ensures written { λ _. ⌜ now (out .exit) ≡ blankOf (now (tree .entry)) (now (nodes .entry)) (now (out .entry)) .memory ⌝ }

@@ -4,13 +4,13 @@ ghost use mathlib.Core.Bool.{true};
 ghost use Rattle.blank.specs.Blank.{allCells};
 ghost use Rattle.blank.specs.Contracts.{DotsAre};
 
-// Whether each number is a Cell's; then for each node 1 if it is blanked.
+// Whether each number is that of a Cell, and for each node 1 if it is blanked.
 pub struct Named {
     pub ok: bool,
     pub dots: [u8; 512],
 }
 
-// `cells` has 1 for each Cell. No numbers name all.
+// `cells` has 1 for each Cell. An empty list names all Cells.
 pub fn name_cells(nodes: &[u16], cells: [u8; 512]) -> Named
     ensures { λ r. ⌜ r .ok ≡ allCells cells (now (nodes .entry)) ⌝ }
     ensures dots { λ r. ⌜ (r .ok ≡ true → DotsAre (now (nodes .entry)) (r .dots)) ⌝ }

@@ -31,7 +31,7 @@ dims-replicate n w b = record {
   columns = every-replicate (λ l. length l ≡ w) n (replicate w b) (length-replicate w b);
 }
 
--- the proofs stand behind what decides their statements
+-- the proofs come after what decides their statements
 pub dims-move : {x : List (List ℕ)} {h k w v : ℕ} → Dims x h w → h ≡ k → w ≡ v → Dims x k v
 dims-move d p q = rw (← q) (rw (← p) d)
 

@@ -54,7 +54,7 @@ pub edges-dims : (h e : ℕ) (b : Bool) (m : ℕ) → Dims (replicate h (edge e 
 unfolding edge
 edges-dims h e b m = dims-replicate h (pick b e 0) m
 
--- ---- the block: nothing here opens `sep`, it holds for every separator width
+-- ---- the block: nothing here unfolds `sep`, it holds for every separator width
 
 pub middle-dims : (s : Settings) (l : Leaf) → Fits (leafSize s (l .text)) (l .size) → Dims (middle s l) (l .size .height) (blockWidth s (l .size) (l .flags))
 unfolding middle blockWidth

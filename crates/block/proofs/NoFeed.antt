@@ -116,4 +116,4 @@ module _ (s : Settings) (p : NoFeedMarks s) where
   block-no-feed l = no-feed-append (no-feed-replicate (sep s) (free-top l)) (no-feed-append (no-feed-middle l)
       (no-feed-replicate (pick (l .flags .«last_row») (sep s) 0) (free-bottom l)))
 
--- ---- parted at each 0A
+-- ---- split at each 0A

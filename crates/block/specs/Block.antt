@@ -13,7 +13,7 @@ use Rattle.sizes.specs.Sizes.{sep}
 use Rattle.block.specs.declared.Flags.{Flags}
 use Rattle.block.specs.Content.{ruled, column, sideBySide}
 
--- a leaf as its printer sees it: text, allotted size, both split lists, flags
+-- a leaf as its printer gets it: text, allotted size, both split lists, flags
 pub record Leaf : Type 0 where
   pub text : List ℕ
   pub size : Size
@@ -21,7 +21,7 @@ pub record Leaf : Type 0 where
   pub vertical : List ℕ
   pub flags : Flags
 
--- ---- marks, by their places in the settings record
+-- ---- marks, by their indices in the settings record
 
 unfoldable pub mark : Settings → ℕ → ℕ
 mark s i = getD (s .marks) i 0
@@ -48,7 +48,7 @@ edge n b m = replicate (pick b n 0) m
 
 -- ---- the lines between the marks
 
--- the part of the slack that stands before: `indent_horizontal`, `indent_vertical`
+-- the part of the slack that comes first: `indent_horizontal`, `indent_vertical`
 unfoldable pub slackBefore : Alignment → ℕ → ℕ
 slackBefore Alignment.Start n = 0
 slackBefore Alignment.Center n = n / 2

@@ -11,7 +11,7 @@ sideBySide [] y = y
 sideBySide (l ∷ x) [] = l ∷ x
 sideBySide (l ∷ x) (m ∷ y) = (l ++ m) ∷ sideBySide x y
 
--- bytes one under the other, each n times
+-- bytes one under another, each n times
 unfoldable pub column : ℕ → List ℕ → List (List ℕ)
 column n [] = []
 column n (b ∷ l) = replicate n b ∷ column n l

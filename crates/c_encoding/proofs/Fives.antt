@@ -1,4 +1,4 @@
--- Five numbers a node, from the list of sizes and that of the counts.
+-- Five numbers for each node, from the list of sizes and that of the counts.
 use mathlib.Core.Path.{_≡_, refl, ap, _∙_}
 use Prim.Native.Nat.{ℕ, suc, _+_, _-_, _*_, _≤_, _<_}
 use native.Mathlib.Omega.{arith}

@@ -1,4 +1,4 @@
--- What the C function that folds writes, beside the definition's.
+-- What the C function that folds writes is what the definition says.
 use mathlib.Core.Path.{_≡_, refl}
 use Prim.Native.Nat.{ℕ}
 use native.Mathlib.Omega.{arith}

@@ -1,4 +1,4 @@
--- The sizes that were measured and the counts, as five numbers a node.
+-- The sizes that were measured and the counts, as five numbers for each node.
 use mathlib.Core.Path.{_≡_, refl, ap, _∙_}
 use Prim.Native.Nat.{ℕ, _*_, _≤_, _<_}
 use native.Mathlib.Omega.{arith}

@@ -1,4 +1,4 @@
--- What the C functions on places answer and write, beside the definitions'.
+-- What the C functions on places answer and write is what the definitions say.
 use mathlib.Core.Path.{_≡_, ap, _∙_}
 use mathlib.Core.Bool.{Bool}
 use Prim.Native.Nat.{ℕ, _≤_, _<_}

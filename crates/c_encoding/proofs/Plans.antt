@@ -1,4 +1,4 @@
--- What the planning C function writes, beside the definition's.
+-- What the planning C function writes is what the definition says.
 use mathlib.Core.Path.{_≡_, refl}
 use Prim.Native.Nat.{ℕ}
 use native.Mathlib.Omega.{arith}

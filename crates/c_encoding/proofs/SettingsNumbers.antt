@@ -39,7 +39,7 @@ margin-stored s o e₁ e₂ = stored-on (s .margin .left ∷ s .margin .right �
 pub margin-many : (s : Settings) → Ranges s → length (marginNumbers s) ≡ 8
 margin-many s r = rw (r .margin-fills .many)
 
--- ---- what is answered, of so many numbers
+-- ---- what is answered, for that many numbers
 
 pub taken-case : (r : ReadSettings) (p : Parsed) → r ≡ parsedAnswer p → r .number ≡ 0 → p ≡ Parsed.read (r .settings)
 taken-case r Parsed.refused e h = let z : _≡_ {A = ℕ} 1 0 = sym (ap (λ (y : ReadSettings). y .number) e) ∙ h in absurd (omega arith)

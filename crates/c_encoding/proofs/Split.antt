@@ -1,4 +1,4 @@
--- What the C functions on split lists answer and write, beside the definitions'.
+-- What the C functions on split lists answer and write is what the definitions say.
 use mathlib.Core.Path.{_≡_, refl, sym, _∙_}
 use mathlib.Core.Bool.{Bool, true, false}
 use Prim.Native.Nat.{ℕ, _+_, _≤_, min}
@@ -39,7 +39,7 @@ pub kept-stored : (k : InPlaceCut) (o : List ℕ) {b : ℕ} {o₁ o₂ : List �
 kept-stored k o {b} eb e f =
     rw eb at (stored-on (b ∷ k .answer .pair .taken ∷ k .answer .pair .rest ∷ k .list .count ∷ []) (listNumbers (k .answer .taken)) o 0 e refl f)
 
--- ---- the list left in the place of the lent one
+-- ---- the list left, written over the lent one
 
 fits-take : (b : Bool) (m : ℕ) (l : List ℕ) → ltb m (length l) ≡ b → take (min m (length l)) l ≡ take m l
 fits-take true m l e = let k = ltb-true m (length l) e in let h : m ≤ length l = omega arith in rw (min-eq-left h)

@@ -1,4 +1,4 @@
--- What the header takes out of a typed list's word is the answer's number, count, line and column.
+-- What the header decodes from a typed list's word is the answer's number, count, line and column.
 use mathlib.Core.Path.{_≡_, refl}
 use Prim.Native.Nat.{ℕ, _+_, _*_, _≤_, _<_, _/_, _%_}
 use native.Mathlib.Omega.{arith}

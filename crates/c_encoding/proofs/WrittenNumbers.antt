@@ -1,4 +1,4 @@
--- What a C function answers and writes, beside the definition's.
+-- What a C function answers and writes is what the definition says.
 use Rattle.common.specs.Outcome.{Outcome}
 use Rattle.common.proofs.Stores.{sets-front}
 use mathlib.Core.Path.{_≡_, refl, _∙_}

@@ -1,4 +1,4 @@
--- What the functions of this crate ask and give, beyond the definitions; no theorem speaks of it.
+-- What the functions of this crate require and ensure, beyond the definitions; no theorem mentions it.
 use Prim.Native.Nat.{ℕ, zero, suc, _≤_, _<_}
 use mathlib.Core.List.{List, [], _∷_}
 use lib.ListN.{drop, getD}
@@ -11,7 +11,7 @@ use Rattle.leaf.specs.declared.LeafRecord.{LeafRecord}
 abbrev pub choiceNumbers : Settings → List ℕ
 choiceNumbers s = alignmentNumber (s .horizontal) ∷ alignmentNumber (s .vertical) ∷ pick (s .«line_mode») 1 0 ∷ priorityNumber (s .«width_priority») ∷ priorityNumber (s .«height_priority») ∷ []
 
--- four numbers of a list and one of another, n times by turns
+-- four numbers of a list and one of another, alternately, n times
 unfoldable pub fives : ℕ → List ℕ → List ℕ → List ℕ
 fives zero l m = []
 fives (suc n) l m = getD l 0 0 ∷ getD l 1 0 ∷ getD l 2 0 ∷ getD l 3 0 ∷ getD m 0 0 ∷ fives n (drop 4 l) (drop 1 m)

@@ -20,7 +20,7 @@ use Rattle.c_encoding.specs.Numbers.{refusal, written, overwritten, bit,
 unfoldable pub refusedBy : ℕ → ℕ → ℕ → ℕ → ℕ
 refusedBy held n room needed = pick (ltb held n) 8 (pick (ltb room needed) 8 (pick (ltb 512 n) 10 0))
 
--- what is given where that number is 0
+-- what is answered where that number is 0
 abbrev pub unless : {X : Type 0} → ℕ → (ℕ → X) → X → X
 unless k refused x = pick (eqb k 0) x (refused k)
 
@@ -30,7 +30,7 @@ unless k refused x = pick (eqb k 0) x (refused k)
 abbrev pub cutNumbers : CutParts → List ℕ
 cutNumbers k = bit (k .split) ∷ k .pair .taken ∷ k .pair .rest ∷ (listNumbers (k .taken) ++ listNumbers (k .left))
 
--- the list is the first n of s; those past them are not looked at
+-- the list is the first n of s; those past them are not read
 unfoldable pub splits3Given : List ℕ → ℕ → ℕ → List ℕ → Outcome ℕ (List ℕ)
 splits3Given s n w o =
     unless (refusedBy (length s) n (length o) 1029) (λ k. refusal k o) (written 1029 (cutNumbers (cutOf (splitList (take n s)) w)) o)
@@ -47,7 +47,7 @@ writtenTwo count a b o p = record { answer = packed 0 count; memory = (overwritt
 abbrev pub keptNumbers : InPlaceCut → List ℕ
 keptNumbers k = bit (k .answer .split) ∷ k .answer .pair .taken ∷ k .answer .pair .rest ∷ k .list .count ∷ listNumbers (k .answer .taken)
 
--- the list left, with 0 past its count, takes the place of the lent one, as far as that goes; numbers past 512 stay
+-- the list left, with 0 past its count, is written over the lent one as far as that is long enough; numbers past 512 stay
 unfoldable pub keptGiven : InPlaceCut → List ℕ → List ℕ → Outcome ℕ (List ℕ × List ℕ)
 keptGiven k s o = writtenTwo 517 (take (length s) (k .list .pieces)) (keptNumbers k) s o
 
@@ -59,7 +59,7 @@ lentGiven s n w o = unless (refusedBy (length s) n (length o) 517) (λ k. refusa
 unfoldable pub shortGiven : ShortParts → List ℕ → List ℕ → Outcome ℕ (List ℕ × List ℕ)
 shortGiven k o p = writtenTwo 513 (positionNumbers (k .positions)) (listNumbers (k .left)) o p
 
--- the room is that of the shorter of the two lists
+-- 8 depends on the shorter of the two lists
 unfoldable pub splitsGiven : List ℕ → ℕ → ℕ → List ℕ → List ℕ → Outcome ℕ (List ℕ × List ℕ)
 splitsGiven s n w o p =
     unless (refusedBy (length s) n (min (length o) (length p)) 513) (λ k. refusal k (o, p)) (shortGiven (shortOf (splitList (take n s)) w) o p)

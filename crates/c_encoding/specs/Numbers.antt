@@ -47,7 +47,7 @@ settingsNumbers s = drop 3 (settingsBytes s)
 abbrev pub marginNumbers : Settings → List ℕ
 marginNumbers s = drop 3 (marginBytes (s .margin))
 
--- 1, or so many numbers of what was read
+-- 1, or that many numbers of what was read
 unfoldable pub readGiven : ℕ → (Settings → List ℕ) → Parsed → List ℕ → Outcome ℕ (List ℕ)
 unfolding refusal offered
 readGiven count numbers Parsed.refused o = refusal 1 o

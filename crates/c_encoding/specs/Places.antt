@@ -16,6 +16,6 @@ unfoldable pub placeGiven : LeafPlace → List ℕ → Outcome ℕ (List ℕ)
 unfolding refusal offered
 placeGiven p o = pick (eqb (p .number) 0) (offered 3 (placeNumbers p) o) (refusal (p .number) o)
 
--- the number lent for the elements read; beside a refusal it stays
+-- the number lent for the elements read; after a refusal it stays
 abbrev pub readAfter : FoundPlaces → ℕ → ℕ
 readAfter r old = pick (eqb (r .number) 0) (r .steps) old

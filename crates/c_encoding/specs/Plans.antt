@@ -10,10 +10,10 @@ use Rattle.c_encoding.specs.Words.{packed}
 abbrev pub endsNumbers : Planned → List ℕ
 endsNumbers r = r .«least_width» ∷ r .«greatest_width» ∷ r .«least_height» ∷ r .«greatest_height» ∷ []
 
--- the word counts them; beside a refusal 0
+-- the word counts them; after a refusal 0
 abbrev pub endsWord : Planned → ℕ
 endsWord r = pick (eqb (r .number) 0) (packed 0 4) (packed (r .number) 0)
 
--- the four numbers lent for them; beside a refusal they stay
+-- the four numbers lent for them; after a refusal they stay
 abbrev pub endsAfter : Planned → List ℕ → List ℕ
 endsAfter r old = pick (eqb (r .number) 0) (endsNumbers r) old

@@ -53,7 +53,7 @@ pub fn put_kept(kept: InPlaceCut, out: &mut [u16])
     lists::put_list(taken, out, 4);
 }
 
-// The list left in the place of the lent one, as far as that goes.
+// The list left, written over the lent one as far as that is long enough.
 pub fn put_left(left: SplitList, out: &mut [u16])
     ensures { λ _. ⌜ now (out .exit) ≡ overwritten (take (length (now (out .entry))) (left .pieces)) (now (out .entry)) ⌝ }
 {

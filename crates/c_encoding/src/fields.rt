@@ -97,7 +97,7 @@ pub fn put_margin(s: Settings, out: &mut [u16])
     widen_bytes(out, 4, &fills);
 }
 
-// Five numbers a node: its sizes in the list, and its count of nodes below.
+// Five numbers for each node: its sizes in the list, and its count of nodes below.
 pub fn put_sizes(list: &[u16; 2048], n: usize, below: [u16; 512], out: &mut [u16])
     requires { ⌜ (n ≤ 512) × (5 * n ≤ length (now out)) ⌝ }
     ensures { λ _. ⌜ now (out .exit) ≡ sets (now (out .entry)) 0 (fives n (now (list .entry)) below) ⌝ }
@@ -163,7 +163,7 @@ pub fn put_place(p: LeafPlace, out: &mut [u16])
     copy_numbers(out, 0, &three);
 }
 
-// The height, the tries and the greatest miss of a fold.
+// The height, the tries and the greatest excess height of a fold.
 pub fn put_found(r: Folded, out: &mut [u64])
     requires { ⌜ length (now out) ≡ 3 ⌝ }
     ensures { λ _. ⌜ now (out .exit) ≡ foundNumbers r ⌝ }

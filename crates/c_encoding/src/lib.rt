@@ -1,4 +1,4 @@
-// What the calls answer, as numbers in lent lists and as one word: the form in which C has it (include/leg_sheet.h).
+// What the calls answer, as C gets it: numbers in lent lists, and one word (include/leg_sheet.h).
 pub mod cuts;
 pub mod fields;
 pub mod lists;
@@ -14,7 +14,7 @@ pub fn pack(number: u8, count: usize) -> u64
     (number as u64) * 4294967296 + (count % 4294967296) as u64
 }
 
-// The answer word of a typed list: the line above the number; in the lower half the count, of a refusal the column.
+// The answer word of a typed list: the line above the number; in the lower half the count, or after a refusal the column.
 pub fn pack_typed(t: Typed) -> u64
     ensures { λ r. ⌜ r ≡ typedWord t ⌝ }
 {

@@ -1,4 +1,4 @@
--- What the functions of this crate ask and give, beyond the definitions; no theorem speaks of it.
+-- What the functions of this crate require and ensure, beyond the definitions; no theorem mentions it.
 use mathlib.Core.Path.{_≡_}
 use Prim.Native.Nat.{ℕ, _+_, _≤_}
 use mathlib.Core.List.{List, _++_}
@@ -18,14 +18,14 @@ use Rattle.collector.specs.declared.Sizing.{Sizing}
 use Rattle.collector.specs.Records.{recordsOf, noCollected, collectOf}
 use Rattle.collector.specs.Promises.{noSizeRecord}
 
--- s begins with a tree, whose nodes from `node` on have room in a list of the length len
+-- s begins with a tree, whose nodes from `node` on fit a list of the length len
 pub record ReadyBranch (s : List ℕ) (node len : ℕ) : Type 0 where
   pub tree : Tree
   pub is : Encodes tree s
   pub room : node + nodes tree ≤ len
   pub few : node + nodes tree ≤ 512
 
--- s is trees, whose nodes have such room
+-- s is trees, whose nodes fit it
 pub record ReadyBranches (s : List ℕ) (node len : ℕ) : Type 0 where
   pub trees : Trees
   pub are : EncodesAll trees s
@@ -37,7 +37,7 @@ pub record CountsBelow (node n : ℕ) (counts : List ℕ) (r : ℕ) (b₀ b : Li
   pub next : r ≡ node + n
   pub stored : b ≡ sets b₀ node counts
 
--- with the first `room` entries of a list lent, and the rest after them
+-- where the first `room` entries of a list are lent, with the others after them
 abbrev pub lentWith : Outcome Collected (List SizeRecord) → List SizeRecord → LentSizes
 lentWith o rest = record { answer = o .answer; list = o .memory ++ rest }
 

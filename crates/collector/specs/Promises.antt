@@ -1,4 +1,4 @@
--- The words of the theorems about this crate's functions.
+-- Definitions used in the statements of the theorems about this crate's functions.
 use Prim.Native.Nat.{ℕ, _+_, _≤_}
 use mathlib.Core.Option.{Option, some}
 use mathlib.Core.List.{List, map}

@@ -1,4 +1,4 @@
-// Lists copied: what stands in `out` from `at` on becomes what stands in `from`; the answer is where it ends.
+// Lists copied: what is in `out` from `at` on becomes what is in `from`; the answer is where it ends.
 ghost use Prim.Native.Nat.{_+_, _≤_};
 ghost use lib.ListN.{length};
 ghost use lib.Seq.{sets};

@@ -1,4 +1,4 @@
--- What holds of every store of the form, also one that a caller hands in.
+-- What holds of every store of the right form, also one that a caller passes in.
 use mathlib.Core.Path.{_≡_, refl, ap, _∙_}
 use Prim.Native.Nat.{ℕ, _+_, _-_, _≤_}
 use native.Mathlib.Omega.{arith}
@@ -22,7 +22,7 @@ use Rattle.drafts.proofs.Series.{name-tag, is-name, StoreState, state-r
 of-form : {n : ℕ} {o : List ℕ} → StoreState n o → OfForm n o
 of-form x = record { fields = x .fs; reads = state-reads x; long = state-length x }
 
--- a store of the form, whoever made it
+-- a store of the right form, whoever made it
 module _ (o : List ℕ) (fs : List (List ℕ)) (e : fieldsOf o ≡ some fs) where
   form : Formed o fs
   form = store-parsed o fs e
@@ -41,11 +41,11 @@ module _ (o : List ℕ) (fs : List (List ℕ)) (e : fieldsOf o ≡ some fs) wher
 
   -- ---- one call
 
-  -- the store is again of the form, and as long
+  -- the store is of the right form again, and as long
   pub call-form : (c : DraftCall) → OfForm (length o) (answerTo o c .memory)
   call-form c = of-form (call-next (length o) 65 is-name o (draftOf (tagFor 65) fs) (start 65 is-name) c .state)
 
-  -- "other drafts keep their bytes": a call under another name leaves what the name gives back
+  -- "other drafts keep their bytes": a call under another name does not change what the name gives back
   pub others-stay : (k : ℕ) → isName k ≡ true → (c : DraftCall) → (nameIn c ≡ k → ⊥) → (out : List ℕ) → returnOf (answerTo o c .memory) k out ≡ returnOf o k out
   unfolding returnOf
   others-stay k name c d out =
@@ -101,7 +101,7 @@ module _ (o : List ℕ) (fs : List (List ℕ)) (e : fieldsOf o ≡ some fs) wher
   pub series-form : (cs : List DraftCall) → OfForm (length o) (storeAfter o cs)
   series-form cs = of-form (series (length o) 65 is-name cs o (draftOf (tagFor 65) fs) (start 65 is-name) .state)
 
-  -- a return gives the tree of the last accepted save under the name, not since forgotten, or what the store held under it at first
+  -- a return gives the tree of the last accepted save under the name, not forgotten since, or what the store held under it at first
   pub series-gives : (cs : List DraftCall) (k : ℕ) → isName k ≡ true → (out : List ℕ)
       → returnOf (storeAfter o cs) k out ≡ returnFound (lastSaved k o cs (draftOf (tagFor k) fs)) out
   unfolding returnOf

@@ -1,4 +1,4 @@
--- What holds of every store, of the form or not.
+-- What holds of every store, of the right form or not.
 use mathlib.Core.Path.{_≡_, refl}
 use Prim.Native.Nat.{ℕ, _+_}
 use native.Mathlib.Omega.{arith}

@@ -1,4 +1,4 @@
--- A store that is of the form is its fields and zero bytes; where a field lies in it, and what is left when it is taken out.
+-- A store of the right form is its fields and zero bytes; where a field is in it, and what is left when it is taken out.
 use mathlib.Core.Path.{_≡_, refl, sym, ap, ap₂, _∙_}
 use Prim.Native.Nat.{ℕ, zero, suc, _+_, _-_, _≤_}
 use native.Mathlib.Omega.{arith}

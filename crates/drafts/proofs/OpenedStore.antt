@@ -33,7 +33,7 @@ unfolding fieldBytes
 joined-more [] f = append-nil f
 joined-more (g ∷ fs) f = ap (λ (l : List ℕ). g ++ l) (joined-more fs f) ∙ sym (append-assoc g (fieldBytes fs) f)
 
--- a field put at the end of the others
+-- a field added after the others
 put-store : (n : ℕ) (fs : List (List ℕ)) (f : List ℕ) (m : ℕ) → length f ≡ m → length (fieldBytes fs) + m ≤ n
     → take (length (fieldBytes fs)) (storeOf n fs) ++ (f ++ drop (length (fieldBytes fs) + m) (storeOf n fs)) ≡ storeOf n (fs ++ (f ∷ []))
 unfolding storeOf
@@ -157,7 +157,7 @@ opened-ready o n p e h = go (fieldsOf o) refl (e) (sym (ap (λ (q : Opened). q .
             ∙ rw m in record { fs = fs; reads = r; named = m; used-is = ap (λ (y : Opened). y .used) d; spot-is = ap (λ (y : Opened). y .spot) d }
         named false m q e = let z : _≡_ {A = ℕ} 19 0 = rw m at q in absurd (omega arith)
 
--- what the tree reader says
+-- what the tree reader answers
 pub tree-read : (tree : List ℕ) → treeAnswer (readTree tree) .number ≡ 0 → TreeRead tree
 tree-read tree h = go (readTree tree) refl h
   where

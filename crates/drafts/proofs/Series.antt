@@ -1,4 +1,4 @@
--- After any series of calls from a store of zero bytes, each name gives back the tree of its last accepted save, not since forgotten.
+-- After any series of calls from a store of zero bytes, each name gives back the tree of its last accepted save, not forgotten since.
 use mathlib.Core.Path.{_≡_, refl, sym, ap, _∙_}
 use Prim.Native.Nat.{ℕ, _+_, _-_, _≤_, _<_}
 use native.Mathlib.Omega.{arith}
@@ -205,7 +205,7 @@ module _ (n : ℕ) (cs : List DraftCall) where
   unfolding draftOf state-zeros
   end k name = series n k name cs (replicate n 0) none (record { state = state-zeros n; holds = refl })
 
-  -- a return: the tree of the last accepted save under that name, not since forgotten; 19 where there is none, 8 where the buffer is too short
+  -- a return: the tree of the last accepted save under that name, not forgotten since; 19 where there is none, 8 where the buffer is too short
   pub return-gives : (k : ℕ) → isName k ≡ true → (out : List ℕ) → returnOf store k out ≡ returnFound (draft k) out
   unfolding returnOf
   return-gives k name out = let e = end k name in rw (state-reads (e .state), name, e .holds)
@@ -213,14 +213,14 @@ module _ (n : ℕ) (cs : List DraftCall) where
   pub ours : StoreState n store
   ours = end 65 is-name .state
 
-  -- no byte is added or lost, and the store is always of the form
+  -- no byte is added or lost, and the store is always of the right form
   pub store-length : length store ≡ n
   store-length = state-length ours
 
   pub store-reads : fieldsOf store ≡ some (ours .fs)
   store-reads = state-reads ours
 
-  -- a save of a tree that is read is refused by the name, or for room and nothing else: by the other fields, 3 and the tree
+  -- a save of a tree that is read is refused for the name, or for lack of room and nothing else: by the other fields, 3 and the tree
   pub save-room : (k : ℕ) → isName k ≡ true → (tree : List ℕ) (t : Tree) (z w : ℕ) → readTree tree ≡ ReadOne.one t z w
       → saveOf store k tree .answer ≡ pick (ltb n (length (fieldBytes (withoutTag (tagFor k) (ours .fs))) + (3 + length tree))) 20 0
   unfolding saveOf

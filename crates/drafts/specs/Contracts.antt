@@ -1,4 +1,4 @@
--- A store as it is scanned for a tag.
+-- A store scanned for a tag.
 use Prim.Native.Nat.{ℕ, _+_}
 use mathlib.Core.Bool.{Bool, true, false}
 use mathlib.Core.List.{List, [], _∷_}
@@ -22,7 +22,7 @@ noField = record { found = false; at = 0; size = 0 }
 abbrev pub nextField : FieldAt → Bool → ℕ → ℕ → FieldAt
 nextField p is at size = pick is (record { found = true; at = at; size = size }) p
 
--- where the field of that tag lies, in fields that start at i
+-- where the field of that tag is, in fields that start at i
 unfoldable pub fieldFrom : ℕ → ℕ → List (List ℕ) → FieldAt
 fieldFrom k i [] = noField
 fieldFrom k i (f ∷ fs) = pick (eqb (tagIn f) k) (record { found = true; at = i; size = length f }) (fieldFrom k (i + length f) fs)
@@ -33,7 +33,7 @@ noScan = record { ok = false; used = 0; spot = noField }
 abbrev pub endScan : Bool → ℕ → FieldAt → Scan
 endScan ok used p = pick ok (record { ok = true; used = used; spot = p }) noScan
 
--- the bytes that the fields take, and the place of the one asked for
+-- the bytes that the fields take, and where the field looked for is
 abbrev pub scanOf : ℕ → Option (List (List ℕ)) → Scan
 scanOf k none = noScan
 scanOf k (some fs) = record { ok = true; used = length (fieldBytes fs); spot = fieldFrom k 0 fs }

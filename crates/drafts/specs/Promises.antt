@@ -1,4 +1,4 @@
--- The words of the theorems about drafts (document 02, 12).
+-- Definitions used in the statements of the theorems about drafts (document 02, 12).
 use mathlib.Core.Path.{_≡_}
 use Prim.Native.Nat.{ℕ, _≤_, _+_}
 use mathlib.Core.List.{List, [], _∷_, _++_}
@@ -18,7 +18,7 @@ pub data DraftCall : Type 0 where
   forget : ℕ → DraftCall
   return : ℕ → List ℕ → DraftCall
 
--- the name that a call is about
+-- the name that a call has
 unfoldable pub nameIn : DraftCall → ℕ
 nameIn (save n tree) = n
 nameIn (forget n) = n
@@ -32,7 +32,7 @@ pub record TreeRead (bytes : List ℕ) : Type 0 where
   pub reads : readTree bytes ≡ ReadOne.one tree-is size nodes
   pub short : length bytes ≤ 32768
 
--- a store of the form, of n bytes
+-- a store of the right form, of n bytes
 pub record OfForm (n : ℕ) (s : List ℕ) : Type 0 where
   pub fields : List (List ℕ)
   pub reads : fieldsOf s ≡ some fields
@@ -51,7 +51,7 @@ unfolding answerTo
 storeAfter o [] = o
 storeAfter o (c ∷ cs) = storeAfter (answerTo o c .memory) cs
 
--- the tree of the last accepted save under the name k, not since forgotten: before the call m, after it
+-- the tree of the last accepted save under the name k, not forgotten since: before the call m, after it
 unfoldable pub noted : ℕ → ℕ → DraftCall → Option (List ℕ) → Option (List ℕ)
 noted k number (save n tree) m = pick (eqb n k) (pick (eqb number 0) (some tree) m) m
 noted k number (forget n) m = pick (eqb n k) (pick (eqb number 0) none m) m

@@ -1,5 +1,5 @@
--- A store of drafts (request 12): fields of hex tag 20 to 27, two-byte length with the high byte first, the tree's bytes, back to back, each name at
--- most once, then zero bytes to the store's end. A field is its own bytes, front included.
+-- A store of drafts (request 12): fields of hex tag 20 to 27, two-byte length with the high byte first, the tree's bytes, back to back, each name at most once,
+-- then zero bytes to the store's end. The bytes of a field include its tag and length.
 use Prim.Native.Nat.{ℕ, zero, suc, _+_, _-_}
 use mathlib.Core.Bool.{Bool, true, false}
 use mathlib.Core.List.{List, [], _∷_, _++_}
@@ -61,7 +61,7 @@ readFields (suc fuel) (b ∷ s) = elim (eqb b 0) [
   ]
 ]
 
--- the fields of a store, or none where it is not of this form
+-- the fields of a store, or none where it is not of the right form
 unfoldable pub fieldsOf : List ℕ → Option (List (List ℕ))
 unfolding readFields
 fieldsOf s = readFields (length s + 1) s
@@ -75,7 +75,7 @@ unfoldable pub storeOf : ℕ → List (List ℕ) → List ℕ
 unfolding fieldBytes
 storeOf n fs = fieldBytes fs ++ replicate (n - length (fieldBytes fs)) 0
 
--- the fields without that tag, the draft with it
+-- the fields without that tag, and the draft with it
 unfoldable pub withoutTag : ℕ → List (List ℕ) → List (List ℕ)
 withoutTag k [] = []
 withoutTag k (f ∷ fs) = pick (eqb (tagIn f) k) fs (f ∷ withoutTag k fs)

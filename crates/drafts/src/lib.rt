@@ -7,7 +7,7 @@ ghost use Rattle.drafts.specs.Contracts.{refusedOpen, openedOf};
 pub mod moves;
 pub mod scan;
 
-// A store of the form, opened for a name: the bytes that its fields take, and where the name's lies; or 18 or 19.
+// A store of the right form, opened for a name: the bytes that its fields take, and where the field of that name is; or 18 or 19.
 pub struct Opened {
     pub number: u8,
     pub used: usize,
@@ -108,7 +108,7 @@ pub fn return_draft(store: &[u8], name: u8, out: &mut [u8]) -> Returned
     }
 }
 
-// The draft of that name is taken out; the rest closes up.
+// The draft of that name is taken out; the fields after it move down.
 pub fn forget_draft(store: &mut [u8], name: u8) -> u8
     ensures { λ r. ⌜ r ≡ forgetOf (now (store .entry)) name .answer ⌝ }
     ensures left { λ _. ⌜ now (store .exit) ≡ forgetOf (now (store .entry)) name .memory ⌝ }

@@ -7,7 +7,7 @@ ghost use lib.ListN.{length, take, drop, replicate};
 ghost use lib.Seq.{paste};
 ghost use Rattle.tree.specs.Accepted.{element};
 
-// The bytes from `at + size` on move down to `at`; those that they leave behind stay.
+// The bytes from `at + size` on move down to `at`; those behind them are not cleared.
 fn move_down(s: &mut [u8], at: usize, size: usize)
     requires { ⌜ at + size ≤ length (now s) ⌝ }
     ensures { λ _. ⌜ now (s .exit) ≡ paste (now (s .entry)) at (drop (at + size) (now (s .entry))) (length (now (s .entry)) - (at + size)) ⌝ }
@@ -41,7 +41,7 @@ fn close_gap(s: &mut [u8], at: usize, size: usize)
     clear_from(s, end);
 }
 
-// The same where all bytes from `used` on are zero: these stay, and nothing is moved for no bytes.
+// The same where all bytes from `used` on are zero: these stay, and nothing moves where `size` is 0.
 pub fn take_out(s: &mut [u8], at: usize, size: usize, used: usize)
     requires { ⌜ (at + size ≤ used) × (used ≤ length (now s)) × (drop used (now s) ≡ replicate (length (now s) - used) 0) ⌝ }
     ensures { λ _. ⌜ now (s .exit) ≡ take at (now (s .entry)) ++ (drop (at + size) (now (s .entry)) ++ replicate size 0) ⌝ }
@@ -52,7 +52,7 @@ pub fn take_out(s: &mut [u8], at: usize, size: usize, used: usize)
     close_gap(&mut s[..used], at, size);
 }
 
-// A field of that tag with the bytes of `t`, over those from `at` on.
+// Writes a field of that tag with the bytes of `t`, from `at` on.
 pub fn put_field(s: &mut [u8], at: usize, tag: u8, t: &[u8])
     requires { ⌜ (at + (3 + length (now t)) ≤ length (now s)) × (length (now t) ≤ 65535) ⌝ }
     ensures { λ _. ⌜ now (s .exit) ≡ take at (now (s .entry))

@@ -1,11 +1,11 @@
-// A store is scanned: whether its fields are of the form, how many bytes they take, and where the one of a tag lies.
+// Scans a store: whether its fields are of the right form, how many bytes they take, and where the field of a tag is.
 ghost use mathlib.Core.Path.{_≡_};
 ghost use Prim.Native.Nat.{_≤_};
 ghost use lib.ListN.{length};
 ghost use Rattle.drafts.specs.Store.{isTag, allZero, fieldsOf};
 ghost use Rattle.drafts.specs.Contracts.{fieldSize, nextField, endScan, scanOf};
 
-// Where the field of the tag lies, front included.
+// Where the field of the tag is, its tag and length included.
 pub struct FieldAt {
     pub found: bool,
     pub at: usize,

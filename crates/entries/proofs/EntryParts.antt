@@ -42,7 +42,7 @@ module _ {s : Settings} {stride : ℕ} {tree list : List ℕ} {l : Placed} {es :
     node-is : e .spot .node ≡ l .at .node
     node-is = ap (λ (x : Entry). x .spot .node) is
 
-    -- the numbers lie in the tree's bytes, in the list and in the entry
+    -- the numbers are in the tree's bytes, in the list and in the entry
     pub in-tree : e .spot .at + 3 + lengthAt (drop (e .spot .at) tree) ≤ length tree
     in-tree = rw at-is (b .stands .inside)
 

@@ -43,7 +43,7 @@ pub extern "C" fn leg_measure_plain(text: &[u8]) -> u64 {
     answer(longest, lines)
 }
 
-// Whether the 16 bytes from `from` on have no line feed. The loop has no way out before the end, so that they are taken together.
+// Whether the 16 bytes from `from` on have no line feed. The loop does not end early, so that the compiler can take all 16 bytes at once.
 fn is_plain(text: &[u8], from: usize) -> bool
     requires { ⌜ from + 16 ≤ length (now text) ⌝ }
 {
@@ -56,7 +56,7 @@ fn is_plain(text: &[u8], from: usize) -> bool
     plain
 }
 
-// Past the bytes from `from` on that have no line feed, 16 at a time.
+// Goes past the bytes from `from` on that have no line feed, 16 at a time.
 fn skip_plain(text: &[u8], from: usize) -> usize
     requires { ⌜ from ≤ length (now text) ⌝ }
     ensures { λ r. ⌜ (from ≤ r) × (r ≤ length (now (text .entry))) ⌝ }
@@ -86,7 +86,7 @@ fn line_end(text: &[u8], from: usize) -> usize
     i
 }
 
-// The measure as it was before request 3 of document 02: the end of one line sought after the other, 16 bytes at a time and then byte by byte.
+// The measure before request 3 of document 02: it finds the end of one line after the other, 16 bytes at a time and then byte by byte.
 fn search(text: &[u8]) -> u64
     requires { ⌜ length (now text) + 1 < 18446744073709551616 ⌝ }
 {
@@ -110,7 +110,7 @@ pub extern "C" fn leg_measure_search(text: &[u8]) -> u64 {
     search(text)
 }
 
-// The measure as it is.
+// The measure that is in use.
 #[no_mangle]
 pub extern "C" fn leg_measure_words(text: &[u8]) -> u64 {
     if 65536 <= text.len() {

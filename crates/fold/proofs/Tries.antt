@@ -1,4 +1,4 @@
--- The tries, and the answer, as the code has them.
+-- The tries, and the answer, in the code's terms.
 use mathlib.Core.Path.{_≡_, refl, sym, ap, _∙_}
 use Prim.Native.Nat.{ℕ, zero, suc, _+_, _-_, _≤_, _<_, min}
 use native.Mathlib.Omega.{arith}

@@ -1,4 +1,4 @@
--- What the functions of this crate ask and give, beyond the definitions; no theorem speaks of it.
+-- What the functions of this crate require and ensure, beyond the definitions; no theorem mentions it.
 use Prim.Native.Nat.{ℕ, _+_, _*_}
 use mathlib.Core.Bool.{Bool, true}
 use lib.Dec.{ltb}

@@ -1,4 +1,4 @@
--- The words of the theorems about this crate's functions.
+-- Definitions used in the statements of the theorems about this crate's functions.
 use Prim.Native.Nat.{ℕ, _+_, _-_, _*_}
 use mathlib.Core.List.{List}
 use lib.ListN.{take}

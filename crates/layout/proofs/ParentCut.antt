@@ -207,14 +207,13 @@ module _ (s : Settings) (t : Tree) {m : ℕ} {f : Placed} (p : LeafAt s t m f) w
       subst (λ k. getElem? cs k ≡ some (f .at)) (p .number)
       (every-elem _ (leaves s t) (p .index) f (at-context s (treeSizes s t) cs t (root s t) (stand-whole cs)) (p .stands))
 
-  -- a leaf is handed what its node is
+  -- a leaf gets what its node gets
   pub leaf-context : f .at ≡ contextAt s t m
   unfolding contextAt
   leaf-context = sym (entry-at (contexts s t (root s t)) m (f .at) (root s t) leaf-there)
 
   -- "each leaf record holds the pair from its own cut": a leaf that is child i of a group has the pair of `short_splits3` of the list that was left before it,
-  -- at its extent.
-  -- The list is the one that the group, node n, was handed along its axis; the children before the leaf have cut it at their extents.
+  -- at its extent. The list is the one that the group, node n, got along its axis; the children before the leaf have cut it at their extents.
   pub leaf-pair : (n : ℕ) (a : Axis) (ts : Trees) → getElem? (subtrees t) n ≡ some (group a ts) → (i : ℕ) → getElem? (childNodes (suc n) ts) i ≡ some m
       → let extent = extentIn (treeSizes s t) a in
       let handed = alongList a (contextAt s t n .horizontal) (contextAt s t n .vertical) in

@@ -1,4 +1,4 @@
--- What each node is handed (document 02, request 4): the contexts of all nodes, and the list that is left before a child.
+-- What each node gets (document 02, request 4): the contexts of all nodes, and the list that is left before a child.
 use Prim.Native.Nat.{ℕ, suc, _+_}
 use mathlib.Core.Bool.{Bool, false}
 use mathlib.Core.List.{List, [], _∷_, _++_}
@@ -65,7 +65,7 @@ unfoldable mutual
   starts s size n p (cell t) = p ∷ []
   starts s size n p (group a ts) = p ∷ starts* s size (suc n) a p ts
 
-  -- children: the first starts at p, the next where that one's extent and a separator are passed
+  -- children: the first starts at p, the next after that one's extent and a separator
   pub starts* : Settings → (ℕ → Size) → ℕ → Axis → Place → Trees → List Place
   starts* s size n a p none = []
   starts* s size n a p (more t ts) = starts s size n p t ++ starts* s size (n + nodes t) a (further a p (along a (size n) + sep s)) ts

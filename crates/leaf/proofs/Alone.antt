@@ -59,7 +59,7 @@ module _ {s : Settings} {stride : ℕ} {tree list : List ℕ} {l : Placed} {es :
       let t : take n (set es 2 0) ≡ x ++ [] = rw (entry-alone k) (take-at x (b .rest) n m) ∙ sym (append-nil x) in
       rw t (entry (b .at) stands empty)
 
-  -- as the code has it: the entry that was read, the size and the flags that it names, the block's columns and lines
+  -- in the code's terms: the entry that was read, the size and the flags that it names, the block's columns and lines
   module _ (e : Entry) (ee : e ≡ entryAt es) (z : Size) (ze : z ≡ allottedAt list (e .spot .node)) (f : Flags) (fe : f ≡ flagsAt (e .spot .flags))
       (small : SmallSize z) (w : ℕ) (we : w ≡ blockWidth s z f) where
     pub line-low : w + 1 < 65539
@@ -109,7 +109,7 @@ module _ {s : Settings} {stride : ℕ} {tree list : List ℕ} {l : Placed} {es :
           let c : 0 * (w + 1) + 0 ≡ 0 = omega arith in
           record { fits = fits; apart = omega (arith, columns-are); room = rw c (room len h) }
 
-      -- what `paint_leaves` asks, and what was written
+      -- what `paint_leaves` requires, and what was written
       module _ (short : length tree < 65536) (o : List ℕ) (h : n ≤ length o) (len : ℕ) (same : len ≡ length o) (end : ℕ)
           (d : end ≡ 8 + e .horizontal + e .vertical) where
         unfoldable pub paints : PaintsAll tree list (take end (set es 2 0)) s (w + 1) len

@@ -26,7 +26,7 @@ unfolding leafNumbered entries.entryLeaf
 numbered-is n [] = refl
 numbered-is n (l ∷ ls) = ap (λ (x : Option Placed). pick (eqb (l .at .node) n) (some l) x) (numbered-is n ls)
 
--- a fact of every leaf is one of the wanted leaf
+-- a fact of every leaf is one of the leaf that is sought
 numbered-case : (P : Placed → Type 0) (n : ℕ) (l m : Placed) (ls : List Placed) (b : Bool) → P l → Every P ls → (leafNumbered n ls ≡ some m → P m)
     → pick b (some l) (leafNumbered n ls) ≡ some m → P m
 numbered-case P n l m ls true h k ih e = let z : l ≡ m = cc in rw z at h

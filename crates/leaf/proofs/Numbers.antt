@@ -90,7 +90,7 @@ unfolding leafPrintOf leafRecordOf
 print-as-record (refused k) n o = (λ h. h, λ h. h)
 print-as-record (given s t) n o = same-case s o (tooLarge s t) (leafNumbered n (leaves s t))
 
--- the leaf printer, whatever it is lent
+-- the leaf printer, whatever output is lent
 pub print-nine : (bs ts : List ℕ) (n : ℕ) (o : List ℕ) → (leafPrintOf (inputOf bs ts) n o .answer .number ≡ 9) ↔ NamesNoLeaf bs ts n
 print-nine bs ts n o =
     let p = print-as-record (inputOf bs ts) n o in

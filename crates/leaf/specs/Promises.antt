@@ -1,4 +1,4 @@
--- The words of the theorem about number 9 (document 01: "number names no leaf").
+-- Definitions used in the statement of the theorem about number 9 (document 01: "number names no leaf").
 use mathlib.Core.Path.{_≡_}
 use Prim.Native.Nat.{ℕ}
 use mathlib.Core.Bool.{false}

@@ -25,7 +25,7 @@ ghost use Rattle.frame.specs.Printer.{printTo};
 ghost use Rattle.leaf.specs.Answers.{noLeafRecord, placedRecord, leafRecordOf, leafPrintOf};
 ghost use Rattle.leaf.specs.Contracts.{noSought, ShowsLeaf, Seeks};
 
-// A leaf's record: node, allotted size, both split lists as handed to the leaf, eight flags, the pair of the cut that its parent made for it; or a refusal with
+// A leaf's record: node, allotted size, both split lists as the leaf gets them, eight flags, the pair of the cut that its parent made for it; or a refusal with
 // 0 or no elsewhere.
 pub struct LeafRecord {
     pub number: u8,

@@ -1,4 +1,4 @@
--- `export-numbers`: the number in the word of each C function is one of its list, and each of them is met.
+-- `export-numbers`: the number in the word of each C function is one of its list, and each of them occurs.
 use mathlib.Core.Path.{_≡_, refl, sym, ap₂, _∙_}
 use Prim.Native.Nat.{ℕ, _<_, min}
 use native.Mathlib.Omega.{arith}
@@ -106,7 +106,7 @@ module _ (ns : List ℕ) (s : small ns ≡ true) where
       (word-among 8 0 e)
       (word-among 0 count z)
 
-  -- what is offered where the call's number is 0
+  -- what is answered where the call's number is 0
   given-among : (n count : ℕ) (numbers o : List ℕ) → Among 0 ns → Among 8 ns → Among n ns
       → Among (numberIn (pick (eqb n 0) (offered count numbers o) (refusal n o) .answer)) ns
   unfolding refusal

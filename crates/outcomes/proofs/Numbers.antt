@@ -1,5 +1,5 @@
--- `call-numbers`: each call answers the numbers of its list and no other. `leaf-never-seven` and its like: 7, which document 01 has for a leaf of width 0, is
--- answered by none (document 02, 8).
+-- `call-numbers`: each call answers the numbers of its list and no other. `leaf-never-seven` and its like: no call answers 7, which document 01 has for a leaf
+-- of width 0 (document 02, 8).
 --
 use mathlib.Core.Path.{_≡_, refl}
 use Prim.Native.Nat.{ℕ, zero, suc, _+_, _-_, _≤_}

@@ -109,7 +109,7 @@ tree-met = record { inputs = emptyCell ∷ badTrees; each = refl }
 abbrev pub on : {R : Type 0} → List ℕ → List ℕ → R → Handed R
 on s t r = record { settings = s; tree = t; rest = r }
 
--- refused with 1 to 5; what this opens is enough to read every input below
+-- refused with 1 to 5; what this unfolds is enough to read every input below
 pub refusals : {R : Type 0} → R → List (Handed R)
 unfolding plainSettings edgedSettings emptyCell forbidden crowded deep tallCell columnOfOne badTrees inputOf readSettings readTree readElement headerOf isText
     nodes sep
@@ -151,7 +151,7 @@ place-met = record {
   each = refl;
 }
 
--- line 0, column 0; 257 of it; line 0, column 2; on the margin
+-- line 0, column 0; that place 257 times; line 0, column 2; a place in the margin
 pub places-met : Met placesNumber ofPlaces
 unfolding refusals findsOf
 places-met = record {

@@ -1,6 +1,5 @@
 -- The numbers that each call answers (the tables of documents 01 and 02; docs/CALLS.md), and each C function in its word (include/leg_sheet.h): one of a list,
--- whatever it is
--- handed, and each number of the list for some input.
+-- whatever the input, and each number of the list for some input.
 use mathlib.Core.Path.{_≡_}
 use Prim.Native.Nat.{ℕ}
 use mathlib.Core.Bool.{true}
@@ -31,13 +30,13 @@ use Rattle.c_encoding.specs.Cuts.{splits3Given, lentGiven, splitsGiven}
 use Rattle.c_encoding.specs.Places.{placeGiven}
 use Rattle.c_encoding.specs.Plans.{endsWord}
 
--- ---- what is said of each call
+-- ---- what is stated of each call
 
 -- the number is one of those
 abbrev pub Among : ℕ → List ℕ → Type 0
 Among n ns = oneOf n ns ≡ true
 
--- each of the numbers is met: these inputs are answered with them, one after the other
+-- each of the numbers occurs: these inputs are answered with them, one after the other
 pub record Met {A : Type 0} (number : A → ℕ) (ns : List ℕ) : Type 0 where
   pub inputs : List A
   pub each : map number inputs ≡ ns
@@ -47,7 +46,7 @@ pub record Answers {A : Type 0} (number : A → ℕ) (ns : List ℕ) : Type 0 wh
   pub only : (x : A) → Among (number x) ns
   pub met : Met number ns
 
--- the bytes of settings and of a tree, and what else is handed in
+-- the bytes of settings and of a tree, and the other inputs
 pub record Handed (R : Type 0) : Type 0 where
   pub settings : List ℕ
   pub tree : List ℕ
@@ -120,7 +119,7 @@ ofLegPlace = 0 ∷ 1 ∷ 2 ∷ 3 ∷ 4 ∷ 5 ∷ 6 ∷ 12 ∷ 13 ∷ 8 ∷ []
 abbrev pub ofLegCut : List ℕ
 ofLegCut = 0 ∷ 8 ∷ 10 ∷ []
 
--- ---- the number of each call's answer: the term of its contract, of all that is handed in
+-- ---- the number of each call's answer: the term of its contract, of all inputs
 
 abbrev pub settingsNumber : List ℕ → ℕ
 settingsNumber bs = settingsAnswer bs .number

@@ -1,4 +1,4 @@
--- How a text lies in its allotted size, and the room of each part of the body.
+-- How a text is placed in its allotted size, and the room of each part of the body.
 use mathlib.Core.Path.{_≡_, refl}
 use Prim.Native.Nat.{ℕ, _+_, _-_, _*_, _≤_}
 use native.Mathlib.Omega.{arith}

@@ -157,7 +157,7 @@ unfolding pasted column
 pasted-row [] o at = refl
 pasted-row (b ∷ l) o at = ap (λ (k : ℕ). pasted (set o at b) k 1 (column 1 l)) (add-one at) ∙ pasted-row l (set o at b) (suc at)
 
--- n equal marks between a corner and what stands after them, and then crossed
+-- n equal marks between a corner and what comes after them, and then crossed
 pub row-crossed : (ks y o : List ℕ) (at n b c corner : ℕ)
     → crossed (sets o at (corner ∷ (replicate n c ++ y))) (at + 1) 1 n ks b ≡ sets o at (corner ∷ (ruled ks b c 0 n ++ y))
 row-crossed ks y o at n b c corner =

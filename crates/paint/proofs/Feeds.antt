@@ -1,4 +1,4 @@
--- Lines joined by 0A: their length, their places, and that they are the lines laid over bytes with a 0A behind each but the last.
+-- Lines joined by 0A: their length, their places, and that they are the lines written over bytes with a 0A behind each but the last.
 use mathlib.Core.Path.{_≡_, refl, sym, _∙_}
 use Prim.Native.Nat.{ℕ, zero, suc, _+_, _-_, _*_, _≤_, _<_}
 use native.Mathlib.Omega.{arith}
@@ -94,7 +94,7 @@ fed-lines (l ∷ m ∷ x) pre o w e h =
     (line-then pre o l (joinLines (m ∷ x)) w (replicate (length x) (10 ∷ [])) (m ∷ x) (e .0)
     (omega (arith, length-append l (10 ∷ joinLines (m ∷ x)), h, e .0)) (λ q r k. rw n′ at (fed-lines (m ∷ x) q r w (e .1) k)))
 
--- lines laid where a 0A is behind each but the last: the lines joined by 0A, and what came after them
+-- lines written where a 0A is behind each but the last: the lines joined by 0A, and what came after them
 pub fed-pasted : (x : List (List ℕ)) {h w : ℕ} → Dims x h w → (o o₁ o₂ : List ℕ) → length (joinLines x) ≤ length o
     → o₁ ≡ fed w h o → o₂ ≡ pasted o₁ 0 (w + 1) x → o₂ ≡ joinLines x ++ drop (length (joinLines x)) o
 unfolding fed

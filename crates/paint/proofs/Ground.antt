@@ -94,7 +94,7 @@ over-step g f l ls at p stride o o′ h own k = record {
   done = λ b y e. k .done (sets b at (f l)) y (rw (e, sets-pasted (replicate (length ls) g ++ y) l (sets b at g) p (at + stride) stride h, own b));
 }
 
--- of the lines ls, those still to come are rs, from p on; the rest stand
+-- of the lines ls, those still to come are rs, from p on; the others are written
 pub record Still (g : List ℕ) (f : List ℕ → List ℕ) (ls rs : List (List ℕ)) (at p stride w : ℕ) (o₀ o : List ℕ) : Type 0 where
   pub room : Room p stride (length rs) w (length o₀)
   pub long : length o ≡ length o₀

@@ -1,4 +1,4 @@
--- Lines laid one after another: what a loop that lays them keeps, and how parts follow each other.
+-- Lines written one after another: what a loop that writes them keeps, and how parts follow each other.
 use mathlib.Core.Path.{_≡_, refl, ap, _∙_}
 use Prim.Native.Nat.{ℕ, zero, suc, _+_, _-_, _*_, _≤_, _<_}
 use native.Mathlib.Omega.{arith}
@@ -11,7 +11,7 @@ use Rattle.paint.specs.Contracts.{pasted, Room}
 use Rattle.paint.proofs.Pasted.{pasted-append}
 use Rattle.paint.proofs.Room.{room-head, room-next, room-tail}
 
--- lines y are still to be laid over the bytes o from p on, whereupon the bytes are `all`, and p is `end`
+-- the lines y are still to be written over the bytes o from p on; then the bytes are `all`, and p is `end`
 pub record LinesLeft (all : List ℕ) (len end : ℕ) (o : List ℕ) (p stride w : ℕ) (y : List (List ℕ)) : Type 0 where
   pub same : pasted o p stride y ≡ all
   pub end-is : p + length y * stride ≡ end
@@ -38,7 +38,7 @@ module _ {all : List ℕ} {len end : ℕ} {o : List ℕ} {p stride w : ℕ} {l :
   pub left-next : p + stride < 18446744073709551616
   left-next = room-next (k .room)
 
--- ---- equal lines: i of n are laid
+-- ---- equal lines: i of n are written
 
 module _ {all : List ℕ} {len end : ℕ} {o : List ℕ} {p stride w : ℕ} (l : List ℕ) (n i : ℕ) where
   pub rows-more : i < n → LinesLeft all len end o p stride w (replicate (n - i) l) → LinesLeft all len end o p stride w (l ∷ replicate (n - (i + 1)) l)

@@ -26,7 +26,7 @@ use Rattle.paint.proofs.LinesLeft.{then-pasted, pasted-first}
 use Rattle.paint.proofs.Corners.{top-is, middle-is, bottom-is}
 use Rattle.paint.proofs.Places.{paintable-fits}
 
--- ---- what the marks ask for
+-- ---- what the marks require
 
 -- the marks before the body: the top line, the left marks
 module _ {b : Borders} {z : Size} {h v : List ℕ} {base stride len : ℕ} (k : Lined b z h v base stride len) where
@@ -117,7 +117,7 @@ module _ {s : Settings} {t : List ℕ} {n z : Size} {f : Flags} {h v : List ℕ}
   abbrev leaf : Leaf
   leaf = leafWith t z f h v
 
-  -- with lines the marks have room
+  -- with lines the marks fit
   pub lined : s .lines ≡ true → Lined b z h v base stride len
   lined l =
       let w : blockWidth s z f ≡ columnsIn b z = rw right-is (omega (arith, wide-is s l z f)) in
@@ -131,7 +131,7 @@ module _ {s : Settings} {t : List ℕ} {n z : Size} {f : Flags} {h v : List ℕ}
         room = rw (← w, ← a) (k .room);
       }
 
-  -- the body has room with lines and without
+  -- the body fits with lines and without
   pub bare-room : s .lines ≡ false → Room base stride (z .height) (z .width) len
   bare-room l = rw (bare-tall s l z f, bare-wide s l z f) at (k .room)
 

@@ -1,4 +1,4 @@
--- Lines laid over bytes: one under another, side by side, and what each place holds afterwards.
+-- Lines written over bytes: one under another, side by side, and what each place holds afterwards.
 use mathlib.Core.Path.{_≡_, refl, sym, ap, _∙_}
 use Prim.Native.Nat.{ℕ, suc, _+_, _*_, _≤_}
 use native.Mathlib.Omega.{arith}

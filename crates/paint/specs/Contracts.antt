@@ -1,4 +1,4 @@
--- What the functions of this crate ask and give, beyond the definitions; no theorem speaks of it.
+-- What the functions of this crate require and ensure, beyond the definitions; no theorem mentions it.
 use mathlib.Core.Path.{_≡_}
 use Prim.Native.Nat.{ℕ, _+_, _*_, _≤_, _<_, _-_}
 use mathlib.Core.List.{List, [], _∷_, _++_, map}
@@ -20,7 +20,7 @@ use Rattle.paint.specs.declared.borders.Borders.{Borders}
 use Rattle.paint.specs.declared.Begun.{Begun}
 use Rattle.paint.specs.declared.bytes.Four.{Four}
 
--- the bytes o with the lines x over them: the first at `at`, each `stride` after the one before
+-- the bytes o with the lines x written over them: the first at `at`, each `stride` after the one before
 unfoldable pub pasted : List ℕ → ℕ → ℕ → List (List ℕ) → List ℕ
 pasted o at stride [] = o
 pasted o at stride (l ∷ x) = pasted (sets o at l) (at + stride) stride x
@@ -34,7 +34,7 @@ unfoldable pub fed : ℕ → ℕ → List ℕ → List ℕ
 unfolding pasted
 fed w h o = pasted o w (w + 1) (replicate (h - 1) (10 ∷ []))
 
--- n lines of w bytes at those places lie within len bytes, and no place after them passes 64 bits
+-- n lines of w bytes at those places are within len bytes, and no place after them passes 64 bits
 pub record Room (at stride n w len : ℕ) : Type 0 where
   pub fits : at + n * stride + w ≤ len + stride
   pub small : at + n * stride + w < 18446744073709551616
@@ -43,7 +43,7 @@ pub record Room (at stride n w len : ℕ) : Type 0 where
 abbrev pub leafWith : List ℕ → Size → Flags → List ℕ → List ℕ → Leaf
 leafWith t z f h v = record { text = t; size = z; horizontal = h; vertical = v; flags = f }
 
--- what `paint_block` asks: the natural size n of the text t, an allotted size z that holds it, and room for the block
+-- what `paint_block` requires: the natural size n of the text t, an allotted size z that holds it, and room for the block
 pub record Paintable (s : Settings) (t : List ℕ) (n z : Size) (f : Flags) (h v : List ℕ) (base stride len : ℕ) : Type 0 where
   pub natural-is : n ≡ leafSize s t
   pub fits : Fits n z
@@ -60,7 +60,7 @@ unfoldable pub crossed : List ℕ → ℕ → ℕ → ℕ → List ℕ → ℕ �
 crossed o at step n [] b = o
 crossed o at step n (k ∷ ks) b = crossed (pick (ltb k n) (set o (at + k * step) b) o) at step n ks b
 
--- how a text of natural size n lies in the size z
+-- how a text of natural size n is placed in the size z
 unfoldable pub bodyRowsOf : Settings → Size → Size → BodyRows
 unfolding slackBefore
 bodyRowsOf s n z = record {
@@ -122,11 +122,11 @@ unfoldable pub bottomOf : Borders → ℕ → List ℕ
 unfolding edge
 bottomOf b w = getD (b .marks) 9 0 ∷ (replicate w (getD (b .marks) 1 0) ++ edge 1 (b .right) (getD (b .marks) 10 0))
 
--- where the lines x stood, the lines y stand
+-- the lines x are replaced by the lines y
 pub record Turned (x y : List (List ℕ)) (at stride : ℕ) (o o′ : List ℕ) : Type 0 where
   pub done : (b : List ℕ) → o ≡ pasted b at stride x → o′ ≡ pasted b at stride y
 
--- over lines g, whatever lines follow them, stand the lines ls as f makes them
+-- lines g, one for each of ls, are replaced by the lines that f makes of ls, whatever lines follow
 pub record LaidOver (g : List ℕ) (f : List ℕ → List ℕ) (ls : List (List ℕ)) (at stride : ℕ) (o o′ : List ℕ) : Type 0 where
   pub done : (b : List ℕ) (y : List (List ℕ)) → o ≡ pasted b at stride (replicate (length ls) g ++ y) → o′ ≡ pasted b at stride (map f ls ++ y)
 
@@ -134,7 +134,7 @@ pub record LaidOver (g : List ℕ) (f : List ℕ → List ℕ) (ls : List (List 
 abbrev pub columnsIn : Borders → Size → ℕ
 columnsIn b z = 1 + (z .width + pick (b .right) 1 0)
 
--- what the marks of a block ask for
+-- what the marks of a block require
 pub record Lined (b : Borders) (z : Size) (h v : List ℕ) (base stride len : ℕ) : Type 0 where
   pub width-small : z .width < 65536
   pub height-small : z .height < 65536
@@ -148,13 +148,13 @@ unfoldable pub begunOf : Bool → Borders → Size → List ℕ → List ℕ →
 unfolding pasted topOf leftOf
 begunOf lines b z h v base stride o = pick lines (pasted (sets o base (topOf b (z .width) h)) (base + stride) stride (leftOf b (z .height) v)) o
 
--- these are written, and the body begins behind them, where spaces stand
+-- these are written, and the body begins after them, where there are spaces
 pub record BodyBegins (lines : Bool) (b : Borders) (z : Size) (h v : List ℕ) (base stride : ℕ) (r : Begun) (o o′ : List ℕ) : Type 0 where
   pub at-is : r .at ≡ base + pick lines (stride + 1) 0
   pub next-is : lines ≡ true → r .next ≡ base + stride + z .height * stride
   pub out-is : o′ ≡ pasted (begunOf lines b z h v base stride o) (r .at) stride (spaceLines (z .height) (z .width))
 
--- what the marks after the body ask for
+-- what the marks after the body require
 pub record Rest (b : Borders) (z : Size) (p : Begun) (stride len : ℕ) : Type 0 where
   pub fits : p .at + z .width < 18446744073709551616
   pub side : Room (p .at + z .width) stride (z .height) (pick (b .right) 1 0) len

@@ -14,7 +14,7 @@ use crate::text_lines;
 use settings::Settings;
 use sizes::Size;
 
-// How a text lies in its allotted size: the lines of spaces above and below it and its padding, the columns between the paddings, the longest line.
+// Where a text is in its allotted size: the lines of spaces above and below it and its padding, the columns between the paddings, the longest line.
 struct BodyRows {
     above: usize,
     below: usize,
@@ -72,7 +72,7 @@ fn is_blank(fills: [u8; 4]) -> bool
     fills[3] == 32
 }
 
-// n lines with the left and the right padding, and spaces between them; the answer is where the next line stands.
+// n lines with the left and the right padding, and spaces between them; the answer is where the next line begins.
 fn paint_sides(
     out: &mut [u8],
     at: usize,

@@ -101,7 +101,7 @@ pub fn print_bottom_line(out: &mut [u8], at: usize, w: usize, b: Borders)
     );
 }
 
-// The left marks of n lines, with w spaces behind each; the answer is where the line after them stands.
+// The left marks of n lines, with w spaces behind each; the answer is where the line after them begins.
 pub fn print_left(
     out: &mut [u8],
     at: usize,

@@ -185,7 +185,7 @@ pub fn copy_line(out: &mut [u8], at: usize, line: &[u8])
     copy_short(out, at, line);
 }
 
-// n lines of w bytes, the first at `at`, each `stride` after the one before; the answer is where the next line stands.
+// n lines of w bytes, the first at `at`, each `stride` after the one before; the answer is where the next line begins.
 pub fn rows(out: &mut [u8], at: usize, stride: usize, n: usize, w: usize, byte: u8) -> usize
     requires { ⌜ Room at stride n w (length (now out)) ⌝ }
     ensures { λ r. ⌜ Wrote r (at + n * stride) (now (out .exit)) (pasted (now (out .entry)) at stride (replicate n (replicate w byte))) ⌝ }
@@ -200,7 +200,7 @@ pub fn rows(out: &mut [u8], at: usize, stride: usize, n: usize, w: usize, byte: 
     p
 }
 
-// n lines of a mark and w spaces, laid as by `rows`. The loop goes by the place, so that it is not unrolled for an n that is mostly small.
+// n lines of a mark and w spaces, at the places that `rows` has. The loop goes by the place: by a count the compiler would unroll it, which costs where n is small.
 pub fn marked_rows(out: &mut [u8], at: usize, stride: usize, n: usize, w: usize, mark: u8) -> usize
     requires { ⌜ (1 ≤ stride) × Room at stride n (1 + w) (length (now out)) ⌝ }
     ensures { λ r. ⌜ Wrote r (at + n * stride) (now (out .exit)) (pasted (now (out .entry)) at stride (replicate n (mark ∷ replicate w 32))) ⌝ }

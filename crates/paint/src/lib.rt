@@ -28,7 +28,7 @@ struct Begun {
     next: usize,
 }
 
-// The marks above a body and on its left, the top-left one at `base`, where there are lines; and spaces where the body will stand.
+// The marks above a body and on its left, the top-left one at `base`, where there are lines; and spaces where the body will be.
 fn paint_before(
     out: &mut [u8],
     base: usize,

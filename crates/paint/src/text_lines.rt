@@ -16,7 +16,7 @@ use settings::Settings;
 // Texts of short lines, of at most so many letters, have a loop of their own: the compiler makes two of `text_lines`, by the tests below.
 const SHORT: usize = 16;
 
-// The part of the space that stands before the text (`indent_left`, `indent_top`).
+// The part of the space that is before the text (`indent_left`, `indent_top`).
 pub fn indent_start(al: Alignment, available: usize, real: usize) -> usize
     requires { ⌜ real ≤ available ⌝ }
     ensures { λ r. ⌜ r ≡ slackBefore al (available - real) ⌝ }

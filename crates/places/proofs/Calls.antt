@@ -30,7 +30,7 @@ use Rattle.places.proofs.Reverse.{within-sheet, forward-at, number-is, 
 use Rattle.places.proofs.Checked.{Checked, refusal-chosen}
 use Rattle.places.proofs.Roots.{areas-are}
 
--- ---- as the call has it: m is what was measured
+-- ---- in the call's terms: m is what was measured
 
 module _ {bs ts : List ℕ} {m : Measured} {sizes : List ℕ} (q : Checked bs ts m sizes) where
   abbrev s : Settings
@@ -121,7 +121,7 @@ module _ {bs ts : List ℕ} {m : Measured} {sizes : List ℕ} (q : Checked bs ts
         let x = forward-at (s q) (t q) l k (within-sheet (s q) (t q) l k (fault ∙ h)) (leafPlaceIn (s q) (t q) l k) refl in
         (omega (arith, x .line-is, place-low .0), omega (arith, x .column-is, place-low .1))
 
-    -- the place as one number, and its answer, taken apart
+    -- the place as one number, and its answer, decoded
     module _ (p : ℕ) (pe : p ≡ l * 4294967296 + k) where
       pub place-owners : Owners (areas (s q) (t q)) (p ∷ [])
       place-owners = let w = word-place l k (omega (arith, place-low)) in (word-owned (s q) (t q) p (rw (pe, w .0, w .1) (fault ∙ h)) .owner, tt)

@@ -20,7 +20,7 @@ mapped-at f (p ∷ ps) fs zero h = refl
 mapped-at f (p ∷ ps) fs (suc i) h = mapped-at f ps fs i (omega arith)
 
 module _ (bs ts : List ℕ) where
-  -- an answer's line and column have room in their bits
+  -- an answer's line and column fit their bits
   apart : (p : ℕ) → Alone (inputOf bs ts) p → unpacked (aloneWord (inputOf bs ts) p) ≡ leafPlaceOf (inputOf bs ts) (lineOf p) (columnOf p)
   apart p h =
       let r = leafPlaceOf (inputOf bs ts) (lineOf p) (columnOf p) in

@@ -29,13 +29,13 @@ module _ (a : Area) (p before l k : ℕ) (le : l ≡ lineOf p) (ke : k ≡ colum
 
 -- ---- the loop over the places
 
--- one more place is looked at
+-- one more place is tested
 pub answer-more : (a : Area) (ps fs : List ℕ) (i v : ℕ) → i < length ps → i < length fs → v ≡ answerAt a (getD ps i 0) (getD fs i 0)
     → take (suc i) (set fs i v) ++ answersAt a (drop (suc i) ps) (drop (suc i) (set fs i v)) ≡ take i fs ++ answersAt a (drop i ps) (drop i fs)
 unfolding answersAt
 answer-more a ps fs i v h k e = rw (take-suc-set fs i v k, drop-set-lt (suc i) fs i v (omega arith), drop-cons ps i 0 h, drop-cons fs i 0 k, append-assoc, e)
 
--- all places are looked at
+-- all places are tested
 pub answers-end : (a : Area) (ps f₀ fs : List ℕ) (i : ℕ) → length ps ≤ i → length fs ≡ length ps
     → answersAt a ps f₀ ≡ take i fs ++ answersAt a (drop i ps) (drop i fs) → fs ≡ answersAt a ps f₀
 unfolding answersAt

@@ -1,4 +1,4 @@
--- `place-twelve`, `place-thirteen`: when `leaf_at` answers 12 and 13. Nothing here opens `sep`.
+-- `place-twelve`, `place-thirteen`: when `leaf_at` answers 12 and 13. Nothing here unfolds `sep`: it holds for every separator width.
 use mathlib.Core.Path.{_≡_, refl, sym, _∙_}
 use mathlib.Core.Logic.{_↔_, _⊎_, inl, inr}
 use Prim.Native.Nat.{ℕ, _+_, _≤_, _<_}

@@ -1,4 +1,4 @@
--- The words of the theorems about numbers 12 and 13 (document 02, 5) and about the answers that are written together (02, 6).
+-- Definitions used in the statements of the theorems about numbers 12 and 13 (document 02, 5) and about the answers that are written together (02, 6).
 use mathlib.Core.Path.{_≡_}
 use mathlib.Core.Logic.{_⊎_}
 use Prim.Native.Nat.{ℕ, _+_, _≤_, _<_, _/_, _%_}
@@ -52,12 +52,12 @@ pub record InMargin (bs ts : List ℕ) (l k : ℕ) : Type 0 where
 abbrev pub unpacked : ℕ → LeafPlace
 unpacked w = record { number = 0; node = w / 4294967296; line = w / 65536 % 65536; column = w % 65536 }
 
--- the i-th answer written, taken apart into its node, line and column, is the one of `leaf_at` for the line and the column of the i-th place
+-- the i-th answer written, decoded to its node, line and column, is the one of `leaf_at` for the line and the column of the i-th place
 pub record EachAsAlone (bs ts ps : List ℕ) (r : Outcome FoundPlaces (List ℕ)) : Type 0 where
   pub count : r .answer .count ≡ length ps
   pub alone : (i : ℕ) → i < r .answer .count → unpacked (getD (r .memory) i 0) ≡ leafPlaceOf (inputOf bs ts) (lineOf (getD ps i 0)) (columnOf (getD ps i 0))
 
--- the answer names a leaf, and a place of its block, which stands there
+-- the answer names a leaf, and a place of its block, which is printed there
 pub record Forward (s : Settings) (t : Tree) (l k : ℕ) (r : LeafPlace) : Type 0 where
   pub leaf : Placed
   pub named : LeafAt s t (r .node) leaf
@@ -71,15 +71,15 @@ pub record Admitted (x : Input) (s : Settings) (t : Tree) : Type 0 where
   pub input : x ≡ given s t
   pub large : tooLarge s t ≡ false
 
--- the same of the bytes that the leaf printer wrote: a leaf, and for each byte of its lines the answer
+-- the same for the bytes that the leaf printer wrote: a leaf, and for each byte of its lines the answer
 pub record BytesLeadBack (x : Input) (s : Settings) (t : Tree) (n : ℕ) (bytes : List ℕ) : Type 0 where
   pub leaf : Placed
   pub named : LeafAt s t n leaf
   pub back : (i j : ℕ) → i < length (lines bytes) → j < length (getD (lines bytes) i [])
       → leafPlaceOf x (s .margin .top + (leaf .at .line + i)) (s .margin .left + (leaf .at .column + j)) ≡ record { number = 0; node = n; line = i; column = j }
 
--- an answered place is one of an accepted sheet: the answer's node is a leaf, its line and column are of that leaf's block, and stand at the place that was
--- asked
+-- an answered place is one of an accepted sheet: the answer's node is a leaf, its line and column are of that leaf's block, and are at the place that was
+-- looked up
 pub record LeadsForward (x : Input) (l k : ℕ) (r : LeafPlace) : Type 0 where
   pub settings : Settings
   pub tree : Tree
@@ -94,8 +94,8 @@ aloneWord x p = placeWord (leafPlaceOf x (lineOf p) (columnOf p))
 abbrev pub Alone : Input → ℕ → Type 0
 Alone x p = leafPlaceOf x (lineOf p) (columnOf p) .number ≡ 0
 
--- in the order given, each exactly as if it had been put alone; so many answers are counted, entries past them stay, and the walk read as many elements as the
--- tree has nodes
+-- in the order given, each exactly as if it had been put alone; that many answers are counted, entries past them stay, and the walk read as many elements as
+-- the tree has nodes
 pub record Together (x : Input) (ps fs : List ℕ) (r : Outcome FoundPlaces (List ℕ)) : Type 0 where
   pub settings : Settings
   pub tree : Tree

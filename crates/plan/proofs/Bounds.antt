@@ -1,4 +1,5 @@
--- `plan-bounds`: every choice of a planning tree has its size between the least and the greatest. Nothing here opens `sep`.
+-- `plan-bounds`: every choice of a planning tree has its size between the least and the greatest. Nothing here unfolds `sep`: it holds for every separator
+-- width.
 use mathlib.Core.Path.{_≡_, refl, ap}
 use Prim.Native.Nat.{ℕ, suc, _≤_}
 use native.Mathlib.Omega.{arith}
@@ -115,7 +116,7 @@ mutual
 
 -- ---- the theorem
 
--- W and H of a choice lie between the least and the greatest
+-- W and H of a choice are between the least and the greatest
 pub record BetweenEnds (s : Settings) (p : Plan) (t : Tree) : Type 0 where
   pub least : Fits (outer s (endSize s false p)) (outer s (natural s t))
   pub greatest : Fits (outer s (natural s t)) (outer s (endSize s true p))

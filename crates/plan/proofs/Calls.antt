@@ -1,4 +1,5 @@
--- `planned`: what the planning call's answer 0 says; `planned-tree`: a tree of document 01 has both ends at its W and H. Nothing here opens `sep`.
+-- `planned`: what follows where the planning call answers 0; `planned-tree`: a tree of document 01 has both ends at its W and H. Nothing here unfolds `sep`: it
+-- holds for every separator width.
 use mathlib.Core.Path.{_≡_, refl, sym, ap, _∙_}
 use Prim.Native.Nat.{ℕ}
 use native.Mathlib.Omega.{arith}
@@ -27,7 +28,7 @@ use Rattle.plan.specs.Answers.{planInput, planTreeInput, planSettingsInp
 use Rattle.plan.proofs.Bounds.{plan-bounds}
 use Rattle.plan.proofs.Reached.{plan-reached}
 
--- W and H are what stands around the root
+-- W and H are the root with what is around it
 outer-width : (s : Settings) (t : Tree) → outer s (natural s t) .width ≡ W s t
 unfolding outer W
 outer-width s t = refl
@@ -36,7 +37,7 @@ outer-height : (s : Settings) (t : Tree) → outer s (natural s t) .height ≡ H
 unfolding outer H
 outer-height s t = refl
 
--- ---- what an answer of 0 says
+-- ---- what follows from an answer of 0
 
 module _ (s : Settings) (p : Plan) (k : Allowed true p) where
   reached-width : (m : Bool) → Reaches p (W s) (outer s (endSize s m p) .width)

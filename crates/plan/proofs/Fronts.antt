@@ -1,4 +1,4 @@
--- What the front of an accepted planning tree's bytes tells of it.
+-- What the front of an accepted planning tree's bytes shows of it.
 use mathlib.Core.Path.{_≡_, refl, sym, ap, _∙_}
 use mathlib.Core.List.{List, []}
 use Prim.Native.Nat.{ℕ, _+_, _-_, _≤_, _<_}
@@ -74,7 +74,7 @@ plan-group-is (Plan.group x ps) s k n h z = record {
   some = some-plans ps (contents s) (k .2) (λ e. eqb-false (lengthAt s) 0 z (sym (contents-length s (k .0)) ∙ e));
 }
 
--- ---- as the code has them: the front, and the part with the contents
+-- ---- in the code's terms: the front, and the part with the contents
 
 module _ (p : Plan) (s : List ℕ) (k : PlanEncodes p s) where
   pub front-asks : 2 < length s

@@ -120,7 +120,7 @@ module _ (S : Settings) (m a : Bool) (s : List ℕ) (q : ReadyPlans S m a s) whe
         });
       }
 
-  -- all plans are met
+  -- all plans are done
   module _ (at : ℕ) (g : Span) (l : Turn at g Plans.none) where
     sums : (g .along ≡ total (map (along A) (endSizes S m all))) × (g .beside ≡ greatest (map (beside A) (endSizes S m all)))
         × (g .children ≡ length (endSizes S m all))

@@ -1,4 +1,4 @@
--- What the measuring of a planning tree's ends asks and gives.
+-- What the measuring of a planning tree's ends requires and ensures.
 use mathlib.Core.Path.{_≡_}
 use Prim.Native.Nat.{ℕ, _<_}
 use mathlib.Core.Bool.{Bool, false}
@@ -17,7 +17,7 @@ pub record ShortSize (z : Size) : Type 0 where
   pub wide : z .width < 2097152
   pub tall : z .height < 2097152
 
--- and with what stands around the root: it has 32 bits
+-- and with what is around the root: it has 32 bits
 pub record Wide (z : Size) : Type 0 where
   pub wide : z .width < 4294967296
   pub tall : z .height < 4294967296

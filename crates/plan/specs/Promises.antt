@@ -1,4 +1,4 @@
--- The words of the theorems about a plan (document 02, 10).
+-- Definitions used in the statements of the theorems about a plan (document 02, 10).
 use mathlib.Core.Path.{_≡_}
 use Prim.Native.Nat.{ℕ, _≤_}
 use mathlib.Core.Bool.{true}
@@ -13,7 +13,7 @@ use Rattle.frame.specs.Frame.{W, H}
 use Rattle.plan.specs.declared.Planned.{Planned}
 use Rattle.plan.specs.Answers.{PlanInput, planInput}
 
--- W and H of a choice lie between the answers
+-- W and H of a choice are between the answers
 pub record Between (s : Settings) (o : Planned) (t : Tree) : Type 0 where
   pub least-width : o .«least_width» ≤ W s t
   pub greatest-width : W s t ≤ o .«greatest_width»
@@ -27,7 +27,7 @@ pub record WithinRange (a b c d : ℕ) (t : List ℕ) : Type 0 where
   pub least-lines : c ≤ textHeight t
   pub greatest-lines : textHeight t ≤ d
 
--- the tree has the plan's Cells, and in the place of each range a Cell of some text within it
+-- the tree has the plan's Cells, and instead of each range a Cell of some text within it
 unfoldable mutual
   pub Chooses : Plan → Tree → Type 0
   Chooses (Plan.cell t) (Tree.cell u) = t ≡ u

@@ -44,7 +44,7 @@ fn range_end(settings: Settings, s: &[u8], most: bool) -> Size
     padded(settings, w, h)
 }
 
-// What stands around a root of the size z is added: W and H.
+// Adds what is around a root of the size z: W and H.
 fn outer_size(settings: Settings, z: Size) -> Size
     requires { ⌜ ShortSize z ⌝ }
     ensures { λ r. ⌜ r ≡ outer settings z ⌝ }

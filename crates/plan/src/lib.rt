@@ -42,7 +42,7 @@ fn answer(least: Size, most: Size) -> Planned
     }
 }
 
-// The least and the greatest W and H of a planning tree: 1, then 2 to 5 and 17 as the reader meets them.
+// The least and the greatest W and H of a planning tree: 1, then 2 to 5 and 17 in the order of reading.
 pub fn plan_sheet(settings: &[u8], tree: &[u8]) -> Planned
     ensures { λ r. ⌜ r ≡ plannedOf (planInput (now (settings .entry)) (now (tree .entry))) ⌝ }
 {

@@ -1,4 +1,4 @@
--- Settings and tree in one input: what stands behind the longest tree changes nothing.
+-- Settings and tree in one input: what comes after the longest tree changes nothing.
 use mathlib.Core.Path.{_≡_, refl, sym, ap, _∙_}
 use Prim.Native.Nat.{ℕ, _-_, _≤_, _<_, min}
 use native.Mathlib.Omega.{arith}

@@ -24,7 +24,7 @@ use Rattle.sheet.proofs.Bytes.{largest}
 use Rattle.program.specs.Program.{printedOf}
 use Rattle.program.specs.Contracts.{Refused, Ended}
 
--- a sheet stands at the front of the output, and a 0A has room behind it
+-- a sheet is at the front of the output, and a 0A fits behind it
 pub record SheetThere (i : Input) (w : Written) (o o₁ : List ℕ) : Type 0 where
   pub bytes : List ℕ
   pub is : (text : ℕ → List ℕ) → printedOf text i ≡ bytes ++ 10 ∷ []

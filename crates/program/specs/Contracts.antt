@@ -1,4 +1,4 @@
--- What the programs' own functions give.
+-- What the programs' own functions ensure.
 use mathlib.Core.Path.{_≡_}
 use Prim.Native.Nat.{ℕ, _≤_, _<_}
 use mathlib.Core.List.{List}
@@ -15,7 +15,7 @@ pub record Refused (i : Input) (w : Written) (o o₁ : List ℕ) : Type 0 where
   pub digit : w .number < 10
   pub out : o₁ ≡ o
 
--- the sheet and 0A stand at the front of the output
+-- the sheet and 0A are at the front of the output
 pub record Printed (i : Input) (w : Written) (o o₁ : List ℕ) : Type 0 where
   pub wrote : (text : ℕ → List ℕ) → Wrote (w .count) (length (printedOf text i)) o₁ (sets o 0 (printedOf text i))
   pub within : w .count ≤ 64160

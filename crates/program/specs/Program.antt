@@ -8,7 +8,7 @@ use Rattle.sizes.specs.Input.{Input, refused, given, inputOf}
 use Rattle.frame.specs.Frame.{tooLarge}
 use Rattle.sheet.specs.Sheet.{sheet}
 
--- `refused `, the number and 0A. Every number that the program tells is under 10 (`program-prints`, proofs/PrinterAnswer.antt): one decimal digit
+-- `refused `, the number and 0A. Every number that the program prints is under 10 (`Refused`, specs/Contracts.antt): one decimal digit
 abbrev pub refusedText : ℕ → List ℕ
 refusedText k = 114 ∷ 101 ∷ 102 ∷ 117 ∷ 115 ∷ 101 ∷ 100 ∷ 32 ∷ (48 + k) ∷ 10 ∷ []
 

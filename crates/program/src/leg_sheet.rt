@@ -13,7 +13,7 @@ ghost use Rattle.program.specs.Program.{refusedText, programOf};
 // One byte more than the settings with a margin, 42 bytes, and the longest tree, 32,768.
 pub const INPUT_BYTES: usize = 32811;
 
-// A buffer for the input: bytes that find no room in it change nothing.
+// A buffer for the input: bytes that do not fit change nothing.
 pub fn input_buffer() -> [u8; INPUT_BYTES]
     ensures { λ r. ⌜ ((b : List ℕ) → programOf (take (length r) b) ≡ programOf b) ⌝ }
 {
@@ -30,7 +30,7 @@ fn refuse(number: u8, out: &mut [u8; ANSWER_BYTES]) -> usize
     copy_bytes(out, 0, &text)
 }
 
-// The program's whole output stands at the front of `out`, and its length is answered; the bytes past it stay.
+// The program's whole output is written to the front of `out`, and its length is answered; the bytes past it stay.
 pub fn answer(input: &[u8], out: &mut [u8; ANSWER_BYTES]) -> usize
     ensures { λ r. ⌜ take r (now (out .exit)) ≡ programOf (now (input .entry)) ⌝ }
     ensures within { λ r. ⌜ (r ≤ 64160) × (length (now (out .exit)) ≡ 64160) ⌝ }

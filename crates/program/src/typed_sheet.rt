@@ -16,7 +16,7 @@ const TREE_BYTES: usize = 32768;
 // One byte more than the longest typed list.
 pub const TYPED_BYTES: usize = 131073;
 
-// A buffer for the input: bytes that find no room in it change nothing.
+// A buffer for the input: bytes that do not fit change nothing.
 pub fn typed_buffer() -> [u8; TYPED_BYTES]
     ensures { λ r. ⌜ ((b : List ℕ) → typedProgramOf (take (length r) b) ≡ typedProgramOf b) ⌝ }
 {
@@ -39,7 +39,7 @@ fn print_tree(tree: &[u8], out: &mut [u8; ANSWER_BYTES]) -> usize
     w.count
 }
 
-// The program's whole output stands at the front of `out`, and its length is answered; the bytes past it stay.
+// The program's whole output is written to the front of `out`, and its length is answered; the bytes past it stay.
 pub fn answer_typed(text: &[u8], out: &mut [u8; ANSWER_BYTES]) -> usize
     ensures { λ r. ⌜ Wrote r (length (typedProgramOf (now (text .entry)))) (now (out .exit))
         (sets (now (out .entry)) 0 (typedProgramOf (now (text .entry)))) ⌝ }

@@ -1,4 +1,4 @@
--- Every settings within 01's ranges are read from their record: nothing else is refused.
+-- All settings within 01's ranges are read from their record: nothing else is refused.
 use mathlib.Core.Path.{_≡_, refl, sym, ap, _∙_}
 use mathlib.Core.Bool.{Bool, true, false}
 use mathlib.Core.List.{List, [], _∷_, _++_, append-nil}
@@ -86,7 +86,7 @@ mode-read : (b : Bool) → eqb (pick b 1 0) 1 ≡ b
 mode-read true = refl
 mode-read false = refl
 
--- the first field, then what stands behind it
+-- the first field, then what follows it
 read-front : (lines : Bool) (l f k : List ℕ) → take 31 l ≡ f → drop 31 l ≡ k → within (low lines) (high lines) f ≡ true
     → readForm lines l ≡ readBehind lines f k
 unfolding readForm
@@ -106,7 +106,7 @@ read-either : (lines : Bool) (l : List ℕ) → (pick lines 32 0 ≤ getD l 3 0)
 read-either true l h = lined-form l (λ e. omega (arith, h .0))
 read-either false l h = bare-form l (omega (arith, h .1))
 
--- what stands behind n bytes
+-- what follows n bytes
 behind : (n : ℕ) (xs ys : List ℕ) → length xs ≡ n → (i : ℕ) → drop (n + i) (xs ++ ys) ≡ drop i ys
 behind n xs ys e i = rw (← e) (drop-append-add xs ys i)
 

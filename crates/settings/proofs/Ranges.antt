@@ -13,7 +13,7 @@ use Rattle.settings.specs.Reading.{low, high, marginLow, marginHigh, wit
 use Rattle.settings.specs.Promises.{Bounded, Printable, Ranges}
 use Rattle.settings.proofs.Within.{within-length, within-at, read-form, form-front}
 
--- the number at k + i where n equal ones stand from k on
+-- the number at k + i where there are n equal ones from k on
 bound-at : (l : List ℕ) (k n x : ℕ) (rest : List ℕ) → drop k l ≡ replicate n x ++ rest → (i : ℕ) → i < n → getD l (k + i) 0 ≡ x
 bound-at l k n x rest e i h =
     sym (getD-drop k l i 0) ∙ ap (λ (y : List ℕ). getD y i 0) e

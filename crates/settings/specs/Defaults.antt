@@ -27,7 +27,7 @@ defaults = record {
   «height_priority» = Priority.List;
 }
 
--- the numbers that stand for the names
+-- the numbers that encode the names
 abbrev pub alignmentNumber : Alignment → ℕ
 alignmentNumber Alignment.Start = 0
 alignmentNumber Alignment.Center = 1

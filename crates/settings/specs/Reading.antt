@@ -1,6 +1,5 @@
 -- Reading the settings (document 01, "Settings record"; document 02, 1 and 13): tag hex 10, two-byte length 28, 28 bytes, each in its own range, or fifteen
--- zeros as
--- marks; then nothing, or the margin.
+-- zeros as marks; then nothing, or the margin.
 use Prim.Native.Nat.{ℕ}
 use mathlib.Core.Bool.{Bool, true, false}
 use mathlib.Core.List.{List, [], _∷_, _++_}
@@ -71,7 +70,7 @@ pub data Parsed : Type 0 where
   refused : Parsed
   read : Settings → Parsed
 
--- what stands behind the first field: nothing, or the margin
+-- what follows the first field: nothing, or the margin
 unfoldable pub readBehind : Bool → List ℕ → List ℕ → Parsed
 unfolding within
 readBehind lines l [] = read (settingsOf lines noMargin l)
@@ -95,7 +94,7 @@ readSettings l = orElse (readForm true l) (readForm false l)
 unfoldable pub settingsEnd : List ℕ → ℕ
 settingsEnd l = pick (eqb (getD l 31 0) 17) 42 31
 
--- what a refusal holds: 0 or no everywhere, and the variants numbered 0
+-- the fields of a refusal: 0 or no everywhere, and the variants numbered 0
 abbrev pub blank : Settings
 blank = record {
   lines = false;

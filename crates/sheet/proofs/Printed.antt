@@ -50,9 +50,9 @@ unfolding paintedAll
 paint-painted s stride o [] = refl
 paint-painted s stride o (l ∷ ls) = paint-painted s stride _ ls
 
--- ---- each block lies in the sheet's bytes
+-- ---- each block is within the sheet's bytes
 
--- where a rectangle has room, each block inside it has
+-- where a rectangle fits, each block inside it does
 room-inside : {s : Settings} {l k h w : ℕ} {f : Placed} (stride len : ℕ) → Inside s l k h w f → Room (l * stride + k) stride h w len
     → Room (f .at .line * stride + f .at .column) stride (heightAt s (f .at)) (widthAt s (f .at)) len
 room-inside {s} {l} {k} {h} {w} {f} stride len i r =
@@ -67,7 +67,7 @@ sheet-room : (w h len : ℕ) → w ≤ 400 → h ≤ 160 → (w + 1) * h - 1 ≤
 sheet-room w h len p q r = let m : (w + 1) * h ≤ 401 * 160 = mul-le-mul {n₂ = 401} {m₂ = 160} (omega arith) q in
     record { fits = omega arith; small = omega arith }
 
--- the rectangle inside starts within the bytes, and has room in those from its start on
+-- the rectangle inside starts within the bytes, and fits those from its start on
 inside-in : (l t k b r w stride len : ℕ) → Room 0 stride (t + suc k + b) (l + w + r) len → l + t * stride ≤ len
 inside-in l t k b r w stride len x = omega (arith, x .fits)
 
@@ -110,7 +110,7 @@ module _ (s : Settings) (t : Tree) (len : ℕ) (large : tooLarge s t ≡ false) 
       (leaves s t)
       (every-and (LeafFits s) (Inside s 0 0 (insideH s t) (insideW s t)) (leaves s t) (leaves-fit s t) (laid-inside (root-laid s t)))
 
--- ---- as the printer has it: m is what was measured, f the frame
+-- ---- in the printer's terms: m is what was measured, f the frame
 
 pub sheet-refused : (bs ts o : List ℕ) (m : Measured) → m ≡ measuredOf (inputOf bs ts) → (m .number ≡ 0 → ⊥) → sheetOf (inputOf bs ts) o ≡ noPrint (m .number) o
 unfolding sheetOf

@@ -1,4 +1,4 @@
--- Sheet and block read in lines parted at each 0A: they are the lines that were joined, since no line holds a 0A.
+-- Sheet and block, split into lines at each 0A: they are the lines that were joined, since no line holds a 0A.
 use mathlib.Core.Path.{_≡_}
 use mathlib.Core.Logic.{_≢_}
 use Prim.Native.Nat.{ℕ, zero, suc, _<_}

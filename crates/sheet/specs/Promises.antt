@@ -1,4 +1,4 @@
--- The words of the theorems about this crate's functions.
+-- Definitions used in the statements of the theorems about this crate's functions.
 use Prim.Native.Nat.{ℕ, _+_, _-_, _≤_, _<_}
 use mathlib.Core.List.{List}
 use lib.ListN.{getD}
@@ -31,7 +31,7 @@ unfoldable pub insideSheet : Settings → Tree → List ℕ
 unfolding joinLines walk root
 insideSheet s t = joinLines (walk s t (root s t) .content)
 
--- what it has then shown of the bytes handed in
+-- the input bytes are read as settings and a tree, and the bytes written are their sheet
 pub record SheetOf (bs ts o : List ℕ) : Type 0 where
   pub settings : Settings
   pub tree : Tree
@@ -39,7 +39,7 @@ pub record SheetOf (bs ts o : List ℕ) : Type 0 where
   pub within : tooLarge settings tree ≡ false
   pub bytes : bytesWritten (sheetOf (inputOf bs ts) o) ≡ sheet settings tree
 
--- the byte at line l, column k of bytes read in lines parted at each 0A
+-- the byte at line l, column k of bytes that are split into lines at each 0A
 abbrev pub placeAt : List ℕ → ℕ → ℕ → ℕ
 placeAt b l k = byteAt (lines b) l k
 

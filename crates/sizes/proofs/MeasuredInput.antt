@@ -1,4 +1,4 @@
--- What the sizes that were measured say of the input.
+-- What the sizes that were measured show of the input.
 use mathlib.Core.Path.{_≡_, refl, sym, ap, _∙_}
 use Prim.Native.Nat.{ℕ, _≤_}
 use native.Mathlib.Omega.{arith}
@@ -50,7 +50,7 @@ pub input-refusal : (bs ts : List ℕ) (k : ℕ) → inputOf bs ts ≡ refused k
 unfolding inputOf
 input-refusal bs ts k e = number-case bs ts k (readSettings bs) (readTree ts) refl e
 
--- ---- as a caller of `measure_tree` has it
+-- ---- in the terms of a caller of `measure_tree`
 
 pub record Accepts (bs ts : List ℕ) (m : Measured) (l₀ l : List ℕ) : Type 0 where
   pub tree : Tree

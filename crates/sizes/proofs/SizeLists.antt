@@ -44,7 +44,7 @@ put-other : (l : List ℕ) (at j : ℕ) (z : Size) → (j ≡ at → ⊥) → (j
 put-other l at j z a b = getD-set-other (set l at (z .width)) (suc at) j (z .height) 0 (λ e. b (omega arith))
     ∙ getD-set-other l at j (z .width) 0 (λ e. a (omega arith))
 
--- what stands before pairs that are stored stays
+-- what is before pairs that are stored stays
 puts-below : (zs : List Size) (l : List ℕ) (at j : ℕ) → j < at → getD (putSizes l at zs) j 0 ≡ getD l j 0
 unfolding putSizes
 puts-below [] l at j h = refl

@@ -1,4 +1,4 @@
--- What the functions of this crate ask and give, beyond the definitions; no theorem speaks of it.
+-- What the functions of this crate require and ensure, beyond the definitions; no theorem mentions it.
 use Prim.Native.Nat.{ℕ, _+_, _≤_, _<_}
 use mathlib.Core.Path.{_≡_}
 use mathlib.Core.List.{List}
@@ -18,7 +18,7 @@ pub record Stops (step w n : ℕ) (s : List ℕ) (at pos : ℕ) : Type 0 where
   pub left : reach step w (take n s) 0 .left ≡ drop at (take n s)
   pub reached : reach step w (take n s) 0 .pos ≡ pos
 
--- what `short_splits3` of s₀ answers: the pieces taken stand at the front of s, those left past the ones that are gone
+-- what `short_splits3` of s₀ answers: the pieces taken are at the front of s, those left past the ones that are gone
 pub record CutsIn (w : ℕ) (r : CutAt) (s₀ s : List ℕ) : Type 0 where
   pub split : r .split ≡ shortSplits3 s₀ w .split
   pub pair : r .pair ≡ pairOf (shortSplits3 s₀ w)

@@ -39,7 +39,7 @@ fn fail_stuck(program: &[u8]) {
     io::write_all(STDERR_FILENO, b": nothing more can be written\n");
 }
 
-// The whole answer in one go; where that fails, a line on standard error begins with the program's name and says so.
+// The whole answer in one go; where that fails, a line on standard error with the program's name reports it.
 pub fn write_answer(program: &[u8], bytes: &[u8]) {
     match write_output(bytes) {
         Output::Whole => {}

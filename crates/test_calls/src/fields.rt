@@ -1,4 +1,4 @@
-// The settings' fields as the 28 bytes that stand for them in a record.
+// The settings' fields as the 28 bytes that encode them in a record.
 ghost use Prim.Native.Nat.{_<_, _≤_};
 use settings::Alignment;
 use settings::Priority;
@@ -25,7 +25,7 @@ fn bit(b: bool) -> usize {
     if b { 1 } else { 0 }
 }
 
-// What stands for byte `at` in the settings.
+// The number that byte `at` of the record encodes.
 fn field(s: Settings, at: usize) -> usize
     requires { ⌜ at < 28 ⌝ }
 {
@@ -58,7 +58,7 @@ fn later_field(s: Settings, at: usize) -> usize
     }
 }
 
-// One field, shown: whether it is the byte at place `at`.
+// Prints one field: whether it is the byte at `at`.
 fn is_field(s: Settings, at: usize, want: &[u8]) -> bool {
     if 28 <= at || want.len() <= at {
         return false;

@@ -10,7 +10,7 @@ const LONGEST: usize = 4200;
 // The text of a refused record: 0 or no in every field.
 const BLANK: [u8; 50] = *b"0 by 0, across none, down none, nnnnnnnn, pair 0 0";
 
-// The record of the leaf: its number, the node that it names, and the rest as in `want`, which is shown.
+// The record of the leaf: its number, the node that it names, and the rest as in `want`; it is printed.
 fn compare_record(
     settings: &[u8],
     tree: &[u8],

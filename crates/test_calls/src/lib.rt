@@ -1,4 +1,4 @@
-// The readers, the size collector, the leaf calls and the sheet printer; each verdict compares what was found with the line:
+// The readers, the size collector, the leaf calls and the sheet printer; each verdict compares the answer with the line:
 //   ? the leaf's record                 > the leaf's block          ! the refusal of both leaf calls
 //   $ the sheet                         % the sheet printer's refusal
 //   s the node's natural and allotted size, and the number of nodes below it
@@ -12,7 +12,7 @@ mod readers;
 
 use test_lines::tell;
 
-// What a line asks for: an arm for each kind. `want` is what stands in the line, after the bytes of `&` lines before it.
+// Makes the call of a line: an arm for each kind. `want` is what the line has, after the bytes of `&` lines before it.
 pub fn ask(kind: u8, settings: &[u8], tree: &[u8], node: usize, want: &[u8]) {
     match kind {
         b'?' => leaves::record(settings, tree, node, want),

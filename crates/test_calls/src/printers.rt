@@ -1,10 +1,10 @@
-// Both printers: wanted bytes one byte short, exactly full and with more room than they need; refusals with room and with none.
+// Both printers: with an output one byte too short, one that is exactly full and one that is too long; refusals with an output and with an empty one.
 use frame::Written;
 use test_lines::compare;
 use test_lines::contents;
 use test_lines::tell;
 
-// The longest sheet has 64,159 bytes; the rest is room past it.
+// The longest sheet has 64,159 bytes; the rest is past it.
 const ROOM: usize = 66000;
 
 // What is lent beyond the wanted bytes.
@@ -13,7 +13,7 @@ const MORE: usize = 50;
 // What is lent where a refusal is wanted.
 const MUCH: usize = 2000;
 
-// The longest output that is shown.
+// The longest output that is printed.
 const SHORT: usize = 200;
 
 // The sheet, or the leaf's block.
@@ -50,7 +50,7 @@ fn name(whole: bool, node: usize) {
     }
 }
 
-// The bytes written, where they are few.
+// Prints the bytes written, where they are few.
 fn show(out: &[u8], n: usize) {
     tell::end();
     if n <= SHORT {

@@ -1,9 +1,9 @@
-// Test cases are lines of files, which a program's arguments name. The first line of a file says whose lines follow, as `of splits` (libraries.rt). Each other
-// line is a letter,
-// a space and its contents, in which `\` and two hex digits stand for a byte. These give something (`test_lines::given`):
-//   = the settings' bytes     : the tree's bytes     + N, bytes: these go on the tree N times
-//   @ the node                & N, bytes: what the next line wants begins with these, N times
-// # is a title, which is echoed; what any other letter asks for, and wants, the library says.
+// Test cases are lines of files, which a program's arguments name. The first line of a file names the library that runs its lines, as `of splits`
+// (libraries.rt). Each other line is a letter, a space and its contents, in which `\` and two hex digits encode a byte. These lines set an input
+// (`test_lines::given`):
+//   = the settings' bytes     : the tree's bytes     + N, bytes: appended to the tree N times
+//   @ the node                & N, bytes: what the next line expects begins with these, N times
+// # is a title, which is printed. A line of any other letter makes a call and has the answer expected; its library says which.
 mod libraries;
 
 use libraries::Library;
@@ -12,18 +12,18 @@ use test_lines::given;
 use test_lines::given::Given;
 use test_lines::tell;
 
-// A file has fewer bytes.
+// A file has fewer bytes than this.
 const MOST: usize = 131072;
 
-// Room for settings or a store of drafts; for a tree, or a typed list of one byte more than there may be; for what a line wants, of which a sheet of 64,159
-// bytes is the longest.
+// Room for settings or a store of drafts; for a tree, or a typed list of one byte more than allowed; for what a line expects, of which a sheet of 64,159 bytes
+// is the longest.
 const SETTINGS: usize = 300;
 
 const TREE: usize = 131100;
 
 const WANT: usize = 66000;
 
-// One line: what it gives, then what it asks for.
+// One line: the input that it sets, then its call.
 fn step(
     of: Library,
     line: &[u8],
@@ -42,7 +42,7 @@ fn step(
     given::left(kind, g)
 }
 
-// What a line asks for, with the bytes given; a title is echoed.
+// Makes the call of a line with the inputs so far; a title is printed.
 fn ask(of: Library, kind: u8, settings: &mut [u8], tree: &mut [u8], want: &[u8], g: Given) {
     let s = contents::within(g.settings, settings);
     let t = contents::within(g.tree, tree);
@@ -61,7 +61,7 @@ fn ask(of: Library, kind: u8, settings: &mut [u8], tree: &mut [u8], want: &[u8],
     }
 }
 
-// All lines from `first` on, parted at each 0A.
+// All lines from `first` on, split at each 0A.
 fn run_lines(
     of: Library,
     cases: &[u8],
@@ -79,7 +79,7 @@ fn run_lines(
     }
 }
 
-// The lines of a file, past its first.
+// The lines of a file after its first.
 fn run_cases(of: Library, cases: &[u8], first: usize) {
     let mut settings = [0u8; SETTINGS];
     let mut tree = [0u8; TREE];

@@ -1,8 +1,8 @@
-// The libraries that say what lines ask for.
+// The libraries that make the calls of lines.
 use test_lines::compare;
 use test_lines::tell;
 
-// Whose lines a file has.
+// The library of a file's lines.
 pub enum Library {
     Calls,
     Places,
@@ -52,7 +52,7 @@ pub fn named(line: &[u8]) -> Library {
     Library::Unknown
 }
 
-// Those whose lines change no byte given.
+// The libraries whose lines change no input.
 fn read(of: Library, kind: u8, settings: &[u8], tree: &[u8], node: usize, want: &[u8]) {
     match of {
         Library::Calls => test_calls::ask(kind, settings, tree, node, want),
@@ -66,7 +66,7 @@ fn read(of: Library, kind: u8, settings: &[u8], tree: &[u8], node: usize, want: 
     }
 }
 
-// What a line asks for, with the bytes given.
+// Makes the call of a line with the inputs so far.
 pub fn ask(of: Library, kind: u8, settings: &mut [u8], tree: &mut [u8], node: usize, want: &[u8]) {
     match of {
         Library::Feeds => test_feeds::ask(kind, tree, want),

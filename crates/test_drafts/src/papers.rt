@@ -19,7 +19,7 @@ fn put_nodes(want: &[u8], nodes: &mut [u16]) {
     }
 }
 
-// The answer and the whole output, against the line.
+// Compares the answer and the whole output with the line.
 fn judge(r: Blanked, named: usize, out: &[u8], want: &[u8]) {
     tell::text(b"blank ");
     tell::number(named);
@@ -35,7 +35,7 @@ fn judge(r: Blanked, named: usize, out: &[u8], want: &[u8]) {
     tell::end();
 }
 
-// The call with these nodes and so much room.
+// The call with these nodes and an output of that length.
 fn ask(tree: &[u8], want: &[u8], nodes: &mut [u16], out: &mut [u8]) {
     put_nodes(want, nodes);
     let r = blank::blank_texts(tree, nodes, out);

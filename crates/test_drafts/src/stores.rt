@@ -1,6 +1,5 @@
 // Drafts in a store, which each call leaves to the next. Saved and forgotten: NAME, NUMBER, and the store afterwards. Returned: NAME ROOM, NUMBER COUNT, and
-// the bytes
-// copied.
+// the bytes copied.
 use drafts::Returned;
 use test_lines::compare;
 use test_lines::compare::is_nth;
@@ -10,7 +9,7 @@ use test_lines::tell;
 // The most room of a line.
 const MOST: usize = 64;
 
-// The call's name, shown.
+// Prints the call's name.
 fn name_in(call: &[u8], want: &[u8]) -> u8 {
     let name = contents::nth(want, 0);
     tell::text(call);
@@ -18,7 +17,7 @@ fn name_in(call: &[u8], want: &[u8]) -> u8 {
     (name % 256) as u8
 }
 
-// The number and the whole store, against the line.
+// Compares the number and the whole store with the line.
 fn judge_store(number: u8, store: &[u8], want: &[u8]) {
     let right = is_nth(b": number ", number as usize, want, 1);
     let from = contents::field(want, 2);
@@ -40,7 +39,7 @@ pub fn forget(store: &mut [u8], want: &[u8]) {
     judge_store(number, store, want);
 }
 
-// The answer and the whole buffer, against the line.
+// Compares the answer and the whole buffer with the line.
 fn judge_return(r: Returned, out: &[u8], want: &[u8]) {
     tell::text(b", lent ");
     tell::number(out.len());
@@ -53,7 +52,7 @@ fn judge_return(r: Returned, out: &[u8], want: &[u8]) {
     tell::end();
 }
 
-// The return into a buffer of so much room.
+// The return into a buffer of that length.
 fn return_into(store: &[u8], want: &[u8], out: &mut [u8]) {
     let name = name_in(b"return ", want);
     let r = drafts::return_draft(store, name, out);

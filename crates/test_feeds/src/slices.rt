@@ -3,7 +3,7 @@ use test_lines::compare;
 use test_lines::contents;
 use test_lines::tell;
 
-// The longest slice of a line that asks for lengths.
+// The longest slice of an `e` line.
 const LONGEST: usize = 600;
 
 // 1 for a line feed.
@@ -48,7 +48,7 @@ fn holds(s: &[u8]) -> bool {
     c.feeds == plain_feeds(s) && c.longest == plain_longest(s)
 }
 
-// A slice's line feeds and its longest line, against the numbers of the line.
+// Compares a slice's line feeds and its longest line with the numbers of the line.
 pub fn counted(s: &[u8], count: usize, longest: usize) {
     let c = text::count_feeds(s);
     tell::number(s.len());
@@ -79,7 +79,7 @@ fn places(s: &mut [u8]) -> usize {
     right
 }
 
-// All slices of the lengths `first` to `last`; of each length one more than it has bytes.
+// All slices of the lengths `first` to `last`: of each length one more than it has bytes.
 fn lengths(room: &mut [u8], first: usize, last: usize) {
     let mut all: usize = 0;
     let mut right: usize = 0;
@@ -93,7 +93,7 @@ fn lengths(room: &mut [u8], first: usize, last: usize) {
     told(right, all);
 }
 
-// The same, in bytes of its own.
+// The same, in its own bytes.
 pub fn each_length(first: usize, last: usize) {
     let mut room = [0u8; LONGEST];
     lengths(&mut room, first, last);
@@ -108,7 +108,7 @@ fn told(right: usize, all: usize) {
     tell::end();
 }
 
-// How many of the 256 slices are right that have another byte at `at`, which is afterwards what it was.
+// How many of the 256 slices with another byte at `at` are right; the byte is restored.
 fn each_value(s: &mut [u8], at: usize) -> usize {
     if s.len() <= at {
         return 0;

@@ -1,11 +1,11 @@
-// What a call answers and writes, beside what a line wants.
+// Compares what a call answers and writes with what a line expects.
 use crate::contents;
 use crate::tell;
 
-// What lent bytes are made of before a call.
+// What lent bytes are filled with before a call.
 pub const MADE_OF: u8 = 35;
 
-// Makes the output anew.
+// Fills the output again.
 pub fn renew(out: &mut [u8]) {
     let mut i: usize = 0;
     while i < out.len() {
@@ -14,7 +14,7 @@ pub fn renew(out: &mut [u8]) {
     }
 }
 
-// Whether the output has the wanted bytes, and past them what it was made of.
+// Whether the output has the wanted bytes, and past them what it was filled with.
 pub fn holds(out: &[u8], want: &[u8]) -> bool {
     if out.len() < want.len() {
         return false;
@@ -33,7 +33,7 @@ pub fn holds(out: &[u8], want: &[u8]) -> bool {
     true
 }
 
-// A number of the answer, shown: whether it is number `k` of the line.
+// Prints a number of the answer: whether it is number `k` of the line.
 pub fn is_nth(name: &[u8], found: usize, want: &[u8], k: usize) -> bool {
     tell::text(name);
     tell::number(found);

@@ -1,8 +1,8 @@
-// The contents of a line: bytes, of which `\` and two hex digits stand for one, and numbers.
+// The contents of a line: bytes, of which `\` and two hex digits encode one, and numbers.
 ghost use Prim.Native.Nat.{_≤_};
 use crate::tell;
 
-// Writes a byte, as far as there is room; the answer is where the next one stands.
+// Writes a byte, as far as there is room; answers where the next one goes.
 pub fn byte(out: &mut [u8], at: usize, b: u8) -> usize {
     if at < out.len() {
         out[at] = b;
@@ -37,7 +37,7 @@ fn value(s: &[u8], i: usize) -> u8 {
     (high % 16 * 16 + low % 16) as u8
 }
 
-// How many places are to be passed over after this one.
+// How many positions to skip after this one.
 fn skip(before: usize, b: u8) -> usize {
     if 0 < before {
         return before - 1;
@@ -45,7 +45,7 @@ fn skip(before: usize, b: u8) -> usize {
     if b == b'\\' { 2 } else { 0 }
 }
 
-// The byte that begins at place `i`, unless that place is passed over.
+// The byte that begins at place `i`, unless that place is skipped.
 fn put(out: &mut [u8], at: usize, s: &[u8], i: usize, over: usize) -> usize {
     if 0 < over {
         return at;
@@ -53,7 +53,7 @@ fn put(out: &mut [u8], at: usize, s: &[u8], i: usize, over: usize) -> usize {
     byte(out, at, value(s, i))
 }
 
-// Writes the bytes that `s` stands for, from `from` on; the answer is where they end.
+// Writes the bytes that `s` encodes, from `from` on; answers where they end.
 pub fn bytes(out: &mut [u8], from: usize, s: &[u8]) -> usize {
     let mut at = from;
     let mut over: usize = 0;
@@ -125,13 +125,13 @@ fn after_space(s: &[u8]) -> usize
     if i < s.len() { i + 1 } else { i }
 }
 
-// A number, a space, and the bytes that are written so many times.
+// A number, a space, and the bytes to write that many times.
 fn repeated(out: &mut [u8], from: usize, s: &[u8]) -> usize {
     let start = after_space(s);
     times(out, from, number(s), &s[start..])
 }
 
-// The bytes of `s` once, from `from` on; or repeated, after the `n` bytes that are there; or as it was.
+// The bytes of `s` once, from `from` on; or repeated, after the `n` bytes that are there; or nothing.
 pub fn written(out: &mut [u8], n: usize, s: &[u8], once: bool, from: usize, more: bool) -> usize {
     if once {
         return bytes(out, from, s);
@@ -149,7 +149,7 @@ pub fn within(n: usize, s: &[u8]) -> usize
     if s.len() < n { s.len() } else { n }
 }
 
-// Number `k`, counted from 0, of numbers that spaces part.
+// Number `k`, counted from 0, of numbers separated by spaces.
 pub fn nth(s: &[u8], k: usize) -> usize {
     let mut at: usize = 0;
     let mut i: usize = 0;
@@ -165,7 +165,7 @@ pub fn second(s: &[u8]) -> usize {
     nth(s, 1)
 }
 
-// Where the next field starts, or the end; a comma and a space part fields.
+// Where the next field starts, or the end; a comma and a space separate fields.
 fn next_field(s: &[u8]) -> usize
     ensures { λ r. do ⌜ r ≤ (← ⟦s.len()⟧ .entry) ⌝ }
 {

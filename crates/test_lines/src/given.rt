@@ -1,7 +1,7 @@
-// The lines that give something.
+// The lines that set an input.
 use crate::contents;
 
-// What the lines so far have given: how many bytes of settings, tree and wanted bytes there are, and the node.
+// The inputs that the lines so far have set: how many bytes of settings, tree and wanted bytes there are, and the node.
 pub struct Given {
     pub settings: usize,
     pub tree: usize,
@@ -18,7 +18,7 @@ pub fn nothing() -> Given {
     }
 }
 
-// Whether a line of this kind gives something, and asks for nothing.
+// Whether a line of this kind sets an input and makes no call.
 pub fn gives(kind: u8) -> bool {
     match kind {
         b'=' | b':' | b'+' | b'&' | b'@' => true,
@@ -26,7 +26,7 @@ pub fn gives(kind: u8) -> bool {
     }
 }
 
-// What a line gives.
+// Sets the input of a line.
 pub fn give(
     kind: u8,
     rest: &[u8],

@@ -1,4 +1,4 @@
-// What is written to standard output.
+// What is printed to standard output.
 use libc::STDOUT_FILENO;
 
 pub fn text(s: &[u8]) {
@@ -34,7 +34,7 @@ pub fn verdict(ok: bool) {
     }
 }
 
-// A fault in the lines themselves.
+// An error in the lines themselves.
 pub fn failed(s: &[u8]) {
     text(s);
     verdict(false);
@@ -54,7 +54,7 @@ pub fn node(n: usize) {
     number(n);
 }
 
-// A printer's answer, with so many bytes lent.
+// A printer's answer, with that many bytes lent.
 pub fn written(refusal: u8, count: usize, lent: usize) {
     if refusal == 0 {
         text(b", bytes ");

@@ -7,7 +7,7 @@ use test_lines::compare::is_nth;
 use test_lines::contents;
 use test_lines::tell;
 
-// The place that the first two numbers say, and its answer, which is the other four.
+// The place of the first two numbers, and its answer, which is the other four.
 fn place(settings: &[u8], tree: &[u8], want: &[u8]) {
     let line = contents::nth(want, 0);
     let column = contents::nth(want, 1);
@@ -24,7 +24,7 @@ fn place(settings: &[u8], tree: &[u8], want: &[u8]) {
     tell::end();
 }
 
-// What a line asks for.
+// Makes the call of a line.
 pub fn ask(kind: u8, settings: &[u8], tree: &[u8], want: &[u8]) {
     match kind {
         b'p' => place(settings, tree, want),

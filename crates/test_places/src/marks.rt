@@ -1,5 +1,5 @@
-// Lists of places, answered together: ROOM COUNT, NUMBER READ, then the places as LINE COLUMN by turns, over and over until there are COUNT, then the answer to
-// each place listed, as NODE LINE COLUMN by turns; `none` where there are none.
+// Lists of places, answered together: ROOM COUNT, NUMBER READ, then the places, each as LINE COLUMN, repeated until there are COUNT, then the answer to each
+// place listed, as NODE LINE COLUMN; `none` where there are none.
 use test_lines::contents;
 use test_lines::tell;
 ghost use Prim.Native.Nat.{_≤_};
@@ -35,7 +35,7 @@ fn answer_word(s: &[u8], i: usize) -> u64 {
     node * 4294967296 + line * 65536 + column
 }
 
-// Entry `i` of a list of n that is gone through over and over.
+// Entry `i` of a list of n that is repeated.
 fn turn(i: usize, n: usize) -> usize {
     if n == 0 { 0 } else { i % n }
 }
@@ -50,7 +50,7 @@ fn put_places(s: &[u8], places: &mut [u64]) {
     }
 }
 
-// Whether the first n answers are those listed, and each other is what it was.
+// Whether the first n answers are those listed, and the others are unchanged.
 fn hold(s: &[u8], n: usize, answers: &[u64]) -> bool {
     let listed = contents::numbers(s) / 3;
     let mut i: usize = 0;
@@ -67,7 +67,7 @@ fn hold(s: &[u8], n: usize, answers: &[u64]) -> bool {
     true
 }
 
-// The call with these places and so much room, against the line.
+// Makes the call with these places and that much room, and compares its answer with the line.
 fn compare(settings: &[u8], tree: &[u8], places: &[u64], answers: &mut [u64], want: &[u8]) {
     let r = places::find_places(settings, tree, places, answers);
     tell::number(places.len());
@@ -94,7 +94,7 @@ fn ask(settings: &[u8], tree: &[u8], want: &[u8], places: &mut [u64], answers: &
     compare(settings, tree, places, answers, want);
 }
 
-// The line's places, answered together in these buffers.
+// Answers the line's places together, in these buffers.
 fn marked_in(settings: &[u8], tree: &[u8], want: &[u8], places: &mut [u64], answers: &mut [u64]) {
     let room = contents::nth(want, 0);
     let count = contents::nth(want, 1);

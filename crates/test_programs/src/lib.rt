@@ -1,13 +1,13 @@
-// Whole outputs of both programs, as `program::leg_sheet::answer` gives them against document 01, and `program::typed_sheet::answer_typed` of a typed list.
-// The lines give the input as a tree:
+// Whole outputs of both programs against document 01: of `program::leg_sheet::answer`, and of `program::typed_sheet::answer_typed` for a typed list. The lines
+// set the input as a tree:
 //   a the whole output     y the whole output for a typed list
 use test_lines::compare;
 use test_lines::tell;
 
-// The longest output that is shown.
+// The longest output that is printed.
 const SHORT: usize = 200;
 
-// The n bytes of output, and past them what was there before.
+// The n bytes of output, and past them the bytes from before.
 fn judge(bytes: usize, n: usize, out: &[u8], want: &[u8]) {
     tell::number(bytes);
     tell::text(b" bytes of input, ");
@@ -32,7 +32,7 @@ fn typed(text: &[u8], want: &[u8]) {
     judge(text.len(), n, &out, want);
 }
 
-// What a line asks for.
+// Makes the call of a line.
 pub fn ask(kind: u8, input: &[u8], want: &[u8]) {
     match kind {
         b'a' => answered(input, want),

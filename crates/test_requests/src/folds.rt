@@ -10,7 +10,7 @@ const MOST: usize = 210;
 // What an entry is before the call.
 const BEFORE: u16 = 7777;
 
-// Whether the first n entries are those listed, and each other is what it was.
+// Whether the first n entries are those listed, and the others are unchanged.
 fn hold(s: &[u8], n: usize, columns: &[u16]) -> bool {
     let mut i: usize = 0;
     while i < columns.len() {
@@ -26,7 +26,7 @@ fn hold(s: &[u8], n: usize, columns: &[u16]) -> bool {
     true
 }
 
-// The answer and the list, against the line.
+// Compares the answer and the list with the line.
 fn judge(want: &[u8], r: Folded, columns: &[u16]) {
     let number = is_nth(b": number ", r.number as usize, want, 3);
     let count = is_nth(b", Columns ", r.columns, want, 4);
@@ -39,7 +39,7 @@ fn judge(want: &[u8], r: Folded, columns: &[u16]) {
     tell::end();
 }
 
-// The call with so much room.
+// The call with a list of that length.
 fn compare(settings: &[u8], tree: &[u8], want: &[u8], columns: &mut [u16]) {
     let width = contents::nth(want, 1);
     let budget = contents::nth(want, 2);
@@ -51,7 +51,7 @@ fn compare(settings: &[u8], tree: &[u8], want: &[u8], columns: &mut [u16]) {
     judge(want, r, columns);
 }
 
-// The line's list, folded in this buffer.
+// Folds the line's list, in this buffer.
 fn fold_in(settings: &[u8], tree: &[u8], want: &[u8], columns: &mut [u16]) {
     let room = contents::nth(want, 0);
     if columns.len() < room {

@@ -6,7 +6,7 @@ mod plans;
 
 use test_lines::tell;
 
-// What a line asks for, with what is wanted.
+// Makes the call of a line and compares the answer.
 pub fn ask(kind: u8, settings: &[u8], tree: &[u8], want: &[u8]) {
     match kind {
         b'c' => folds::fold(settings, tree, want),

@@ -1,4 +1,4 @@
-// The Cells nearest to widening the sheet: ROOM_NODES ROOM_LETTERS, NUMBER COUNT, then NODE LETTERS by turns; `none` where there are none.
+// The Cells nearest to widening the sheet: ROOM_NODES ROOM_LETTERS, NUMBER COUNT, then each Cell as NODE LETTERS; `none` where there are none.
 use test_lines::compare::is_nth;
 use test_lines::contents;
 use test_lines::tell;
@@ -10,7 +10,7 @@ const MOST: usize = 520;
 // What an entry is before the call.
 const BEFORE: u16 = 7777;
 
-// Number `k` of those listed for the first n entries; elsewhere what it was.
+// Number `k` of those listed for the first n entries; after them what it was.
 fn wanted(s: &[u8], i: usize, n: usize, k: usize) -> usize {
     if i < n {
         return contents::nth(s, k);
@@ -18,7 +18,7 @@ fn wanted(s: &[u8], i: usize, n: usize, k: usize) -> usize {
     common::wide16(BEFORE)
 }
 
-// Whether the first n nodes are those listed, and each other is what it was.
+// Whether the first n nodes are those listed, and the others are unchanged.
 fn nodes_hold(s: &[u8], n: usize, nodes: &[u16]) -> bool {
     let mut good = true;
     let mut i: usize = 0;
@@ -32,7 +32,7 @@ fn nodes_hold(s: &[u8], n: usize, nodes: &[u16]) -> bool {
     good
 }
 
-// The same of the letters.
+// The same for the letters.
 fn letters_hold(s: &[u8], n: usize, letters: &[u32]) -> bool {
     let mut good = true;
     let mut i: usize = 0;
@@ -46,7 +46,7 @@ fn letters_hold(s: &[u8], n: usize, letters: &[u32]) -> bool {
     good
 }
 
-// The answer and both lists, against the line.
+// Compares the answer and both lists with the line.
 fn judge(want: &[u8], r: Widened, nodes: &[u16], letters: &[u32]) {
     tell::number(nodes.len());
     tell::text(b" and ");
@@ -60,13 +60,13 @@ fn judge(want: &[u8], r: Widened, nodes: &[u16], letters: &[u32]) {
     tell::end();
 }
 
-// The call with so much room.
+// The call with lists of that length.
 fn compare(settings: &[u8], tree: &[u8], want: &[u8], nodes: &mut [u16], letters: &mut [u32]) {
     let r = widen::nearest_cells(settings, tree, nodes, letters);
     judge(want, r, nodes, letters);
 }
 
-// The line's tree, in these buffers.
+// The call for the line's tree, in these buffers.
 fn seek_in(settings: &[u8], tree: &[u8], want: &[u8], nodes: &mut [u16], letters: &mut [u32]) {
     let n = contents::nth(want, 0);
     let l = contents::nth(want, 1);

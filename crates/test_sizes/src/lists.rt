@@ -1,8 +1,8 @@
-// A call of the collector, and its list afterwards: each run of equal entries in one line.
+// A call of the collector, and its list afterwards: each run of equal entries on one line.
 use collector::SizeRecord;
 use test_lines::tell;
 
-// What the list is made of before a call.
+// What the list is filled with before a call.
 fn made_of() -> SizeRecord {
     SizeRecord {
         natural_width: 9,

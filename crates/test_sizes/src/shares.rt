@@ -1,4 +1,4 @@
-// The sharing helper, called for each child and for one more: each run of equal answers in one line.
+// The sharing helper, called for each child and for one more: each run of equal answers on one line.
 use settings::Priority;
 use sharing::Shared;
 use test_lines::tell;

@@ -26,7 +26,7 @@ fn answered(number: usize, yes: bool, pair: CutPair, taken: SplitList, left: Spl
     }
 }
 
-// Calls other than cuts say none.
+// Calls other than cuts have no pair.
 fn no_pair() -> CutPair {
     CutPair { taken: 0, rest: 0 }
 }
@@ -60,7 +60,7 @@ fn short(list: SplitList, w: u16) -> Answer {
     }
 }
 
-// The pieces of `b` behind the first of `a`, copied there in lent memory.
+// Copies the pieces of `b` behind the first of `a`, in lent memory.
 fn join(a: SplitList, b: SplitList) -> Answer {
     let none = splits::no_pieces();
     if 511 < b.count {
@@ -121,7 +121,7 @@ fn answers(kind: u8, s: &[u8]) -> bool {
     same(got, wanted(s))
 }
 
-// Whether the case in this line has the answer that the line says; a line of no kind has none.
+// Whether the case in this line has the answer that the line says; a line of an unknown kind does not.
 pub fn holds(kind: u8, s: &[u8]) -> bool {
     match kind {
         b'c' => answers(b'v', s) && answers(b'l', s),

@@ -1,4 +1,4 @@
-// Split lists at their bounds, against document 01. Each case is told again with the verdict on it; commas part its fields:
+// Split lists at their bounds, against document 01. Each case is printed with its verdict; commas separate its fields:
 //   c LIST, at W, took LIST, left LIST, yes or no, pair TAKEN REST     `short_splits3`, by value and in place
 //   v .., l ..                                      the same by value alone, in place alone, with `refused N` for yes or no
 //   s LIST, at W, positions LIST, left LIST         `short_splits`; after a refusal with `refused N`
@@ -21,7 +21,7 @@ fn name(kind: u8) {
     }
 }
 
-// What a line asks for.
+// Makes the call of a line.
 pub fn ask(kind: u8, case: &[u8]) {
     name(kind);
     tell::text(case);

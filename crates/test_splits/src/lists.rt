@@ -1,5 +1,5 @@
-// Lists as they are written in a line, and the comparing of lists.
-// A list is its entries: `4 2`; `1*512` is 512 times 1, and with `+1` each is 1 more than the one before. `#N` makes the count N. Other words are passed over.
+// Lists as they are written in a line, and comparing lists.
+// A list is its entries: `4 2`; `1*512` is 512 times 1, and with `+1` each is 1 more than the one before. `#N` makes the count N. Other words are skipped.
 use splits::Positions;
 use splits::SplitList;
 use test_lines::contents;
@@ -54,7 +54,7 @@ fn word(list: SplitList, s: &[u8]) -> SplitList {
     run(list, first as u16, by as u16, after(s, b'*', 1))
 }
 
-// The entries that stand in `s`.
+// The entries that are in `s`.
 fn entries(s: &[u8]) -> SplitList {
     let mut list = splits::no_pieces();
     let mut start: usize = 0;
@@ -72,7 +72,7 @@ pub fn list(s: &[u8]) -> SplitList {
     list
 }
 
-// Pieces as positions, so that one comparing serves both.
+// Pieces as positions, so that one comparison serves both.
 pub fn widened(list: SplitList) -> Positions {
     let s = list.pieces;
     let mut out = [0u32; 512];

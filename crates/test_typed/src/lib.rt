@@ -1,7 +1,7 @@
-// Typed lists, which the lines give as trees:
+// Typed lists, which the lines set as trees:
 //   t N: `read_typed` is called with N bytes lent
-// For each call: the answer; `ok` where the lent bytes past those written are as they were; and what was written, up to 120 bytes, with the
-// node count that `read_tree` gives it, `\` and two hex digits standing for a byte.
+// For each call: the answer; `ok` where the lent bytes past those written are unchanged; and what was written, up to 120 bytes, with the node count that
+// `read_tree` gives it, `\` and two hex digits encoding a byte.
 use test_lines::compare;
 use test_lines::contents;
 use test_lines::tell;
@@ -72,13 +72,13 @@ fn call(text: &[u8], out: &mut [u8]) {
     tell::end();
 }
 
-// The call with so many bytes lent, or with as many as there are.
+// The call with that many bytes lent, or with as many as there are.
 fn lend(text: &[u8], room: usize, out: &mut [u8]) {
     let n = contents::within(room, out);
     call(text, &mut out[0..n]);
 }
 
-// What a line asks for; `want` is its contents.
+// Makes the call of a line; `want` is its contents.
 pub fn ask(kind: u8, text: &[u8], want: &[u8]) {
     if kind != b't' {
         tell::unknown();

@@ -24,7 +24,7 @@ less [] = []
 less (true ∷ t) = false ∷ t
 less (false ∷ t) = false ∷ less t
 
--- what is seen past flags, the first of which stands at i
+-- what is seen past flags, the first of which is at i
 unfoldable pub past : List Bool → ℕ → Seen → Seen
 past [] i r = r
 past (b ∷ t) i r = past t (suc i) (pick b (afterFeed i r) r)

@@ -1,4 +1,4 @@
--- Lines that hold no 0A: joined by it, they are parted into the same lines again.
+-- Lines that hold no 0A: joined by it, they are split into the same lines again.
 use mathlib.Core.Path.{_≡_, refl, ap, _∙_}
 use mathlib.Core.Logic.{_≢_}
 use Prim.Native.Nat.{ℕ, zero, suc}
@@ -64,7 +64,7 @@ unfolding lines onto
 lines-next t none = refl
 lines-next t (more {b = b} p h) = rw (ne-eqb b 10 p, lines-next t h)
 
--- lines without 0A, joined by it and parted at each
+-- lines without 0A, joined by it and split at each
 pub lines-feeds : {l : List ℕ} {x : List (List ℕ)} → NoFeed (l ∷ x) → lines (joinLines (l ∷ x)) ≡ l ∷ x
 unfolding joinLines
 lines-feeds (more p none) = lines-free p

@@ -28,7 +28,7 @@ short-size t f =
 
 -- ---- as `count_feeds` counts and measures
 
--- the longest line, where n letters stand before the first
+-- the longest line, where n letters are before the first
 longest : ℕ → List (List ℕ) → ℕ
 longest n [] = n
 longest n (l ∷ ls) = max (n + length l) (greatest (map length ls))

@@ -1,4 +1,4 @@
--- What the functions of this crate ask and give, beyond the definitions; no theorem speaks of it.
+-- What the functions of this crate require and ensure, beyond the definitions; no theorem mentions it.
 use Prim.Native.Nat.{ℕ, suc, _+_, _-_, _%_, _≤_, _<_, max, zero, _*_, _/_}
 use mathlib.Core.List.{List, [], _∷_}
 use mathlib.Core.Path.{_≡_}
@@ -20,12 +20,12 @@ noneSeen = record { feeds = 0; longest = 0; start = 0 }
 abbrev pub afterFeed : ℕ → Seen → Seen
 afterFeed i r = record { feeds = r .feeds + 1; longest = max (r .longest) (i + 1 - r .start); start = i + 1 }
 
--- past bytes, the first of which stands at i
+-- past bytes, the first of which is at i
 unfoldable pub after : List ℕ → ℕ → Seen → Seen
 after [] i r = r
 after (b ∷ t) i r = after t (suc i) (pick (isFeed b) (afterFeed i r) r)
 
--- the line starts at i or before, and no more feeds were seen than there are bytes before it
+-- the line starts at i or before, and no more line feeds were seen than there are bytes before it
 pub record Fine (i : ℕ) (r : Seen) : Type 0 where
   pub few : r .feeds ≤ r .start
   pub before : r .start ≤ i
@@ -40,7 +40,7 @@ pub record SeenBefore (t : List ℕ) (i : ℕ) (r : Seen) : Type 0 where
   pub fine : Fine i r
   pub same : after (drop i t) i r ≡ after t 0 noneSeen
 
--- i and then end lie in t, a whole number of times n bytes apart
+-- i and then end are in t, a multiple of n bytes apart
 pub record Whole (n : ℕ) (t : List ℕ) (i end : ℕ) : Type 0 where
   pub on : i ≤ end
   pub within : end ≤ length t

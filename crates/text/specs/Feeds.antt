@@ -14,7 +14,7 @@ unfoldable pub feedCount : List ℕ → ℕ
 feedCount [] = 0
 feedCount (b ∷ t) = pick (isFeed b) 1 0 + feedCount t
 
--- the most letters that stand together without a line feed, where n stand before the text
+-- the most letters together without a line feed, where n letters are before the text
 unfoldable pub longestFrom : ℕ → List ℕ → ℕ
 longestFrom n [] = n
 longestFrom n (b ∷ t) = max n (longestFrom (pick (isFeed b) 0 (suc n)) t)

@@ -13,7 +13,7 @@ pub struct TextSize {
     pub height: usize,
 }
 
-// The longest line and the line count: `get_text_dimension`. There is one line more than line feeds. It asks that the count fits a number.
+// The longest line and the line count: `get_text_dimension`. There is one line more than line feeds. The count must fit a number.
 pub fn text_size(text: &[u8]) -> TextSize
     requires { ⌜ length (now text) + 1 < 18446744073709551616 ⌝ }
     ensures { λ r. ⌜ r ≡ textSize (now (text .entry)) ⌝ }

@@ -138,7 +138,7 @@ module _ (bs ts : List ℕ) (s : Settings) (t : Tree) (i : inputOf bs ts ≡ giv
   unfolding leafPrintOf
   prints p o = rw (i, g, leaf-found s t p)
 
-  -- and for a leaf lent enough, in lines
+  -- and for a leaf with enough lent, in lines
   module _ (r : Ranges s) {n : ℕ} {f : Placed} (p : LeafAt s t n f) where
     fits : LeafFits s f
     fits = every-elem (LeafFits s) (leaves s t) (p .index) f (leaves-fit s t) (p .stands)

@@ -1,7 +1,6 @@
 -- Demand 3 about what the calls answer and write: `Tiled`, `SharedOut`. Quotations are of demand 3, and of document 01 where marked so. The separator width
--- `sep` stands for document 01's one column and one line: 1, or 0
--- without lines (document 02, 13). The rectangle is the one inside the margin: "its starts and places count from that rectangle's first line and column"
--- (document 02, 1).
+-- `sep` is document 01's one column and one line: 1, or 0 without lines (document 02, 13). The rectangle is the one inside the margin: "its starts and places
+-- count from that rectangle's first line and column" (document 02, 1).
 use mathlib.Core.Path.{_≡_}
 use mathlib.Core.Logic.{_↔_}
 use Prim.Native.Nat.{ℕ, suc, _+_, _-_, _*_, _≤_, _<_}
@@ -66,7 +65,7 @@ abbrev pub leafText : Tree → List ℕ
 leafText (cell text) = text
 leafText (group a ts) = []
 
--- ---- the words, for the bytes of settings and tree that all calls are handed, the settings and the tree that these bytes are, and what the size collector
+-- ---- the definitions, for the bytes of settings and tree that all calls get, the settings and the tree that these bytes encode, and what the size collector
 -- answered and wrote
 
 module _ (bs ts : List ℕ) (s : Settings) (t : Tree) (c : Outcome Collected (List SizeRecord)) where
@@ -80,7 +79,7 @@ module _ (bs ts : List ℕ) (s : Settings) (t : Tree) (c : Outcome Collected (Li
 
   -- ---- a leaf's block
 
-  -- what the leaf record answers for node n, and what the leaf printer answers and writes for it into the output that it is lent
+  -- what the leaf record answers for node n, and what the leaf printer answers for it and writes into the lent output
   abbrev pub leafAnswer : ℕ → LeafRecord
   leafAnswer n = leafRecordOf (inputOf bs ts) n
 
@@ -92,8 +91,7 @@ module _ (bs ts : List ℕ) (s : Settings) (t : Tree) (c : Outcome Collected (Li
   startIn n = startAt s (allottedWritten c) t n
 
   -- "a leaf's block has 1 + allotted height lines, one more under last_row, of 1 + allotted width columns, one more under last_col" (01): the size as written,
-  -- the
-  -- flags as answered
+  -- the flags as answered
   abbrev pub blockLines : ℕ → ℕ
   blockLines n = sep s + sizesWritten c n .height + pick (leafAnswer n .flags .«last_row») (sep s) 0
 
@@ -120,7 +118,7 @@ module _ (bs ts : List ℕ) (s : Settings) (t : Tree) (c : Outcome Collected (Li
 
   -- ---- the rectangle
 
-  -- "A sheet is W = root width + 2 by H = root height + 2" (01), by the root's size as written: so many lines and columns inside the margin
+  -- "A sheet is W = root width + 2 by H = root height + 2" (01), by the root's size as written: that many lines and columns inside the margin
   abbrev pub insideLines : ℕ
   insideLines = sizesWritten c 0 .height + 2 * sep s
 
@@ -150,7 +148,7 @@ module _ (bs ts : List ℕ) (s : Settings) (t : Tree) (c : Outcome Collected (Li
     -- what the leaf printer writes has the lines and columns that the block covers
     pub block-is : (n : ℕ) → leafAnswer n .number ≡ 0 → (o₁ : List ℕ) → leafPrint n o₁ .answer .number ≡ 0
         → Rectangle (leafPrint n o₁) (blockLines n) (blockColumns n)
-    -- "lent enough output" (01): for a leaf it answers 0 exactly where that many bytes and a 0A between lines have room
+    -- "lent enough output" (01): for a leaf it answers 0 exactly where that many bytes and a 0A between lines fit
     pub enough : (n : ℕ) → leafAnswer n .number ≡ 0 → (o₁ : List ℕ)
         → (leafPrint n o₁ .answer .number ≡ 0) ↔ (byteCount (blockColumns n) (blockLines n) ≤ length o₁)
     -- the leaves are the nodes of the list below which the collector counted none

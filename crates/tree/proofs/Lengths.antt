@@ -1,4 +1,4 @@
--- How many bytes a tree has: its shape and the lengths of its texts say.
+-- How many bytes a tree has: it depends on its shape and the lengths of its texts.
 use mathlib.Core.Path.{_≡_, refl, ap}
 use Prim.Native.Nat.{ℕ, _+_}
 use native.Mathlib.Omega.{arith}

@@ -1,4 +1,4 @@
--- What the reader answers for the bytes of any plan whose texts are allowed: the verdict of the limits, which looks at no text.
+-- What the reader answers for the bytes of any plan whose texts are allowed: the verdict of the limits, which does not depend on the texts.
 use mathlib.Core.Path.{_≡_, refl, sym, _∙_, ap}
 use Prim.Native.Nat.{ℕ, zero, suc, _+_, _<_, _≤_}
 use native.Mathlib.Omega.{arith}
@@ -53,7 +53,7 @@ abbrev outcomes : Plans → Verdict → PlanAll
 outcomes ps (bad k) = PlanAll.refused k
 outcomes ps (good m) = PlanAll.all ps m
 
--- every text has allowed bytes only; a range is there only with planning
+-- every text has allowed bytes only; there are ranges only with planning
 unfoldable mutual
   pub TextsIn : Bool → Plan → Type 0
   TextsIn planning (Plan.cell text) = isText text ≡ true

@@ -1,4 +1,4 @@
--- What reading comes to, with planning and without: a plan that is what its bytes say and within the limits of 01, or one of the refusals 2 to 5, or 17 with
+-- The result of reading, with planning and without: a plan that its bytes encode and that is within the limits of 01, or one of the refusals 2 to 5, or 17 with
 -- planning.
 use mathlib.Core.Path.{_≡_, refl, _∙_}
 use Prim.Native.Nat.{ℕ, zero, suc, _+_, _<_, _≤_}
@@ -33,7 +33,7 @@ last-low : (planning : Bool) → lastTag planning ≤ 4
 last-low true = omega arith
 last-low false = omega arith
 
--- tag 4 is there only with planning
+-- tag 4 is accepted only with planning
 four-planned : (planning : Bool) (tag : ℕ) → tag ≤ lastTag planning → tag ≡ 4 → planning ≡ true
 four-planned true tag h e = refl
 four-planned false tag h e = absurd (omega arith)
@@ -131,7 +131,7 @@ module _ (P : Bool) where
     shallow : d ≤ 17 → d + planDepth* ts ≤ 17
     leaves : Allowed* P ts
 
-  -- what reading with the fuel f comes to; with fuel for each byte it never runs out
+  -- the result of reading with the fuel f; with fuel for each byte it never runs out
   abbrev One : ℕ → ℕ → ℕ → List ℕ → PlanOne → Type 0
   One f d n s (PlanOne.refused k) = length s < f → PlanRefusal P k
   One f d n s (PlanOne.one t size m) = Got s d n t size m

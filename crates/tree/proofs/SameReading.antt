@@ -1,4 +1,4 @@
--- Without planning the general reading is document 01's: `readTree` as it stands in specs/Reading.
+-- Without planning the general reading is document 01's: `readTree` as it is in specs/Reading.antt.
 use mathlib.Core.Path.{_≡_, refl, ap, _∙_}
 use Prim.Native.Nat.{ℕ, zero, suc, _+_, _≤_}
 use native.Mathlib.Omega.{arith}
@@ -41,7 +41,7 @@ pub header-same : (s : List ℕ) (d n : ℕ) → headerIn false s d n ≡ header
 unfolding headerIn headerOf
 header-same s d n = ap (λ (h : Header). pick (ltb (length s) 3) (Fault 2) (pick (ltb (getD s 0 0) 1) (Fault 2) h)) (tail-case s _ (ltb 3 (getD s 0 0)) refl)
 
--- an element's tag is no 4
+-- an element's tag is not 4
 abbrev Low : Header → Type 0
 Low (Fault k) = Unit {0}
 Low (Element tag len) = tag ≤ 3

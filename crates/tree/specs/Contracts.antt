@@ -1,4 +1,4 @@
--- What the functions of this crate ask and give, beyond the definitions; no theorem speaks of it.
+-- What the functions of this crate require and ensure, beyond the definitions; no theorem mentions it.
 use Prim.Native.Nat.{ℕ, _+_, _≤_, _<_}
 use mathlib.Core.Bool.{true, false, Bool}
 use mathlib.Core.List.{List}
@@ -17,14 +17,14 @@ use Rattle.tree.specs.Tree.{across}
 use Rattle.tree.specs.Bytes.{lengthAt}
 use Rattle.tree.specs.Planning.{PlanOne, refused, one, PlanAll, all, elementIn, wholeIn}
 
--- what the front of an element tells: a Cell, or a Row or a Column without children, is a leaf
+-- what the front of an element shows: a Cell, or a Row or a Column without children, is a leaf
 abbrev pub frontOf : List ℕ → Front
 frontOf s =
     pick (eqb (getD s 0 0) 1) (record { leaf = true; across = false; end = 3 + lengthAt s })
     (pick (eqb (lengthAt s) 0) (record { leaf = true; across = false; end = 3 + lengthAt s })
     (record { leaf = false; across = eqb (getD s 0 0) 2; end = 3 + lengthAt s }))
 
--- where tag 4 passes, its length is four
+-- where tag 4 is accepted, its length is four
 abbrev pub fourFits : Header → Type 0
 fourFits (Fault k) = Unit
 fourFits (Element tag len) = tag ≡ 4 → len ≡ 4
@@ -33,7 +33,7 @@ abbrev pub stepIn : PlanOne → Step
 stepIn (PlanOne.refused k) = Step.Fault k
 stepIn (PlanOne.one p size count) = Step.Whole size count
 
--- what `read_cell` has read is what the element comes to
+-- what `read_cell` has read is the element's result
 abbrev pub begunFits : Bool → ℕ → ℕ → List ℕ → ElementBegun → Type 0
 begunFits planning depth count s (ElementBegun.Fault k) = (f : ℕ) → length s < f → Step.Fault k ≡ stepIn (elementIn planning f depth count s)
 begunFits planning depth count s (ElementBegun.Cell size) =
@@ -51,12 +51,12 @@ planAnswer (PlanOne.one p size count) = record { number = 0; nodes = count }
 abbrev pub rootIn : Bool → List ℕ → ReadTree
 rootIn planning s = planAnswer (wholeIn planning s)
 
--- what a header that is no refusal has shown
+-- what holds of a header that is not refused
 abbrev pub headerFits : List ℕ → ℕ → ℕ → Header → Type 0
 headerFits s depth count (Fault k) = Unit
 headerFits s depth count (Element tag len) = (3 + len ≤ length s) × (depth ≤ 16) × (count < 512)
 
--- a whole element takes its front at least, and ends within its container
+-- a whole element has at least its tag and length, and ends within its container
 abbrev pub stepFits : List ℕ → Step → Type 0
 stepFits s (Step.Fault k) = Unit
 stepFits s (Step.Whole size count) = (3 ≤ size) × (size ≤ length s)

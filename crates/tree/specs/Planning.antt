@@ -105,4 +105,4 @@ wholeIn planning s =
 abbrev pub readPlan : List ℕ → PlanOne
 readPlan s = wholeIn true s
 
--- ---- what accepted bytes look like
+-- ---- the form of accepted bytes

@@ -1,4 +1,4 @@
--- The words of the theorems about this crate's functions.
+-- Definitions used in the statements of the theorems about this crate's functions.
 use mathlib.Core.Path.{_≡_}
 use Prim.Native.Nat.{ℕ, _+_, _≤_, suc, max}
 use mathlib.Core.Bool.{true, Bool}
@@ -44,8 +44,8 @@ unfoldable mutual
   depth* none = 0
   depth* (more t ts) = max (depth t) (depth* ts)
 
--- s is the bytes of the tree t, which is within the limits of 01; its size in bytes and its number of nodes. `tree-sound` and `tree-complete` say
--- that these are the trees that are read; `tree-bytes`, that there are such bytes for every tree within the limits.
+-- s is the bytes of the tree t, which is within the limits of 01; its size in bytes and its number of nodes. `tree-sound` and `tree-complete` say that these
+-- are the trees that are read; `tree-bytes`, that there are such bytes for every tree within the limits.
 pub record GotTree (s : List ℕ) (t : Tree) (size n : ℕ) : Type 0 where
   pub is : Encodes t s
   pub ends : 3 + lengthAt s ≡ length s
@@ -102,13 +102,13 @@ unfoldable mutual
   PlanEncodesAll Plans.none s = length s ≡ 0
   PlanEncodesAll (Plans.more p ps) s = PlanEncodes p s × PlanEncodesAll ps (drop (3 + lengthAt s) s)
 
--- a range that no refusal 17 meets
+-- a range that is not refused with 17
 pub record GoodRange (a b c d : ℕ) : Type 0 where
   pub widths : a ≤ b
   pub lines : c ≤ d
   pub some : 1 ≤ c
 
--- every text has allowed bytes only; a range is there only with planning, and every one is good
+-- every text has allowed bytes only; there are ranges only with planning, and every one is good
 unfoldable mutual
   pub Allowed : Bool → Plan → Type 0
   Allowed planning (Plan.cell text) = isText text ≡ true

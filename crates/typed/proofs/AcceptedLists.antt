@@ -30,7 +30,7 @@ use Rattle.typed.proofs.Scanned.{scan-skip, scan-fault, scan-node, scan
 use Rattle.typed.proofs.Built.{Suits, suits, far-none, none-replicate, levels-17, Rooted, one-root-of, root-found, flat-is, flatOf-length}
 use Rattle.typed.proofs.Listing.{following-of, rooted, never, added}
 
--- ---- the nodes that wait, the deepest level first
+-- ---- the nodes whose parent is still to come, the deepest level first
 
 unfoldable nodesBelow : ℕ → List Trees → List TypedNode
 nodesBelow d [] = []
@@ -79,7 +79,7 @@ root-listed ns q c =
     ∙ ap (nodesBelow 0) (sym (a .is))
     ∙ nodes-below ns c
 
--- ---- what the nodes tell of the tree
+-- ---- what the nodes show of the tree
 
 mutual
   unfolding typedNodes nodes

@@ -58,7 +58,7 @@ under-low : (d : ℕ) (item : Item) → levelUnder d item ≤ d + 1
 under-low d (cell t) = omega arith
 under-low d (group a) = omega arith
 
--- nothing waits below the level of the first node
+-- no trees are left below the level of the first node
 none-below : (ns : List TypedNode) (m : ℕ) → Chained ns → Starts m ns → (e : ℕ) → m < e → getD (treesAt ns) e none ≡ none
 unfolding treesAt Chained
 none-below [] m c s e h = none-replicate 17 e
@@ -68,7 +68,7 @@ none-below (n ∷ ns) m c s e h =
     (λ a. push-far (n .level) (n .item) (treesAt ns) e a
     ∙ none-below ns (levelUnder (n .level) (n .item)) (c .2) (c .1) e (omega (arith, under-low (n .level) (n .item))))
 
--- the children that wait for a node suit it
+-- the trees left for a node are allowed as its children
 pub suits : (d : ℕ) (item : Item) (ns : List TypedNode) → Chained ns → Starts (levelUnder d item) ns → Suits item (getD (treesAt ns) (suc d) none)
 suits d (cell t) ns c s = none-below ns d c s (suc d) (omega arith)
 suits d (group a) ns c s = tt
@@ -104,7 +104,7 @@ sizes-push zero item (q ∷ k ∷ r) h s = rw (size-parent item k q s, size-none
 sizes-push (suc d) item [] h s = absurd (omega arith)
 sizes-push (suc d) item (q ∷ r) h s = ap (λ (l : List ℕ). treesSize q ∷ l) (sizes-push d item r (omega arith) s)
 
--- what waits at all levels
+-- the bytes at all levels together
 sum-push : (d : ℕ) (item : Item) (p : List Trees) → suc d < length p → Suits item (getD p (suc d) none)
     → total (map treesSize (push d item p)) ≡ total (map treesSize p) + 3 + length (ownText item)
 unfolding push total
@@ -142,7 +142,7 @@ size-at [] e = sym size-none
 size-at (q ∷ p) zero = refl
 size-at (q ∷ p) (suc e) = size-at p e
 
--- ---- bytes: what waits, the deepest level first
+-- ---- bytes: the trees left, the deepest level first
 
 unfoldable deep : List Trees → List ℕ
 deep [] = []

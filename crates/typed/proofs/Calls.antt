@@ -1,4 +1,4 @@
--- The theorems about the call: what is accepted is the tree meant, where a fault is told, and every tree that the tree reader accepts can be typed.
+-- The theorems about the call: what is accepted is the tree meant, where a fault is reported, and every tree that the tree reader accepts can be typed.
 use mathlib.Core.Path.{_≡_, refl, sym, ap, _∙_}
 use mathlib.Core.Logic.{inl, inr}
 use Prim.Native.Nat.{ℕ, _<_}
@@ -49,7 +49,7 @@ typed-accepted t o =
     (λ h. absurd (omega arith))
     (λ ns e h. typed-found t o ns e)
 
--- ---- where a fault is told
+-- ---- where a fault is reported
 
 without-place : (t : List ℕ) (k n : ℕ) → Unplaced k → FaultPlace t (record { number = k; count = n; line = 0; column = 0 })
 without-place t k n u = record { none = λ v. (refl, refl); some = λ v. absurd (v u) }
@@ -62,7 +62,7 @@ with-place t a f = record { none = λ u. absurd (placed u); some = λ u. f }
     placed (inr (inl e)) = omega (arith, f .number-low)
     placed (inr (inr e)) = omega (arith, f .number-low)
 
--- a fault's line and column lie in the list; 0, 8 and 30 have none
+-- a fault's line and column are in the list; 0, 8 and 30 have none
 pub fault-place : (t o : List ℕ) → FaultPlace t (typedOf t o .answer)
 fault-place t o =
     typed-cases t o (λ x. FaultPlace t (x .answer))

@@ -1,4 +1,4 @@
--- Where a fault is told: in a line of the list, or at its end.
+-- Where a fault is reported: in a line of the list, or at its end.
 use mathlib.Core.Path.{_≡_, refl}
 use mathlib.Core.Logic.{_⊎_, inl, inr}
 use Prim.Native.Nat.{ℕ, suc, _+_, _*_, _-_, _≤_, _<_}
@@ -18,7 +18,7 @@ use Rattle.typed.specs.Promises.{FaultAt}
 use Rattle.typed.proofs.OneLine.{LineFaultAt, LineIn, line-in-bytes}
 use Rattle.typed.proofs.Scanned.{scan-skip, scan-fault, scan-node, scan-refused}
 
--- ---- the numbers of a node's place
+-- ---- the numbers of a node's faults
 
 abbrev PlaceNumber : ℕ → Type 0
 PlaceNumber k = (k ≡ 0 → ⊥) → (34 ≤ k) × (k ≤ 38)

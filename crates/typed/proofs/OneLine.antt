@@ -155,7 +155,7 @@ module _ (x : List ℕ) (n start : ℕ) (a : n ≤ start) (h : start ≤ length 
           })
           q
 
--- ---- what stands after the spaces
+-- ---- what follows the spaces
 
 empty-text : (x : List ℕ) (a : Axis) (n : ℕ) → n ≤ length x → TextAt x (group a) (tagOf a) n n 0
 unfolding textFrom
@@ -229,7 +229,7 @@ module _ (x : List ℕ) (n : ℕ) (e : n ≡ spaces x) (r : Line) where
             go : PlainThere (getD x n 0 ∷ drop (suc n) x)
             go = rw (ne-eqb _ 35 c, bare-text .0, bare-text .1, ne-eqb _ 39 b) t
 
--- ---- a text that stands in a part of a list stands in the list
+-- ---- a text that is in a part of a list is in the list
 
 take-drop-take : (n a m : ℕ) (t : List ℕ) → a + n ≤ m → take n (drop a (take m t)) ≡ take n (drop a t)
 take-drop-take n a m [] h = rw (take-nil m) refl
@@ -265,7 +265,7 @@ line-told x m r e h t = front-told x m (plainOf (withoutReturn x)) r h (rw (sym 
 pub part-short : (s : List ℕ) (a : ℕ) → length (take (length s - a) (drop a s)) ≤ length s
 part-short s a = rw (part-to-end s a, length-drop) (omega arith)
 
--- ---- where a line's fault stands
+-- ---- where a line's fault is
 
 -- fault k at column c of a line of n bytes without its carriage return: at a byte, or 32 at the end
 pub record LineFaultAt (n k c : ℕ) : Type 0 where
@@ -275,7 +275,7 @@ pub record LineFaultAt (n k c : ℕ) : Type 0 where
   pub within : c ≤ n + 1
   pub on-byte : (k ≡ 32 → ⊥) → c ≤ n
 
--- a node stands at a byte
+-- a node begins at a byte
 abbrev pub LineIn : ℕ → OneLine → Type 0
 LineIn n skip = Unit
 LineIn n (fault k c) = LineFaultAt n k c

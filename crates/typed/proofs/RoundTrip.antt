@@ -160,7 +160,7 @@ pub line-typed : (n : TypedNode) → isText (ownText (n .item)) ≡ true → one
 unfolding oneLineOf typedLine
 line-typed n h = rw (whole-line (replicate (2 * n .level) 32 ++ typedBody (n .item)) (shown-line n h)) (plain-typed (n .level) (n .item) h)
 
--- ---- the lines of nodes that fit where they stand are read as these nodes
+-- ---- the lines of nodes whose levels are allowed are read as these nodes
 
 unfoldable PlacedNodes : ScanState → List TypedNode → Type 0
 PlacedNodes z [] = 0 < z .count
@@ -189,7 +189,7 @@ place-zero z d n root allowed shallow few short = go (eqb d 0) refl
     go true e = rest (rw (e, root (eqb-true d 0 e)))
     go false e = rest (rw e)
 
--- after a tree: its nodes and bytes are counted, and the next line may stand at its level
+-- after a tree: its nodes and bytes are counted, and the next line may have its level
 record After (z z′ : ScanState) (d n k : ℕ) : Type 0 where
   count-is : z′ .count ≡ z .count + n
   total-is : z′ .total ≡ z .total + k
@@ -449,7 +449,7 @@ module _ (t : Tree) (short : length (bytesOf t) ≤ 32768) (few : nodes t ≤ 51
       let i = following-of (typeOf t) (typedNodes 0 t) scan-typed in
       omega (arith, feeds-short (typedNodes 0 t) (placed-shallow (typedNodes 0 t) noneYet nodes-placed), i .short, i .few)
 
-  -- Every tree within the limits of 01 can be typed: the reader gives just its bytes, or 8 where the output is too short for them.
+  -- Every tree within the limits of 01 can be typed: the reader gives exactly its bytes, or 8 where the output is too short for them.
   pub round-trip : (o : List ℕ) → typedOf (typeOf t) o ≡ pick (ltb (length o) (length (bytesOf t))) (typedRefusal 8 0 0 o) (typedAccepted (bytesOf t) o)
   round-trip o =
       typed-scan (typeOf t) o text-fits

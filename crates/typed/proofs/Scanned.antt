@@ -262,7 +262,7 @@ module _ (t : List ℕ) (small : length t ≤ 131072) (spots : List NodeSpot) (z
                   ∙ ap (λ (y : ScanState). nodesBefore (R .done ++ (n ∷ [])) (scanFrom (l + 1) y (linesFrom (e + 1) t))) (sym w);
             }
 
-    -- as the code has it, after the store
+    -- in the code's terms, after the store
     pub reading-next : (spots′ : List NodeSpot) (z′ : ScanState) (s : NodeSpot) → spots′ ≡ set spots (z .count) s → s ≡ spotFor r from → z′ ≡ nextLine z r
         → k ≡ 0 → (r .kind ≡ 0 → ⊥) → Reading t spots′ z′ (l + 1) (e + 1)
     reading-next spots′ z′ s a b d good some = rw (a, b, d) (reading-node good some)

@@ -151,7 +151,7 @@ later-of : (t : Text) (l : List ℕ) → laterText t ≡ text l → t ≡ text l
 later-of (wrong k i) l h = let z : _≡_ {A = ℕ} 0 1 = cc in absurd (omega arith)
 later-of (text t) l h = h
 
--- what is left to write, written, makes the whole
+-- what is left to write, once written, makes the whole
 pub record TextLeft (s o₀ o : List ℕ) (at : ℕ) (e : Bool) (p i : ℕ) : Type 0 where
   pub within : i ≤ length s
   pub long : length o ≡ length o₀
@@ -222,7 +222,7 @@ text-left-none s o₀ o at e p i k h t q = go e (text-end e s i h) (k .is)
     go true x y = let z : _≡_ {A = ℕ} 0 1 = cc in absurd (omega arith)
     go false x y = let z : [] ≡ k .left = cc in sym (k .rest t q ∙ ap (λ (u : List ℕ). sets o p u) (sym z))
 
--- ---- where a fault stands, and how long a text is
+-- ---- where a fault is, and how long a text is
 
 -- fault k after i of n bytes: 31 at a byte, 32 at one or at the end
 pub record WrongAt (n k i : ℕ) : Type 0 where

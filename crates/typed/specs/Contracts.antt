@@ -1,4 +1,4 @@
--- What the functions of this crate ask and give, beyond the definitions; no theorem speaks of it.
+-- What the functions of this crate require and ensure, beyond the definitions; no theorem mentions it.
 use mathlib.Core.Path.{_≡_}
 use Prim.Native.Nat.{ℕ, _+_, _*_, _-_, _≤_, _<_, _/_, _%_, suc}
 use mathlib.Core.List.{List, [], _∷_, _++_}
@@ -38,7 +38,7 @@ abbrev pub levelLine : ℕ → ℕ → ℕ → ℕ → ℕ → Line
 levelLine n kind start end len =
     pick (eqb (n % 2) 0) (record { number = 0; column = n + 1; kind = kind; level = n / 2; start = start; end = end; len = len }) (noLine 33 (n + 1))
 
--- the text of the item stands in x from `start` up to `end`
+-- the text of the item is in x from `start` up to `end`
 pub record TextAt (x : List ℕ) (item : Item) (kind start end len : ℕ) : Type 0 where
   pub kind-is : kind ≡ itemTag item
   pub len-is : len ≡ length (ownText item)
@@ -46,7 +46,7 @@ pub record TextAt (x : List ℕ) (item : Item) (kind start end len : ℕ) : Type
   pub within : end ≤ length x
   pub text-is : typedText (take (end - start) (drop start x)) ≡ text (ownText item)
 
--- what the code has of a line
+-- the code's value for a line
 abbrev pub LineTold : List ℕ → OneLine → Line → Type 0
 LineTold x skip l = l ≡ noLine 0 0
 LineTold x (fault k c) l = (0 < k) × (l ≡ noLine k c)
@@ -75,7 +75,7 @@ pub record SmallLine (z : ScanState) (l : Line) : Type 0 where
   pub level : l .level ≤ 131072
   pub len : l .len ≤ 131072
 
--- the spots are the nodes, whose texts stand in the typed list
+-- the spots are the nodes, whose texts are in the typed list
 pub record Spotted (text : List ℕ) (n : TypedNode) (s : NodeSpot) : Type 0 where
   pub level-is : s .level ≡ n .level
   pub text-at : TextAt text (n .item) (s .kind) (s .start) (s .end) (s .len)
@@ -107,7 +107,7 @@ countedByte (Put c) n = record { number = 0; escaped = false; n = n + 1 }
 countedByte Escape n = record { number = 0; escaped = true; n = n }
 countedByte (Wrong k) n = record { number = k; escaped = false; n = n }
 
--- there is room for what the byte puts
+-- what the byte puts fits
 abbrev pub Writes : Byte → ℕ → ℕ → Type 0
 Writes (Put c) at room = at < room
 Writes Escape at room = Unit
@@ -143,7 +143,7 @@ abbrev pub Starts : ℕ → List TypedNode → Type 0
 Starts m [] = Unit
 Starts m (n ∷ ns) = n .level ≤ m
 
--- each node stands where the one before allows
+-- each node has a level that the one before allows
 unfoldable pub Chained : List TypedNode → Type 0
 Chained [] = Unit
 Chained (n ∷ ns) = (n .level < 16) × Starts (levelUnder (n .level) (n .item)) ns × Chained ns

@@ -8,7 +8,7 @@ use Rattle.common.specs.Choice.{pick, both}
 use Rattle.tree.specs.Tree.{Axis, across, down}
 use Rattle.typed.specs.Text.{Text, wrong, text, typedText}
 
--- what a line names: a Cell with its text, or a Row or Column, whose children stand on the lines below
+-- what a line names: a Cell with its text, or a Row or Column, whose children are on the lines below
 pub data Item : Type 0 where
   cell : List ℕ → Item
   group : Axis → Item
@@ -61,8 +61,7 @@ cellAt n start (text t) = levelOf n (cell t)
 abbrev pub cellLine : ℕ → ℕ → List ℕ → OneLine
 cellLine n start x = cellAt n start (typedText (drop start x))
 
--- What stands after n spaces: nothing, or a comment that begins with # (35); `row`; `column`; a Cell, whose text begins after a quote mark (39)
--- if there is one.
+-- What follows n spaces: nothing, or a comment that begins with # (35); `row`; `column`; a Cell, whose text begins after a quote mark (39) if there is one.
 unfoldable pub plainLine : List ℕ → ℕ → List ℕ → OneLine
 plainLine x n [] = skip
 plainLine x n (b ∷ s) =

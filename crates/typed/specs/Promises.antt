@@ -1,4 +1,4 @@
--- The words of the theorems about typed lists.
+-- Definitions used in the statements of the theorems about typed lists.
 use mathlib.Core.Path.{_≡_}
 use mathlib.Core.Logic.{_⊎_}
 use Prim.Native.Nat.{ℕ, _+_, _-_, _≤_, suc, _*_}
@@ -33,7 +33,7 @@ unfoldable mutual
   typedNodes* d none = []
   typedNodes* d (more t ts) = typedNodes d t ++ typedNodes* d ts
 
--- of the typed list `text`, where `out` was lent
+-- for the typed list `text`, where `out` was lent
 pub record TypedTree (text out : List ℕ) (x : Outcome Typed (List ℕ)) : Type 0 where
   pub root : Tree
   -- the list's nodes, with their levels, are those of one tree
@@ -64,7 +64,7 @@ typedLine n = replicate (2 * n .level) 32 ++ typedBody (n .item)
 unfoldable pub typeOf : Tree → List ℕ
 typeOf t = joinLines (map typedLine (typedNodes 0 t))
 
--- its text is read back to its bytes, wherever there is room for them
+-- its text is read back to its bytes, wherever these fit
 abbrev pub TypedBack : List ℕ → Tree → Type 0
 TypedBack bytes t = (out : List ℕ) → length bytes ≤ length out → typedOf (typeOf t) out ≡ typedAccepted bytes out
 
@@ -84,7 +84,7 @@ pub record FaultAt (text : List ℕ) (a : Typed) : Type 0 where
   -- the line is one of the list's
   pub line-low : 1 ≤ a .line
   pub line-high : a .line ≤ length (lines text)
-  -- a byte of the line stands at the column; 32 and 39 may be told one past the line's end
+  -- a byte of the line is at the column; 32 and 39 may be reported one past the line's end
   pub column-low : 1 ≤ a .column
   pub column-high : a .column ≤ length (namedLine text a) + 1
   pub on-byte : (a .number ≡ 32 → ⊥) → (a .number ≡ 39 → ⊥) → a .column ≤ length (namedLine text a)

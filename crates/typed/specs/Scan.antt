@@ -23,8 +23,8 @@ abbrev pub adding : TypedNode → TypedScan → TypedScan
 adding n (stopped k l c) = stopped k l c
 adding n (found ns) = found (n ∷ ns)
 
--- The fault of a node at level d whose own text has n bytes, after the nodes so far; 0 for none. 34: a second root; 35: deeper than the line above
--- allows; 36: over 16 levels; 37: over 512 nodes; 38: over 32,768 bytes.
+-- The fault of a node at level d whose own text has n bytes, after the nodes so far; 0 for none. 34: a second root; 35: deeper than the line above allows; 36:
+-- over 16 levels; 37: over 512 nodes; 38: over 32,768 bytes.
 unfoldable pub placeFault : ScanState → ℕ → ℕ → ℕ
 placeFault z d n =
     pick (both (ltb 0 (z .count)) (eqb d 0)) 34

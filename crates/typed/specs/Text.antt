@@ -13,7 +13,7 @@ unfoldable pub byteOf : Bool → ℕ → Byte
 byteOf true b = pick (eqb b 110) (Put 10) (pick (eqb b 92) (Put 92) (Wrong 32))
 byteOf false b = pick (eqb b 92) Escape (pick (ltb b 32) (Wrong 31) (pick (ltb 126 b) (Wrong 31) (Put b)))
 
--- a text, or the first fault and how many bytes stand before it
+-- a text, or the first fault and how many bytes are before it
 pub data Text : Type 0 where
   wrong : ℕ → ℕ → Text
   text : List ℕ → Text

@@ -17,7 +17,7 @@ abbrev pub parent : Item → Trees → Tree
 parent (cell t) ks = tree.cell t
 parent (group a) ks = tree.group a ks
 
--- The trees that stand at each level, the root's first, after one node more in front: its children are the trees that stood one level below.
+-- The trees at each level, the root's first, with one node more in front: its children are the trees that were one level below.
 unfoldable pub push : ℕ → Item → List Trees → List Trees
 push zero item [] = []
 push zero item (ts ∷ []) = []
@@ -56,4 +56,4 @@ outcomeOf (found ns) out = pick (ltb (length out) (length (bytesOf (rootOf ns)))
 unfoldable pub typedOf : List ℕ → List ℕ → Outcome Typed (List ℕ)
 typedOf text out = pick (ltb 131072 (length text)) (typedRefusal 30 0 0 out) (outcomeOf (scanLines text) out)
 
--- ---- as it is written: element after element
+-- ---- written element after element

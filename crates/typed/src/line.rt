@@ -6,8 +6,8 @@ ghost use lib.ListN.{length, take};
 ghost use Rattle.typed.specs.Line.{spaces, withoutReturn, cellLine, plainOf, oneLineOf};
 ghost use Rattle.typed.specs.Contracts.{wordKind, LineTold, levelLine};
 
-// A line as it was read. A fault: its number and column. Number 0 and kind 0: nothing to read. Number 0 and kind 1 to 3, the tree's tags: a node,
-// with its level, the column where it begins, where its text stands in the line, and how many bytes the text has.
+// A line as it was read. A fault: its number and column. Number 0 and kind 0: nothing to read. Number 0 and kind 1 to 3, the tree's tags: a node, with its
+// level, the column where it begins, where its text is in the line, and how many bytes the text has.
 pub struct Line {
     pub number: u8,
     pub column: usize,

@@ -10,7 +10,7 @@ ghost use lib.ListN.{length, replicate};
 ghost use Rattle.typed.specs.Scan.{placeFault, scanLines};
 ghost use Rattle.typed.specs.Contracts.{SmallLine, lineFault, nextLine, spotFor, noSpot, ScanTold};
 
-// A node: its tag and level, where its text stands, and how many bytes the text has.
+// A node: its tag and level, where its text is, and how many bytes the text has.
 pub struct NodeSpot {
     pub kind: u8,
     pub level: usize,
@@ -19,7 +19,7 @@ pub struct NodeSpot {
     pub len: usize,
 }
 
-// What the nodes so far come to: their number, the deepest level that the next may have, the bytes of their tree.
+// Totals of the nodes so far: their number, the deepest level that the next may have, the bytes of their tree.
 pub struct ScanState {
     pub count: usize,
     pub may: usize,
@@ -72,7 +72,7 @@ fn place(z: ScanState, level: usize, len: usize) -> u8
     0
 }
 
-// The line's own fault, or that of its place; 0 for none.
+// The line's own fault, or that of its node; 0 for none.
 fn fault(z: ScanState, l: Line) -> u8
     requires { ⌜ SmallLine z l ⌝ }
     ensures { λ r. ⌜ r ≡ lineFault z l ⌝ }

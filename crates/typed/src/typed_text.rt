@@ -7,7 +7,7 @@ ghost use lib.Seq.{sets};
 ghost use Rattle.typed.specs.Text.{byteOf, typedText};
 ghost use Rattle.typed.specs.Contracts.{countedByte, Good, checkedText, Writes, writtenOf};
 
-// What one byte does: it puts a byte into the text, or starts an escape, or may not stand there.
+// What one byte does: it puts a byte into the text, or starts an escape, or is not allowed there.
 pub enum Byte {
     Put(u8),
     Escape,
@@ -139,7 +139,7 @@ fn write_byte(escaped: bool, b: u8, out: &mut [u8], at: usize) -> WriteCursor
     }
 }
 
-// A text that was checked goes to `at`.
+// Writes a text that was checked at `at`.
 pub fn write_text(raw: &[u8], out: &mut [u8], at: usize)
     requires { ⌜ Good (now raw) at (length (now out)) ⌝ }
     ensures { λ _. ⌜ ((t : List ℕ) → typedText (now (raw .entry)) ≡ Rattle.typed.specs.Text.Text.text t

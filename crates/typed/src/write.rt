@@ -43,7 +43,7 @@ fn grown(sizes: [usize; 17], level: usize, inside: usize) -> [usize; 17]
     next
 }
 
-// `sizes` has for each level the bytes of the elements there that are written and wait for their parent.
+// `sizes` has for each level the bytes of the elements there that are written and whose parent is not yet.
 pub fn write_spots(text: &[u8], spots: [NodeSpot; 512], count: usize, total: usize, out: &mut [u8])
     requires { ⌜ SomeReady (now text) spots count total (length (now out)) ⌝ }
     ensures { λ _. ⌜ ((ns : List TypedNode) → ReadyNodes (now (text .entry)) spots count total (length (now (out .entry))) ns

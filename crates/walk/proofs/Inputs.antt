@@ -69,9 +69,9 @@ module _ (s : Settings) (t : Tree) (large : tooLarge s t ≡ false) where
     lows = leaves-low stride se;
   }
 
--- ---- as the calls have it: m is what was measured, l the list
+-- ---- in the calls' terms: m is what was measured, l the list
 
--- the input was taken, and the list has the sizes of its tree
+-- the input was accepted, and the list has the sizes of its tree
 pub record Taken (bs ts : List ℕ) (m : Measured) (l : List ℕ) : Type 0 where
   pub tree : Tree
   pub input : inputOf bs ts ≡ given (m .settings) tree

@@ -12,7 +12,7 @@ use crate::typed::TypedFault;
 const FRONT: &[u8] = b"? ";
 
 impl Plan {
-    /// The planning tree of a typed list, which may have ranges: `?`, a space, the least and the greatest width, `x`, the least and the greatest count of lines. A number alone stands for two
+    /// The planning tree of a typed list, which may have ranges: `?`, a space, the least and the greatest width, `x`, the least and the greatest count of lines. A number alone means two
     /// that are equal, and without the count it is one line.
     ///
     /// ```

@@ -54,7 +54,7 @@ impl Settings {
     /// ```
     ///
     /// # Errors
-    /// A name that is unknown or stands there twice, or a value that the setting does not take, with its line and column.
+    /// A name that is unknown or occurs twice, or a value that the setting does not take, with its line and column.
     pub fn from_words(text: impl AsRef<[u8]>) -> Result<Settings, WordFault> {
         Settings::default().with_words(text)
     }
@@ -76,7 +76,7 @@ impl Settings {
         Ok(changed.settings)
     }
 
-    /// These settings but for some, each by its name and its value, which stands in no quote marks.
+    /// These settings but for some, each by its name and its value, without quote marks.
     ///
     /// ```
     /// use leg_sheet::{Alignment, Settings, WordFault};
@@ -106,7 +106,7 @@ impl Settings {
         Ok(changed.settings)
     }
 
-    /// All settings in words, which [`from_words`](Settings::from_words) reads back: a line each, and behind it as a comment what may stand there.
+    /// All settings in words, which [`from_words`](Settings::from_words) reads back: a line each, and behind it as a comment what is allowed there.
     #[must_use]
     pub fn words(&self) -> String {
         let values = |word: &'static Word| Some((word, word.show(self)?));
@@ -182,7 +182,7 @@ fn read_line(changed: &mut Changed, line: &str) -> Result<(), Wrong> {
     changed.put(word, value).map_err(behind(value_at + inside))
 }
 
-/// The value at the front of a text, and where in it: characters between two quote marks, as many as may stand there, or all before a comment.
+/// The value at the front of a text, and where in it: characters between two quote marks, as many as are allowed, or all before a comment.
 fn value_of<'a>(word: &Word, text: &'a str) -> Result<(usize, &'a str), Wrong> {
     let counts = word.quoted();
     if counts.is_empty() || !text.starts_with('\'') {
@@ -202,7 +202,7 @@ fn value_of<'a>(word: &Word, text: &'a str) -> Result<(usize, &'a str), Wrong> {
     })
 }
 
-/// What stands before a `#` that is first, or behind a space.
+/// What is before a `#` that is first, or behind a space.
 fn before_comment(text: &str) -> &str {
     let is_first = |at: usize| at == 0 || text[..at].ends_with(char::is_whitespace);
     let comment = text.match_indices('#').find(|&(at, _)| is_first(at));
@@ -210,7 +210,7 @@ fn before_comment(text: &str) -> &str {
     text[..end].trim_end()
 }
 
-/// So many characters between two quote marks, with no more than a comment behind them. They may be quote marks themselves.
+/// This many characters between two quote marks, with no more than a comment behind them. They may be quote marks themselves.
 fn between_quotes(text: &str, count: usize) -> Option<&str> {
     let inside = text.strip_prefix('\'')?;
     let (end, _) = inside.char_indices().nth(count)?;

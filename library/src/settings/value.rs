@@ -44,7 +44,7 @@ impl Word {
         }
     }
 
-    /// How many characters may stand between quote marks, the most first.
+    /// How many characters are allowed between quote marks, the most first.
     pub(super) fn quoted(&self) -> &'static [usize] {
         match self.kind {
             Kind::Fills(..) => &[4, 1],
@@ -58,7 +58,7 @@ fn quoted(bytes: &[u8]) -> String {
     format!("'{}'", String::from_utf8_lossy(bytes))
 }
 
-/// Four numbers, or one for all sides, parted by commas or spaces.
+/// Four numbers, or one for all sides, separated by commas or spaces.
 fn sizes(set: SetSides, value: &str) -> Result<Sides, Wrong> {
     let mut numbers = Vec::new();
     let mut at = 0;
@@ -71,7 +71,7 @@ fn sizes(set: SetSides, value: &str) -> Result<Sides, Wrong> {
     sides(&numbers).ok_or_else(|| Wrong::new(0, "four numbers, left right top bottom, or one"))
 }
 
-/// A number that may stand on a side.
+/// A number that is allowed for a side.
 fn number(set: SetSides, part: &str) -> Result<u8, String> {
     if !part.bytes().all(|byte| byte.is_ascii_digit()) {
         return Err(format!("'{part}' is no number"));

@@ -1,4 +1,4 @@
-//! The settings by name, and what may stand behind each.
+//! The settings by name, and the values allowed for each.
 
 use super::value::greatest;
 use super::{Alignment, Marks, Priority, Settings, Sides, ASCII};
@@ -131,7 +131,7 @@ impl Word {
         self.name
     }
 
-    /// What may stand behind the name.
+    /// The values allowed behind the name.
     #[must_use]
     pub fn values(&self) -> String {
         match self.kind {

@@ -63,7 +63,7 @@ const ESCAPE: &str = "after a backslash only n or a backslash may stand: type \\
 const TAB: &str = "a tab (U+0009) cannot stand here: type two spaces for a level";
 const REST: &str = "; what stands behind the last one was not looked at";
 
-/// After a character that may not stand there it goes on, and lists those behind it.
+/// After a character that is not allowed it goes on, and lists those behind it.
 #[test]
 fn all_mistakes() {
     listed(

@@ -5,7 +5,7 @@ use std::process::Command;
 
 use crate::{answers, fails, legs, said, Folder, FIGURE_2};
 
-/// Two sheets saved, one of them anew, listed, returned to and forgotten.
+/// Two sheets saved, one of them again, listed, returned to and forgotten.
 #[test]
 fn drafts() {
     let folder = Folder::new("drafts");
@@ -136,7 +136,7 @@ fn stores_that_fail() {
     fails(&["draft", "list", &long], &message, 3);
 }
 
-/// The store's new file grows past what a file may have, in its second block: the system stops the command there, or, where it is told not to, the write fails.
+/// The store's new file grows past what a file may have, in its second block: the system stops the command there, or, where it is set not to, the write fails.
 #[test]
 fn a_save_that_is_cut_leaves_the_store() {
     let folder = Folder::new("cut");

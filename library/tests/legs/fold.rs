@@ -42,7 +42,7 @@ fn fold() {
     assert_eq!(status, Some(0));
 }
 
-/// The folded list, typed: its sheet is the one that was printed, so that its places can be asked for.
+/// The folded list, typed: its sheet is the one that was printed, so that its places can be looked up.
 #[test]
 fn folded_lists() {
     let folder = Folder::new("folded");

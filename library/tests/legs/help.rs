@@ -75,7 +75,7 @@ fn version() {
     }
 }
 
-/// What stands behind two dashes is no option; a dash alone is standard input.
+/// What follows two dashes is no option; a dash alone is standard input.
 #[test]
 fn operands_that_look_like_options() {
     let (_, message, status) = said(&["print", "--", "--help"], b"");

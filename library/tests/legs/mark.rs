@@ -10,7 +10,7 @@ pub fn marks(file: &str, lines: &str) -> (String, String, Option<i32>) {
 const A: &str = "2 4: node 3, line 0, column 4 of its block: a\n";
 const B: &str = "2 5: node 4, line 0, column 0 of its block: b\n";
 
-/// A line and a column, parted by spaces, a tab or a comma; nothing and comments between them; as many as there are.
+/// A line and a column, separated by spaces, a tab or a comma; blank lines and comments between them; as many as there are.
 #[test]
 fn mark() {
     let marked = |lines: &str, answer: String| {
@@ -30,7 +30,7 @@ fn mark() {
     marked(&"2 4\n2 5\n".repeat(1000), [A, B].concat().repeat(1000));
 }
 
-/// What is no place of a leaf is told of that place alone, wherever it stands, and the others are answered.
+/// What is no place of a leaf is reported for that place alone, wherever it is, and the others are answered.
 #[test]
 fn every_place_is_answered() {
     let first = "1 8: node 2, line 0, column 0 of its block: Survey 17, reservoir north bank\n";
@@ -54,7 +54,7 @@ fn every_place_is_answered() {
     );
 }
 
-/// A line that is no place is told of on standard error, with its number, and the others are answered.
+/// A line that is no place is reported on standard error, with its number, and the others are answered.
 #[test]
 fn lines_that_are_no_places() {
     let told = |lines: &str, wrong: &[(usize, &str)]| {

@@ -206,7 +206,7 @@ fn characters_that_cannot_be_printed() {
     at("row\n  C:\\survey", "2:6", escape, "  C:\\survey");
 }
 
-/// Files that are no plain text as a whole. What stands in comments does not matter.
+/// Files that are no plain text as a whole. What is in comments does not matter.
 #[test]
 fn files_that_are_no_lists() {
     let mark = "the file begins with a byte order mark: save it as UTF-8 without BOM";

@@ -5,7 +5,7 @@ use crate::{answers, fails, legs, misused, said, Folder, DEFAULTS};
 /// The option for settings.
 const OPTION: &str = "--settings";
 
-/// They stand in the place of the default ones and of a file's own, and are the front of a file.
+/// They replace the default ones and a file's own, and are the front of a file.
 #[test]
 fn settings_of_another_file() {
     let flight = include_str!("../../../examples/flight.txt");
@@ -177,7 +177,7 @@ fn settings_over_settings() {
     assert_eq!(bytes(&both, &input), record(2, 0));
     let named = ["--spare-width", "all", "bytes", "-", OPTION, &words];
     assert_eq!(bytes(&named, &input), record(1, 2));
-    // Settings that are bad have nothing to stand over, unless all of them are replaced.
+    // Settings that are bad replace nothing, unless all of them are replaced.
     let bad = [&[0x10; 31][..], b"\x01\x00\x01a"].concat();
     let replaced = ["bytes", "-", OPTION, &record_file];
     assert_eq!(bytes(&replaced, &bad), DEFAULTS);

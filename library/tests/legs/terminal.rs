@@ -8,7 +8,7 @@ use std::process::{Command, Stdio};
 
 use crate::Folder;
 
-// The terminals of the C library, which the standard library stands on.
+// The terminals of the C library, which the standard library uses.
 extern "C" {
     fn grantpt(fd: c_int) -> c_int;
     fn unlockpt(fd: c_int) -> c_int;
@@ -19,7 +19,7 @@ extern "C" {
 fn terminal() -> (File, File) {
     let open = |path: &str| OpenOptions::new().read(true).write(true).open(path);
     let fd = open("/dev/ptmx").expect("a terminal").into_raw_fd();
-    // SAFETY: the file is open, and is handed over to no one else; the name is copied before another call could change it. No other test asks for one.
+    // SAFETY: the file is open, and is passed to no one else; the name is copied before another call could change it. No other test opens one.
     let (reader, name) = unsafe {
         assert!(grantpt(fd) == 0 && unlockpt(fd) == 0);
         let name = CStr::from_ptr(ptsname(fd))
@@ -49,7 +49,7 @@ fn on_terminal(words: &[&str]) -> (Vec<u8>, String, Option<i32>) {
     (written, message, output.status.code())
 }
 
-/// Bytes are not written there, unless that is asked for; texts are.
+/// Bytes are not written there, unless that is requested; texts are.
 #[test]
 fn bytes_and_a_terminal() {
     let folder = Folder::new("terminal");

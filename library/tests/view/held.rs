@@ -1,10 +1,10 @@
-//! A page taken apart, and held to the calls.
+//! A page's data, checked against the calls.
 
 use leg_sheet::{Input, LeafPlace, Refusal, Tree};
 
 use crate::json::Json;
 
-/// What stands between two marks, each of them there once.
+/// What is between two marks, each of them there once.
 pub fn between<'a>(page: &'a str, before: &str, after: &str) -> &'a str {
     assert_eq!(page.matches(before).count(), 1, "{before}");
     let (_, rest) = page.split_once(before).expect("the first mark");
@@ -30,7 +30,7 @@ pub fn unescaped(html: &str) -> String {
     })
 }
 
-/// The sheet as it stands in the page, readable without script.
+/// The sheet as it is in the page, readable without script.
 pub fn plain(page: &str) -> String {
     unescaped(between(page, "<pre id=\"sheet\">\n", "</pre>"))
 }
@@ -82,7 +82,7 @@ fn cut(sheet: &str, area: &[i64]) -> String {
     cut.join("\n")
 }
 
-/// Holds all that a page has to the calls. The page asked for many places at once; here each is asked by itself.
+/// Checks all that a page has against the calls. The page looked up many places at once; here each is looked up alone.
 pub fn holds(page: &str, input: Input, title: &str) {
     let data = data(page);
     let sheet = input.print_sheet().expect("a sheet");

@@ -89,7 +89,7 @@ fn value(rest: &mut Rest) -> Json {
     }
 }
 
-/// What stands between commas, as far as the closing mark.
+/// What is between commas, as far as the closing mark.
 fn items<T>(rest: &mut Rest, end: char, item: fn(&mut Rest) -> T) -> Vec<T> {
     let mut items = Vec::new();
     while rest.next_if(|it| it.is_ascii_whitespace()).is_some() {}

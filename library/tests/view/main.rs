@@ -1,4 +1,4 @@
-//! The page of `legs view`, without a browser: its data held to the calls, each place asked by itself; nothing from outside; texts that look like HTML. `view/check` opens it in a browser.
+//! The page of `legs view`, without a browser: its data checked against the calls, each place looked up alone; nothing from outside; texts that look like HTML. `view/check` opens it in a browser.
 
 mod held;
 mod json;

@@ -6,7 +6,7 @@ use std::path::Path;
 use crate::held::data;
 use crate::{fails, run, view, FOLDER};
 
-/// Both sheets stand in the page of a key and its paper, the key's first; the option may stand before the key, and the settings are those of both.
+/// Both sheets are in the page of a key and its paper, the key's first; the option may come before the key, and the settings are those of both.
 #[test]
 fn key_and_paper() {
     let page = view(&["key.legs", "--paper", "paper.legs"], b"");

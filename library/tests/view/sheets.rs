@@ -1,4 +1,4 @@
-//! The data of many pages, held to the calls.
+//! The data of many pages, checked against the calls.
 
 use std::fs;
 use std::path::Path;
@@ -110,7 +110,7 @@ fn rest(data: &Json, leaf: &Json) -> usize {
     1
 }
 
-/// Without lines and padding an empty Cell has no place, and its sheet may have no column, or nothing but feeds.
+/// Without lines and padding an empty Cell has no place, and its sheet may have no column, or nothing but line feeds.
 #[test]
 fn sheets_without_places() {
     let bare = Settings::default()

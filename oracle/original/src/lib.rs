@@ -1,5 +1,5 @@
 //! The original as it is: `table_pool.rs` and what it needs from docs/src, by path, with our stand-ins for the rest.
-//! The library is called `tabled`, so that the examples inside `table_pool.rs` run as they stand: `cargo test --doc -p original table_pool`.
+//! The library is called `tabled`, so that the examples inside `table_pool.rs` run unchanged: `cargo test --doc -p original table_pool`.
 
 extern crate self as papergrid;
 

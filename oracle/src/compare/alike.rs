@@ -46,7 +46,7 @@ pub const PARTS: [Part; 8] = [
 /// The calls of one series.
 const CALLS: usize = 30;
 
-/// What was printed, with 0 in the place of each of the texts' own bytes; none where these are others than the texts'.
+/// What was printed, with 0 instead of each of the texts' own bytes; none where these are others than the texts'.
 fn without_own(printed: &[u8], own: &[Own]) -> Option<Vec<u8>> {
     let lines = printed.split(|&byte| byte == 0x0A);
     let mut lines: Vec<Vec<u8>> = lines.map(<[u8]>::to_vec).collect();
@@ -289,7 +289,7 @@ impl Comparison<'_> {
         self.alike_blank(rng, alike)
     }
 
-    /// Every tree of up to so many nodes with a few texts, under each of the settings, and one that is alike.
+    /// Every tree of up to this many nodes with a few texts, under each of the settings, and one that is alike.
     pub fn small_alike(
         &mut self,
         rng: &mut Rng,
@@ -305,7 +305,7 @@ impl Comparison<'_> {
         Ok(())
     }
 
-    /// So many random ones, of every kind.
+    /// This many random ones, of every kind.
     pub fn alike(&mut self, rng: &mut Rng, rounds: usize) -> Result<(), Difference> {
         for _ in 0..rounds {
             let alike = alike::any_alike(rng);
@@ -314,7 +314,7 @@ impl Comparison<'_> {
         Ok(())
     }
 
-    /// So many on each side of each limit, −2 to 2 from it.
+    /// This many on each side of each limit, −2 to 2 from it.
     pub fn near_alike(&mut self, rng: &mut Rng, rounds: usize) -> Result<(), Difference> {
         for limit in gen::LIMITS {
             for offset in -2..=2 {
@@ -346,7 +346,7 @@ impl Comparison<'_> {
         )
     }
 
-    /// A return to a draft of both, with so many bytes lent.
+    /// A return to a draft of both, with this many bytes lent.
     fn returned(
         &mut self,
         stores: &[Vec<u8>; 2],
@@ -392,7 +392,7 @@ impl Comparison<'_> {
         }
     }
 
-    /// So many series of calls on two stores, each from zero bytes, the trees alike step by step.
+    /// This many series of calls on two stores, each from zero bytes, the trees alike step by step.
     pub fn alike_series(&mut self, rng: &mut Rng, rounds: usize) -> Result<(), Difference> {
         for _ in 0..rounds {
             let length = stores::length(rng);
@@ -404,7 +404,7 @@ impl Comparison<'_> {
         Ok(())
     }
 
-    /// So many stores whose drafts are alike, of the form and with the same fault: a save, a forgetting and a return.
+    /// This many stores whose drafts are alike, of the right form and with the same fault: a save, a forgetting and a return.
     pub fn alike_stores(&mut self, rng: &mut Rng, rounds: usize) -> Result<(), Difference> {
         for _ in 0..rounds {
             let stores = alike::stores(rng);

@@ -1,4 +1,4 @@
-//! What bytes ask for, as a fuzzer makes them. The first byte says which calls are made; the others are the input, behind a few that choose names, numbers and lengths,
+//! The calls that bytes from a fuzzer make. The first byte says which calls are made; the others are the input, behind a few that choose names, numbers and lengths,
 //! or they are the choices by which a generator makes it.
 
 use super::{Comparison, Difference};

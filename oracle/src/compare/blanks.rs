@@ -18,7 +18,7 @@ pub const PARTS: [Part; 3] = [
 ];
 
 impl Comparison<'_> {
-    /// The tree with these texts blanked, with so many bytes lent.
+    /// The tree with these texts blanked, with this many bytes lent.
     fn blank(&mut self, tree: &[u8], nodes: &[u16], length: usize) -> Result<(), Difference> {
         self.call(
             "blank",
@@ -53,7 +53,7 @@ impl Comparison<'_> {
         self.every_length(&tree, &[&back[..], &[nodes], &back].concat())
     }
 
-    /// Every tree of up to so many nodes with a few texts.
+    /// Every tree of up to this many nodes with a few texts.
     pub fn small_blanks(&mut self, nodes: usize) -> Result<(), Difference> {
         for tree in small_trees(nodes) {
             self.every_blank(&tree)?;
@@ -61,7 +61,7 @@ impl Comparison<'_> {
         Ok(())
     }
 
-    /// The greatest trees, then so many random ones, each with a few lists of numbers.
+    /// The greatest trees, then this many random ones, each with a few lists of numbers.
     pub fn blanks(&mut self, rng: &mut Rng, rounds: usize) -> Result<(), Difference> {
         let great = alike::great_trees().into_iter();
         let random = (0..rounds).map(|_| gen::table(rng, gen::Margins::None).1);
@@ -76,7 +76,7 @@ impl Comparison<'_> {
         Ok(())
     }
 
-    /// Every byte as a text; elements with several faults, where a number names no Cell and no byte is lent; then so many trees of any kind, damaged bytes among them.
+    /// Every byte as a text; elements with several faults, where a number names no Cell and no byte is lent; then this many trees of any kind, damaged bytes among them.
     pub fn any_blanks(&mut self, rng: &mut Rng, rounds: usize) -> Result<(), Difference> {
         for byte in 0..=255 {
             self.every_length(&encode_element(1, &[byte; 2]), &[])?;

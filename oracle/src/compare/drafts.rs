@@ -52,7 +52,7 @@ impl Comparison<'_> {
         )
     }
 
-    /// Returns to a draft, with so many bytes lent. Answers the number and the bytes copied.
+    /// Returns to a draft, with this many bytes lent. Answers the number and the bytes copied.
     fn return_to(
         &mut self,
         store: &[u8],
@@ -72,7 +72,7 @@ impl Comparison<'_> {
         Ok((number, output))
     }
 
-    /// Returns with three bytes more than the draft has, as many, one less, and none. A name without a draft is asked as if it had a byte.
+    /// Returns with three bytes more than the draft has, as many, one less, and none. A name without a draft is treated as if it had a draft of one byte.
     fn every_return(&mut self, store: &[u8], name: u8) -> Result<(), Difference> {
         let needed = drafting::returned(store, name, usize::MAX).map_or(1, |tree| tree.len());
         for length in [needed + 3, needed, needed.saturating_sub(1), 0] {
@@ -98,7 +98,7 @@ impl Comparison<'_> {
         Ok(())
     }
 
-    /// Every store of up to so many bytes over a few that look like fields, and every row of up to so many fields; some names, and trees that fit, that have no room and
+    /// Every store of up to this many bytes over a few that look like fields, and every row of up to this many fields; some names, and trees that fit, that do not fit and
     /// that are refused. Then every byte as a name.
     pub fn small_stores(&mut self, most: usize, fields: usize) -> Result<(), Difference> {
         let trees: [&[u8]; 3] = [b"", b"\x02\x00\x00", b"\x01\x00\x03abc"];
@@ -113,7 +113,7 @@ impl Comparison<'_> {
         Ok(())
     }
 
-    /// The greatest stores, then so many series of calls, each from a store of zero bytes.
+    /// The greatest stores, then this many series of calls, each from a store of zero bytes.
     pub fn series(&mut self, rng: &mut Rng, rounds: usize) -> Result<(), Difference> {
         for (store, name, tree) in stores::great_stores() {
             let (_, store) = self.save(&store, name, &tree)?;
@@ -160,7 +160,7 @@ impl Comparison<'_> {
         Ok(())
     }
 
-    /// So many stores, of the form and damaged: random names, trees and lengths. In a store of the form also trees with a fault in every turn, where there is room and
+    /// This many stores, of the right form and damaged: random names, trees and lengths. In a store of the right form also trees with a fault in every turn, where there is room and
     /// where there is none.
     pub fn any_stores(&mut self, rng: &mut Rng, rounds: usize) -> Result<(), Difference> {
         for tree in gen::faults().into_iter().chain(gen::long_trees()) {

@@ -26,7 +26,7 @@ fn needed(list: &[u8]) -> usize {
 }
 
 impl Comparison<'_> {
-    /// A list read, with so many bytes lent. Answers the bytes of its tree.
+    /// A list read, with this many bytes lent. Answers the bytes of its tree.
     fn typed(&mut self, list: &[u8], length: usize) -> Result<Vec<u8>, Difference> {
         let (_, (answer, mut output)) = self.agreed(
             "typed",
@@ -57,7 +57,7 @@ impl Comparison<'_> {
         self.typed(list, needed - 1).map(|_| ())
     }
 
-    /// All lists of up to so many bytes and of up to so many lines, over a few; every byte in places of every kind.
+    /// All lists of up to this many bytes and of up to this many lines, over a few; every byte in places of every kind.
     pub fn short_typed(&mut self, most: u32, lines: u32) -> Result<(), Difference> {
         let short = typed::short_lists(most).chain(typed::few_lines(lines));
         for list in short.chain(typed::every_byte()) {
@@ -95,7 +95,7 @@ impl Comparison<'_> {
         Ok(())
     }
 
-    /// Every tree of up to 4 nodes with a few texts, the greatest ones, and so many random ones: typed in four ways each.
+    /// Every tree of up to 4 nodes with a few texts, the greatest ones, and this many random ones: typed in four ways each.
     pub fn typed_trees(&mut self, rng: &mut Rng, rounds: usize) -> Result<(), Difference> {
         for tree in small_trees(4).chain(long::great_trees()) {
             self.every_way(rng, &tree)?;
@@ -107,7 +107,7 @@ impl Comparison<'_> {
         Ok(())
     }
 
-    /// So many lists of any kind, most of them damaged, each with two lengths around that of its tree.
+    /// This many lists of any kind, most of them damaged, each with two lengths around that of its tree.
     pub fn any_typed(&mut self, rng: &mut Rng, rounds: usize) -> Result<(), Difference> {
         for _ in 0..rounds {
             let list = typed::any_list(rng);
@@ -125,7 +125,7 @@ impl Comparison<'_> {
         Ok(())
     }
 
-    /// Lists on both sides of each limit; then so many random ones, −2 to 2 from it, half of them damaged.
+    /// Lists on both sides of each limit; then this many random ones, −2 to 2 from it, half of them damaged.
     pub fn typed_limits(&mut self, rng: &mut Rng, rounds: usize) -> Result<(), Difference> {
         for list in long::limits() {
             self.two_rooms(&list)?;

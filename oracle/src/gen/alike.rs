@@ -10,7 +10,7 @@ use crate::form::{encode_plan, encode_settings, encode_tree, Plan, Range, Settin
 use crate::judge;
 use crate::widening;
 
-/// Settings, and two trees that are alike: a key, and another in its place.
+/// Settings, and two trees that are alike: a key, and another instead of it.
 #[derive(Debug, Clone, PartialEq, Eq)]
 pub struct Alike {
     pub settings: Vec<u8>,
@@ -22,7 +22,7 @@ fn plan_of(tree: &Tree) -> Plan {
     Plan::of(tree, &mut |text| Plan::Cell(text.to_vec()))
 }
 
-/// Other bytes in the place of a text's: dots, blanks, bytes that look like marks, or any. Line feeds stay.
+/// Other bytes instead of a text's: dots, blanks, bytes that look like marks, or any. Line feeds stay.
 fn rewrite(rng: &mut Rng, text: &mut [u8], kind: usize, one_in: usize) {
     for byte in text.iter_mut().filter(|byte| **byte != 0x0A) {
         if rng.one_in(one_in) {
@@ -63,7 +63,7 @@ pub fn alike_trees(rng: &mut Rng, settings: &Settings, tree: &Tree) -> Alike {
     alike(rng, settings, &plan_of(tree))
 }
 
-/// The same of a tree that stands exactly so far from a limit.
+/// The same for a tree that is exactly this far from a limit.
 pub fn near_alike(rng: &mut Rng, limit: Limit, offset: isize) -> Alike {
     let (settings, tree) = near(rng, Margins::Half, limit, offset);
     alike_trees(rng, &settings, &tree)
@@ -145,7 +145,7 @@ pub fn drafted(rng: &mut Rng) -> [Vec<u8>; 2] {
 pub enum Call {
     Save(u8, [Vec<u8>; 2]),
     Forget(u8),
-    /// With so many bytes lent.
+    /// With this many bytes lent.
     Return(u8, usize),
 }
 
@@ -159,7 +159,7 @@ pub fn call(rng: &mut Rng) -> Call {
     }
 }
 
-/// The same fault in both stores, which have such drafts and so many zero bytes behind them: another tag, a name twice, a zero byte before a field, a byte behind the zeros, an
+/// The same fault in both stores, which have such drafts and this many zero bytes behind them: another tag, a name twice, a zero byte before a field, a byte behind the zeros, an
 /// end too early.
 fn spoil(rng: &mut Rng, drafts: &[Draft], zeros: usize, stores: &mut [Vec<u8>; 2]) {
     let used = taken(drafts);
@@ -178,7 +178,7 @@ fn spoil(rng: &mut Rng, drafts: &[Draft], zeros: usize, stores: &mut [Vec<u8>; 2
     }
 }
 
-/// Two stores whose drafts are alike, mostly of the form. Bytes that are no tree are the same in both.
+/// Two stores whose drafts are alike, mostly of the right form. Bytes that are no tree are the same in both.
 pub fn stores(rng: &mut Rng) -> [Vec<u8>; 2] {
     let drafts = drafts(rng);
     let zeros = rng.pick(&[0, 0, 1, 3, 6, 9, 40]);

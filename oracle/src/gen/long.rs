@@ -8,13 +8,13 @@ use crate::form::Tree;
 use crate::judge;
 use crate::typing::LIST_BYTES;
 
-/// A tree so far from a limit, typed in any way.
+/// A tree this far from a limit, typed in any way.
 pub fn near_list(rng: &mut Rng, limit: Limit, offset: isize) -> Vec<u8> {
     let (_, tree) = near(rng, Margins::None, limit, offset);
     typed(rng, &tree)
 }
 
-/// A list whose bytes are so far from the most that it may have, by a comment before it or behind it.
+/// A list whose bytes are this far from the most that it may have, by a comment before it or behind it.
 pub fn long_list(rng: &mut Rng, offset: isize) -> Vec<u8> {
     let tree = tree(rng);
     let list = typed(rng, &tree);
@@ -27,7 +27,7 @@ pub fn long_list(rng: &mut Rng, offset: isize) -> Vec<u8> {
     [&list, &b"\n#"[..], &comment].concat()
 }
 
-/// So many lines of `row`, each a level deeper, without a last line feed.
+/// This many lines of `row`, each a level deeper, without a last line feed.
 fn chain(rows: usize) -> Vec<u8> {
     let rows: Vec<Vec<u8>> = (0..rows).map(|level| indented(level, "row")).collect();
     rows.join(&0x0A)
@@ -77,7 +77,7 @@ fn nodes() -> Vec<Vec<u8>> {
     lists
 }
 
-/// Lists around 32,768 tree bytes: a Cell alone, of letters and of what a backslash stands before; then lines behind a Row and a Cell.
+/// Lists around 32,768 tree bytes: a Cell alone, of letters and of what needs a backslash; then lines behind a Row and a Cell.
 fn bytes() -> Vec<Vec<u8>> {
     let mut lists = Vec::new();
     for typed in ["x", "\\n", "\\\\", "'"] {

@@ -18,7 +18,7 @@ pub fn name(rng: &mut Rng) -> u8 {
     rng.pick(&NAMES)
 }
 
-/// All stores of up to so many bytes, over a few that look like fields.
+/// All stores of up to this many bytes, over a few that look like fields.
 pub fn short_stores(most: usize) -> impl Iterator<Item = Vec<u8>> {
     const FEW: [u8; 8] = [0x00, 0x01, 0x02, 0x1F, 0x20, 0x21, 0x27, 0x28];
     (0..=most).flat_map(|length| {
@@ -28,7 +28,7 @@ pub fn short_stores(most: usize) -> impl Iterator<Item = Vec<u8>> {
     })
 }
 
-/// All rows of up to so many fields out of a few, some of them not of the form, each with every end: none, zero bytes, beginnings of a field, a byte past the zeros.
+/// All rows of up to this many fields out of a few, some of them not of the right form, each with every end: none, zero bytes, beginnings of a field, a byte past the zeros.
 pub fn rows(most: usize) -> impl Iterator<Item = Vec<u8>> {
     const FIELDS: [&[u8]; 8] = [
         b"\x20\x00\x00",
@@ -90,7 +90,7 @@ pub fn tree_bytes(rng: &mut Rng) -> Vec<u8> {
     }
 }
 
-/// What a field of the form may hold: a tree, or any bytes, or none.
+/// What a field of the right form may hold: a tree, or any bytes, or none.
 fn contents(rng: &mut Rng) -> Vec<u8> {
     match rng.below(8) {
         0 => Vec::new(),
@@ -119,7 +119,7 @@ pub fn taken(drafts: &[Draft]) -> usize {
     drafts.iter().map(|draft| FRONT + draft.tree.len()).sum()
 }
 
-/// A store of the form, full or with zero bytes at its end.
+/// A store of the right form, full or with zero bytes at its end.
 pub fn store(rng: &mut Rng) -> Vec<u8> {
     let drafts = drafts(rng);
     let zeros = rng.pick(&[0, 0, 1, 2, 3, 5, 6, 7, 20, 400]);
@@ -149,7 +149,7 @@ pub fn damaged_store(rng: &mut Rng) -> Vec<u8> {
     store
 }
 
-/// A store of the form, or damaged.
+/// A store of the right form, or damaged.
 pub fn any_store(rng: &mut Rng) -> Vec<u8> {
     match rng.below(3) {
         0 => store(rng),
@@ -157,13 +157,13 @@ pub fn any_store(rng: &mut Rng) -> Vec<u8> {
     }
 }
 
-/// A tree of exactly so many bytes: a Cell.
+/// A tree of exactly this many bytes: a Cell.
 fn tree_of(bytes: usize) -> Vec<u8> {
     encode_tree(&Tree::Cell(vec![b'w'; bytes - FRONT]))
 }
 
 /// The greatest fields: a store of drafts, a name, and a tree to save under it. Drafts of the most bytes that a tree has, and of the most that a length has; the tree
-/// just fits, fits in the place of its older draft, has no room by a byte, or is refused.
+/// just fits, fits instead of its older draft, is a byte too long, or is refused.
 pub fn great_stores() -> Vec<(Vec<u8>, u8, Vec<u8>)> {
     let longest = tree_of(judge::TREE_BYTES);
     let field = FRONT + longest.len();

@@ -5,7 +5,7 @@ use crate::form::Tree;
 use crate::judge;
 use crate::typing::lines_of;
 
-/// Everything of up to so many parts out of a few.
+/// Everything of up to this many parts out of a few.
 fn all<T: Copy>(few: &[T], most: u32) -> impl Iterator<Item = Vec<T>> + '_ {
     (0..=most).flat_map(move |length| {
         let digit = move |number: usize, at: u32| number / few.len().pow(at) % few.len();
@@ -14,12 +14,12 @@ fn all<T: Copy>(few: &[T], most: u32) -> impl Iterator<Item = Vec<T>> + '_ {
     })
 }
 
-/// All lists of up to so many bytes, over those that mean something.
+/// All lists of up to this many bytes, over those that mean something.
 pub fn short_lists(most: u32) -> impl Iterator<Item = Vec<u8>> {
     all(b" a'#\\n\n\r\t", most)
 }
 
-/// All lists of up to so many lines out of a few, some of them with a fault, the last with a line feed and without.
+/// All lists of up to this many lines out of a few, some of them with a fault, the last with a line feed and without.
 pub fn few_lines(most: u32) -> impl Iterator<Item = Vec<u8>> {
     const LINES: [&str; 14] = [
         "",
@@ -125,12 +125,12 @@ pub fn tree(rng: &mut Rng) -> Tree {
     with_texts(rng, &tree)
 }
 
-/// Now and then: once in so many, or never where that is 0.
+/// Now and then: once in this many, or never where that is 0.
 fn at_times(rng: &mut Rng, once_in: usize) -> bool {
     once_in > 0 && rng.one_in(once_in)
 }
 
-/// A byte, mostly one that means something or stands beside those that may stand in a text.
+/// A byte, mostly one that has a meaning or is next to those allowed in a text.
 fn any_byte(rng: &mut Rng) -> u8 {
     if rng.one_in(16) {
         return rng.byte();
@@ -197,7 +197,7 @@ fn move_lines(rng: &mut Rng, list: &[u8]) -> Vec<u8> {
     lines.join(&0x0A)
 }
 
-/// A byte changed, taken out or put in, an end too early, some bytes in the place of others, or lines moved.
+/// A byte changed, taken out or put in, an end too early, some bytes instead of others, or lines moved.
 fn damage(rng: &mut Rng, list: &mut Vec<u8>) {
     let (at, byte) = (rng.between(0, list.len()), any_byte(rng));
     let end = rng.between(at, list.len().min(at + 9));

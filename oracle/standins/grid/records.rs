@@ -1,6 +1,6 @@
 //! Stand-in for `grid::records`. It assumes nothing about printing: `PoolTable::new` walks rows and cells in order, `Text` keeps its text.
 
-/// `PoolTable::with` hands it to an option, which never looks at it.
+/// `PoolTable::with` passes it to an option, which never looks at it.
 #[derive(Debug, Clone, Copy, Default)]
 pub struct EmptyRecords {
     _none: (),

@@ -12,7 +12,7 @@ pub const LAST: u8 = 174;
 fn dotted(fault: u8, text: &[u8]) -> Vec<u8> {
     let first = text.iter().position(|&byte| byte == 0x0A);
     let byte = |(at, &byte): (usize, &u8)| match byte {
-        // Feeds, too; blanks left; all behind the first feed left; some letters left.
+        // Line feeds, too; blanks left; all behind the first line feed left; some letters left.
         0x0A if fault != 157 => byte,
         b' ' if fault == 158 => byte,
         _ if fault == 159 && first.is_some_and(|feed| feed < at) => byte,

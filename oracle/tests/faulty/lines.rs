@@ -11,7 +11,7 @@ pub fn is_bare(settings: &[u8]) -> bool {
     settings.get(3..18) == Some(&[0; 15])
 }
 
-/// The settings as a call sees them that counts separators and edges: fifteen spaces in the place of fifteen zeros. `call` is the fault about this call.
+/// The settings as a call sees them that counts separators and edges: fifteen spaces instead of fifteen zeros. `call` is the fault about this call.
 pub fn seen(fault: u8, call: u8, settings: &[u8]) -> Vec<u8> {
     let mut settings = settings.to_vec();
     if fault == call && is_bare(&settings) {
@@ -66,7 +66,7 @@ pub fn block(fault: u8, settings: &[u8], tree: &[u8], node: usize) -> Option<Vec
     let found = leaf(answer, node)?;
     let lines = found.block.split(|&byte| byte == 0x0A);
     Some(match fault {
-        // A top line; a column for the left marks; no feeds in a leaf of no columns; the crate's extra blank.
+        // A top line; a column for the left marks; no line feeds in a leaf of no columns; the crate's extra blank.
         147 => [&vec![b' '; found.width][..], &found.block].join(&0x0A),
         148 => {
             let marked: Vec<Vec<u8>> = lines.map(|line| [b" ", line].concat()).collect();
@@ -89,7 +89,7 @@ pub fn sheet(fault: u8, settings: &[u8], tree: &[u8]) -> Option<Vec<u8>> {
         ..read.settings
     };
     Some(match fault {
-        // No feeds in a sheet of no columns; no margin around one.
+        // No line feeds in a sheet of no columns; no margin around one.
         151 if !answer.sheet.iter().any(|&byte| byte != 0x0A) => Vec::new(),
         152 if read.sizes[0].natural_width == 0 => paper::answer(&without, &read.tree).sheet,
         _ => answer.sheet,

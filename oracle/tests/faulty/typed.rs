@@ -23,7 +23,7 @@ fn without_end(fault: u8, line: &[u8]) -> &[u8] {
     }
 }
 
-/// Whether a line is skipped that has this behind so many spaces.
+/// Whether a line is skipped that has this behind this many spaces.
 fn is_skipped(fault: u8, spaces: usize, typed: &[u8]) -> bool {
     match typed {
         // A blank line as an empty Cell where it has spaces; indented comments as texts; comments with a forbidden byte as texts; the mark alone skipped.
@@ -35,7 +35,7 @@ fn is_skipped(fault: u8, spaces: usize, typed: &[u8]) -> bool {
     }
 }
 
-/// Whether a byte may stand in a text.
+/// Whether a byte is allowed in a text.
 fn may_stand(fault: u8, byte: u8) -> bool {
     match byte {
         // A tab taken; all control bytes; hex 7F; accents; the greatest refused.
@@ -48,11 +48,11 @@ fn may_stand(fault: u8, byte: u8) -> bool {
     }
 }
 
-/// What is wrong with the backslash at this place, with this byte behind it, and the column where it is told.
+/// What is wrong with the backslash at this place, with this byte behind it, and the column where it is reported.
 fn bad_escape(fault: u8, at: usize, next: Option<u8>) -> Option<(u8, usize)> {
     match next {
         Some(b'n' | b'\\') => None,
-        // An escape passed through; a backslash at the line's end passed through; told at the backslash; 31 where that byte may stand in no text.
+        // An escape passed through; a backslash at the line's end passed through; reported at the backslash; 31 where no text may have that byte.
         Some(_) if fault == 187 => None,
         None if fault == 188 => None,
         _ if fault == 189 => Some((32, at + 1)),
@@ -71,7 +71,7 @@ fn bad_byte(fault: u8, line: &[u8]) -> Option<(u8, usize)> {
         }
         if byte == b'\\' {
             let bad = bad_escape(fault, at, line.get(at + 1).copied());
-            // 31 before 32 wherever they stand.
+            // 31 before 32 wherever they are.
             if bad.is_some() && fault != 191 {
                 return bad;
             }
@@ -173,13 +173,13 @@ impl Reading {
         self.nodes += 1;
     }
 
-    /// A node where it may stand, or 34 to 38.
+    /// A node where it is allowed, or 34 to 38.
     fn add(&mut self, level: usize, tag: u8, text: &[u8]) -> Result<(), u8> {
         let fault = self.fault;
         let level = self.taken(level);
         if level == 0 && self.nodes > 0 {
             match fault {
-                // The second root dropped; in the place of the first.
+                // The second root dropped; taken instead of the first.
                 205 => return Ok(()),
                 206 => (self.nodes, self.tree, self.starts) = (0, Vec::new(), Vec::new()),
                 _ => {}
@@ -216,7 +216,7 @@ impl Reading {
         if is_skipped(fault, spaces, typed) {
             return Ok(());
         }
-        // Told at the line's first byte; 33 before 31.
+        // Reported at the line's first byte; 33 before 31.
         let column = if fault == 217 { 1 } else { spaces + 1 };
         if fault == 218 && spaces % 2 == 1 {
             return Err((33, column));
@@ -241,7 +241,7 @@ impl Reading {
     fn lines(&mut self, list: &[u8]) -> Result<(), (u8, usize, usize)> {
         let fault = self.fault;
         let mut lines: Vec<&[u8]> = list.split(|&byte| byte == 0x0A).collect();
-        // A last line without a line feed left out; the last of the faults told.
+        // A last line without a line feed left out; the last of the faults reported.
         if fault == 222 && lines.last() != Some(&&b""[..]) {
             lines.pop();
         }
@@ -268,7 +268,7 @@ impl Reading {
     }
 }
 
-/// The number with the place as it is told.
+/// The number with the place as it is reported.
 fn told(fault: u8, (number, line, column): (u8, usize, usize)) -> Typed {
     let (line, column) = match fault {
         // Columns, or lines, from 0; of 16 bits; no place of 39.
@@ -287,7 +287,7 @@ fn told(fault: u8, (number, line, column): (u8, usize, usize)) -> Typed {
     }
 }
 
-/// What is answered in the place of a tree.
+/// What is answered instead of a tree.
 fn short(fault: u8, number: u8) -> Typed {
     // 8 and 30 with a place.
     let place = usize::from(fault == 231);

@@ -2,7 +2,7 @@
 
 use std::cell::RefCell;
 
-/// The cut that a Row or a Column is about to make for a child: what it hands to `short_splits3`.
+/// The cut that a Row or a Column is about to make for a child: what it passes to `short_splits3`.
 #[derive(Debug, Clone)]
 pub struct Cut {
     /// The child's.

@@ -7,7 +7,7 @@ use Rattle.drafts.proofs.OpenedStore.{Openable, refused-return, opened-
 use Rattle.drafts.proofs.return_draft.Statement.{statement}
 use Rattle.drafts.proofs.return_draft.Tie as tie
 
--- the store that was opened, and where the draft lies in it
+-- the store that was opened, and where the draft is in it
 ready-at : (c : tie.Else1) → let a = c .before .before .before .before .args in Openable (a .store .now) (a .name) (c .before .open-store .result)
 ready-at c = opened-ready _ _ _ (c .before .open-store .ensures) (c .if1 .left)
 

@@ -1,5 +1,5 @@
 use borrow.Author.Needs.{needs}
--- The loop's invariant: the bytes are allowed where those met are and those left are.
+-- The loop's invariant: the bytes are allowed where those tested are and those left are.
 use mathlib.Core.Path.{_≡_, refl, sym, _∙_}
 use Prim.Native.Nat.{ℕ, suc, _+_, _<_, _≤_, _-_}
 use mathlib.Core.List.{List}

@@ -39,7 +39,7 @@ impl Fault {
         }
     }
 
-    /// Whether there is no one to tell it to: who read the answer has gone.
+    /// Whether it is not worth reporting: the reader of the output has ended.
     pub fn is_silent(&self) -> bool {
         matches!(self, Fault::Failed(_, error) if error.kind() == ErrorKind::BrokenPipe)
     }

@@ -21,12 +21,12 @@ pub struct File {
 }
 
 impl File {
-    /// Reads a file. A typed list has the default settings; others stand over those of either.
+    /// Reads a file. A typed list has the default settings; others replace those of either.
     pub fn read(path: &OsStr, over: &Over) -> Result<File, Fault> {
         File::of(Source::read(path)?, over)
     }
 
-    /// The file of what was read. Of a typed list warnings are told.
+    /// The file of what was read. Warnings about a typed list are printed.
     pub fn of(source: Source, over: &Over) -> Result<File, Fault> {
         let (own, tree) = if source.is_text() {
             (Settings::default().to_bytes(), typed(&source)?)

@@ -17,7 +17,7 @@ pub struct Given {
 }
 
 impl Given {
-    /// The operands and the options. What stands behind `--` is no option, nor is `-`, nor a number.
+    /// The operands and the options. What follows `--` is no option, nor is `-`, nor a number.
     pub fn split(words: &[OsString]) -> Result<Given, Fault> {
         let (mut operands, mut options) = (Vec::new(), Vec::new());
         let mut words = words.iter().cloned();
@@ -53,7 +53,7 @@ impl Given {
         self.options.iter().any(|(given, _)| given == name)
     }
 
-    /// The words that help is asked for, where it is: `help` and some words, or an option and the command that it stands behind.
+    /// The words for which help is requested, where it is: `help` and some words, or an option and the command before it.
     pub fn asks_for_help(&self) -> Option<&[OsString]> {
         match &self.operands[..] {
             [first, words @ ..] if first == "help" => Some(words),
@@ -109,7 +109,7 @@ fn option(word: &OsStr) -> Option<&str> {
     (!behind.is_empty() && !is_number).then_some(word)
 }
 
-/// An option and its value, which stands behind a `=`, or is the next word.
+/// An option and its value, which follows a `=`, or is the next word.
 fn with_value(
     word: &str,
     next: &mut impl Iterator<Item = OsString>,

@@ -8,7 +8,7 @@ use crate::commands::{find, named, Command, COMMANDS};
 use crate::fault::Fault;
 use crate::options::{Opt, NO_LINES, SETTINGS};
 
-/// What is said of the command that these words begin with, or of those that begin with these words; where there are none, of all.
+/// The help for the command that these words begin with, or for those that begin with these words; where there are none, for all.
 pub fn help(words: &[OsString]) -> Result<String, Fault> {
     if words.is_empty() {
         return Ok(all());
@@ -25,7 +25,7 @@ pub fn version() -> String {
     format!("legs {}\n", env!("CARGO_PKG_VERSION"))
 }
 
-/// What is said of all commands.
+/// The help for all commands.
 pub fn all() -> String {
     let line = |command: &Command| format!("  {:<38}{}\n", command.usage(), command.about);
     let commands: String = COMMANDS.iter().map(line).collect();
@@ -34,7 +34,7 @@ pub fn all() -> String {
     format!("{about}\n\n{commands}\n{more}\n\n{LISTS}\n{REST}")
 }
 
-/// What is said of one command: its words, what it does, its options.
+/// The help for one command: its words, what it does, its options.
 pub fn of_command(command: &Command) -> String {
     let mut text = format!("{}\n  {}\n", command.usage(), command.about);
     text.extend(command.options.iter().map(option));

@@ -3,7 +3,7 @@
 use leg_sheet::calls::{HEIGHT, WIDTH};
 use leg_sheet::{Input, Refusal};
 
-/// Why a sheet is refused with 6: how large it would be, as the planning call says it, whose answer has no limit.
+/// Why a sheet is refused with 6: how large it would be, by the planning call, which has no limit.
 pub fn too_large(input: Input) -> String {
     let Ok(planned) = input.plan() else {
         return Refusal::TooLarge.sentence().into();

@@ -1,4 +1,4 @@
-//! The manual page and bash's completion, made of the table of commands and of what `--help` prints. `./install` asks for them: `legs help --man`, `legs help --bash`.
+//! The manual page and bash's completion, made of the table of commands and of what `--help` prints. `./install` calls for them: `legs help --man`, `legs help --bash`.
 
 use std::ffi::OsString;
 
@@ -6,7 +6,7 @@ use crate::commands::{Command, COMMANDS};
 use crate::help::{all, of_command};
 use crate::options;
 
-/// What these words ask for; none where they are other words.
+/// What these words request; none where they are other words.
 pub fn page(words: &[OsString]) -> Option<String> {
     match words {
         [help, page] if help == "help" && page == "--man" => Some(man()),
@@ -75,7 +75,7 @@ fn paragraphs<'a>(lines: impl Iterator<Item = &'a str>) -> String {
     text
 }
 
-/// A line of text for the page: roff's own characters stand for themselves, and none begins a request.
+/// A line of text for the page: roff's own characters are escaped, and none begins a request.
 fn roff(line: &str) -> String {
     let mut text = String::new();
     for character in line.chars() {
@@ -150,7 +150,7 @@ fn unique(words: impl Iterator<Item = String>) -> Vec<String> {
 mod tests {
     use super::*;
 
-    /// Every command and every line of `--help` stands in the page.
+    /// Every command and every line of `--help` is in the page.
     #[test]
     fn the_page_has_all_of_help() {
         let page = man();

@@ -65,7 +65,7 @@ pub const TYPED: Opt = Opt::flag("--typed", "as a typed list");
 pub const BYTES: Opt = Opt::flag("--bytes", "the settings as bytes, 31, or 42 with a margin");
 pub const FORCE: Opt = Opt::flag("--force", "writes bytes to a terminal, too");
 
-/// These ask for help, behind any command.
+/// These request help, behind any command.
 pub const HELP: [Opt; 2] = [
     Opt::flag("--help", "what a command does"),
     Opt::flag("-h", "the same"),

@@ -33,7 +33,7 @@ impl<'a> Over<'a> {
         Ok(Over { file, named })
     }
 
-    /// Whether this file has settings that are asked for.
+    /// Whether this file has settings that are requested.
     pub fn is_from(&self, path: &str) -> bool {
         self.file.is_some_and(|file| file == path)
     }
@@ -65,7 +65,7 @@ pub fn read_over(path: &OsStr, name: &str, own: Vec<u8>) -> Result<Vec<u8>, Faul
     Ok(settings.with_words(bytes).map_err(fault)?.to_bytes())
 }
 
-/// The settings at the front of a file's bytes, as they stand there.
+/// The settings at the front of a file's bytes, as they are there.
 pub fn front(source: &Source) -> Result<Vec<u8>, Fault> {
     let settings = Input::split(&source.bytes).settings;
     checked(&source.name, settings)?;

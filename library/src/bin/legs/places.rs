@@ -10,7 +10,7 @@ use crate::texts::beginning;
 /// The bytes that are read at the most: for every place of the largest sheet a line.
 const BYTES: usize = 1 << 20;
 
-/// The places, a line each: a line and a column, parted by spaces, a tab or a comma. Nothing and comments may stand between them. With them what is wrong with other lines.
+/// The places, a line each: a line and a column, separated by spaces, a tab or a comma. Blank lines and comments are allowed between them. With them what is wrong with other lines.
 pub fn places() -> Result<(Vec<Place>, Vec<String>), Fault> {
     let failed = |error| Fault::Failed("standard input".into(), error);
     let mut bytes = Vec::new();
@@ -50,9 +50,9 @@ fn place(line: &str) -> Option<Place> {
 /// A place's leaf, or why it has none.
 pub type Found = Result<LeafPlace, Refusal>;
 
-/// The leaves of places, each as if it was asked for alone: 12 and 13 are told of a place, and any other refusal of all.
+/// The leaves of places, each as if it was looked up alone: 12 and 13 are reported for a place, and any other refusal for all.
 pub fn find(input: Input, places: &[Place]) -> Result<Vec<Found>, Refusal> {
-    // Without places the sheet is asked for, too.
+    // Without places the sheet is tested, too.
     input.places(&[])?;
     let mut found = Vec::new();
     for list in places.chunks(calls::PLACES) {

@@ -1,4 +1,4 @@
-//! A file replaced atomically: the new bytes go to a file beside it, are flushed to the disk, and take its place in one step. Whoever is stopped before that
+//! A file replaced atomically: the new bytes go to a file beside it, are flushed to the disk, and replace it in one step. A command that is stopped before that
 //! step leaves the old file as it was, and beside it perhaps the new one, under a name of its own.
 
 use std::ffi::OsString;
@@ -38,7 +38,7 @@ pub fn replace(path: &Path, bytes: &[u8]) -> io::Result<()> {
     done(Step::Created);
     let written = fill(file, permissions, bytes).and_then(|()| fs::rename(&beside, path));
     if written.is_err() {
-        // The first error is the one to tell of.
+        // The first error is the one to report.
         let _ = fs::remove_file(&beside);
     }
     written?;
@@ -48,7 +48,7 @@ pub fn replace(path: &Path, bytes: &[u8]) -> io::Result<()> {
     Ok(())
 }
 
-/// Creates a file of so many zero bytes. One that is there stays, and is an error.
+/// Creates a file of this many zero bytes. One that exists stays, and is an error.
 pub fn create(path: &Path, length: usize) -> io::Result<()> {
     let file = File::create_new(path)?;
     let made = file
@@ -124,11 +124,11 @@ mod tests {
 
     use super::*;
 
-    /// What a child process of these tests is told: after how many steps it ends itself, and the words of its command.
+    /// What a child process of these tests gets: after how many steps it ends itself, and the words of its command.
     const STOP: &str = "LEGS_TEST_STOP";
     const WORDS: &str = "LEGS_TEST_WORDS";
 
-    /// In a child process that has made as many steps as it was told: ends it here and now. Nothing is cleaned up.
+    /// In a child process that has made as many steps as it was given: ends it here and now. Nothing is cleaned up.
     pub fn done(step: Step) {
         static STEPS: AtomicUsize = AtomicUsize::new(0);
         let steps = 1 + STEPS.fetch_add(1, Ordering::Relaxed);
@@ -151,7 +151,7 @@ mod tests {
         run(&words.split('\n').collect::<Vec<_>>());
     }
 
-    /// Runs a command in a child process that ends itself after so many steps; answers the last one, or none where the command came to its end.
+    /// Runs a command in a child process that ends itself after this many steps; answers the last one, or none where the command came to its end.
     fn stopped(stop: usize, words: &[&str]) -> Option<String> {
         let output = Command::new(env::current_exe().expect("this test's program"))
             .args([

@@ -4,7 +4,7 @@ use std::io::{self, Write};
 
 use leg_sheet::{TypedFault, WordFault};
 
-/// The bytes that are shown of a longer line, and how many of them may stand before the column. So the line is not broken, and the caret stands under its column.
+/// The bytes that are shown of a longer line, and how many of them may be before the column. So the line is not broken, and the caret is under its column.
 const SHOWN: usize = 72;
 const BEFORE: usize = 48;
 
@@ -52,7 +52,7 @@ pub fn shown(name: &str, text: &[u8], mistake: &Mistake) -> String {
     format!("{name}:{line}:{column}: {words}\n{before}{after}\n{caret}^")
 }
 
-/// Says something on standard error. Where that fails there is no one to tell it to.
+/// Prints something on standard error. Where that fails nothing can be reported.
 pub fn tell(line: &str) {
     let _ = writeln!(io::stderr(), "{line}");
 }
@@ -74,7 +74,7 @@ fn around(text: &[u8], column: usize) -> (String, String) {
     )
 }
 
-/// Bytes made visible: what may stand in a text and letters as they are, anything else by its name or number in brackets.
+/// Bytes made visible: what is allowed in a text and letters as they are, anything else by its name or number in brackets.
 fn visible(bytes: &[u8]) -> String {
     let mut text = String::new();
     for chunk in bytes.utf8_chunks() {
@@ -109,7 +109,7 @@ mod tests {
         shown.lines().skip(1).map(String::from).collect()
     }
 
-    /// The caret stands under the byte, whatever stands before it.
+    /// The caret is under the byte, whatever is before it.
     #[test]
     fn a_caret_under_each_column() {
         assert_eq!(lines(b"  abc", 3), ["  abc", "  ^"]);

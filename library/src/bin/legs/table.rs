@@ -22,7 +22,7 @@ pub struct Table<const N: usize> {
     pub rows: Vec<[Field; N]>,
 }
 
-/// The form in which an answer is asked for.
+/// The form in which an answer is requested.
 #[derive(Clone, Copy, PartialEq, Eq)]
 pub enum Format {
     People,
@@ -118,7 +118,7 @@ impl<const N: usize> Table<N> {
         Table { names, rows }
     }
 
-    /// In columns with their names above: numbers stand at the right, what else there is at the left.
+    /// In columns with their names above: numbers are aligned right, all else left.
     pub fn columns(&self) -> String {
         let names = self.names.map(|name| name.replace('_', " "));
         let rows: Vec<[String; N]> = (self.rows.iter())
@@ -145,7 +145,7 @@ impl<const N: usize> Table<N> {
         text
     }
 
-    /// A line for the names and one for each record, the fields parted by tabs. In a text a line feed is `\n` and a backslash `\\`, as they are typed.
+    /// A line for the names and one for each record, the fields separated by tabs. In a text a line feed is `\n` and a backslash `\\`, as they are typed.
     pub fn tsv(&self) -> String {
         let mut text = self.names.join("\t") + "\n";
         for row in &self.rows {

@@ -4,7 +4,7 @@ use leg_sheet::{typed_lines, LineKind, Tree, TypedLine};
 
 use crate::texts::beginning;
 
-/// The warnings that are told at the most.
+/// The most warnings that are printed.
 const MOST: usize = 10;
 
 /// The warnings about an accepted list, a line each.

@@ -15,7 +15,7 @@ use Rattle.paint.proofs.Ground.{body-over}
 use Rattle.paint.proofs.body.paint_body.Statement.{statement}
 use Rattle.paint.proofs.body.paint_body.Tie as tie
 
--- what the body asks, and its plan
+-- what the body requires, and its plan
 module _ (s : Settings) (t : List ℕ) (n z : Size) (k : BodyRows) (is : n ≡ leafSize s t) (fits : Fits n z) (e : k ≡ bodyRowsOf s n z) (at stride len : ℕ)
     (room : Room at stride (z .height) (z .width) len) where
   h : BodyFits s t z k

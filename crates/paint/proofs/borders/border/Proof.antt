@@ -12,7 +12,7 @@ use Rattle.paint.proofs.LinesLeft.{then-sets}
 use Rattle.paint.proofs.borders.border.Statement.{statement}
 use Rattle.paint.proofs.borders.border.Tie as tie
 
--- what stands after the corner and the marks
+-- what comes after the corner and the marks
 border-is : (o o₁ y : List ℕ) (at w corner mark p : ℕ) → Wrote p (at + 1 + w) o₁ (sets (set o at corner) (at + 1) (replicate w mark))
     → sets o₁ p y ≡ sets o at (corner ∷ (replicate w mark ++ y))
 border-is o o₁ y at w corner mark p k =

@@ -18,7 +18,7 @@ pub const COMMAND: Command = Command {
     run,
 };
 
-/// The settings are read, too: where the tree begins behind others is not known.
+/// The settings are read, too: without them it is not known where the tree begins.
 fn run(given: &Given) -> Result<Answer, Fault> {
     let nodes = given.operands[1..].iter().map(|word| number(word));
     let mut nodes = nodes.collect::<Result<Vec<usize>, Fault>>()?;
@@ -38,7 +38,7 @@ fn run(given: &Given) -> Result<Answer, Fault> {
     Answer::bytes(given, [file.input().settings, &tree].concat())
 }
 
-/// Numbers parted by commas.
+/// Numbers separated by commas.
 fn numbers(list: &OsStr) -> Result<Vec<usize>, Fault> {
     let text = list.to_string_lossy();
     let numbers = text.split(',').map(|word| number(OsStr::new(word.trim())));

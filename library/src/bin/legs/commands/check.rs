@@ -39,7 +39,7 @@ fn run(given: &Given) -> Result<Answer, Fault> {
     Ok(Answer::accepted(text))
 }
 
-/// A sheet of no columns is feeds alone, and has a line more.
+/// A sheet of no columns is line feeds alone, and has a line more.
 fn dimensions(sheet: &str) -> String {
     let lines: Vec<&str> = sheet.split('\n').collect();
     format!(", {} columns by {} lines", lines[0].len(), lines.len())
@@ -55,7 +55,7 @@ fn line(input: Input, (part, verdict): &(&str, Result<String, Refusal>)) -> Stri
     }
 }
 
-/// The mistakes of a typed list, and how far it was looked at.
+/// The mistakes of a typed list, and how far it was read.
 fn list(source: &Source, mistakes: &[Mistake], is_all: bool) -> String {
     let shown = |mistake: &Mistake| shown(&source.name, &source.bytes, mistake) + "\n";
     let mut text: String = mistakes.iter().map(shown).collect();

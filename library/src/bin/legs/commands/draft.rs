@@ -65,7 +65,7 @@ fn new(given: &Given) -> Result<Answer, Fault> {
     Ok(Answer::done())
 }
 
-/// The settings are read, too: where the tree begins behind others is not known.
+/// The settings are read, too: without them it is not known where the tree begins.
 fn save(given: &Given) -> Result<Answer, Fault> {
     let name = draft_name(&given.operands[1])?;
     let file = File::read(&given.operands[2], &Over::default())?;
@@ -123,7 +123,7 @@ fn old(path: &OsStr) -> Result<Option<Source>, Fault> {
     }
 }
 
-/// The settings that a file of bytes has, as they stand there; of one that is not there the default ones. A text is not written over by bytes.
+/// The settings that a file of bytes has, as they are there; of one that does not exist the default ones. A text is not overwritten by bytes.
 fn settings_of(old: Option<Source>) -> Result<Vec<u8>, Fault> {
     match old {
         None => Ok(Settings::default().to_bytes()),
@@ -132,7 +132,7 @@ fn settings_of(old: Option<Source>) -> Result<Vec<u8>, Fault> {
     }
 }
 
-/// The bytes of a typed list, which writes over a text and over nothing else.
+/// The bytes of a typed list, which replaces a text and nothing else.
 fn over_list(old: Option<Source>, text: String) -> Result<Vec<u8>, Fault> {
     match old {
         Some(source) if !source.is_text() => {
@@ -142,7 +142,7 @@ fn over_list(old: Option<Source>, text: String) -> Result<Vec<u8>, Fault> {
     }
 }
 
-/// Why a file is not written over.
+/// Why a file is not overwritten.
 fn kept(source: &Source, has: &str) -> Fault {
     let name = &source.name;
     Fault::Mistake(format!("legs: {name}: not overwritten: it has {has}"))

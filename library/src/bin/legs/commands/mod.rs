@@ -57,7 +57,7 @@ pub struct Command {
     operands: &'static [&'static str],
     /// The options that are its own.
     pub options: &'static [Opt],
-    /// Whether those for settings may stand behind it.
+    /// Whether those for settings are allowed behind it.
     pub takes_settings: bool,
     /// What it does, for `--help`.
     pub about: &'static str,
@@ -79,7 +79,7 @@ impl Command {
         Some(rest)
     }
 
-    /// Whether so many words are its operands.
+    /// Whether this many words can be its operands.
     fn takes(&self, count: usize) -> bool {
         let optional = self.operands.iter().filter(|name| name.starts_with('['));
         let most = self.operands.len();
@@ -87,7 +87,7 @@ impl Command {
         most - optional.count() <= count && (is_many || count <= most)
     }
 
-    /// Whether an option may stand behind it.
+    /// Whether an option is allowed behind it.
     fn has(&self, name: &str) -> bool {
         let is_setting = [SETTINGS, NO_LINES]
             .iter()
@@ -178,7 +178,7 @@ impl Answer {
         Answer { bytes, status: 0 }
     }
 
-    /// Bytes that a command takes. They are not written to a terminal, unless that is asked for.
+    /// Bytes that a command takes. They are not written to a terminal, unless that is requested.
     fn bytes(given: &Given, bytes: Vec<u8>) -> Result<Answer, Fault> {
         if io::stdout().is_terminal() && !given.has(FORCE.name) {
             let words = "these are bytes, and standard output is a terminal: > FILE, or --force";
@@ -187,7 +187,7 @@ impl Answer {
         Ok(Answer::text(bytes))
     }
 
-    /// Records in the form that is asked for, which for people is this text.
+    /// Records in the form that is requested, which for people is this text.
     fn many<const N: usize>(
         given: &Given,
         table: &Table<N>,

@@ -64,7 +64,7 @@ fn row(node: Node, line: Option<usize>, start: Option<Place>, size: SizeRecord) 
     ]
 }
 
-/// Where the nodes start. In a sheet that is too large they do so nowhere, which is reported.
+/// Where the nodes start. In a sheet that is too large they start nowhere, which is reported.
 fn starts(file: &File, count: usize) -> Result<Vec<Option<Place>>, Fault> {
     match file.call(|input| input.starts()) {
         Err(fault @ Fault::Refused(_, Refusal::TooLarge, _)) => {

@@ -83,7 +83,7 @@ fn lines(planned: &Planned) -> String {
     format!("columns: {width}\nlines: {height}\ntoo large with {which} texts: {limits}\n")
 }
 
-/// The least and the greatest, or the one that they are.
+/// The least and the greatest, or one number where they are equal.
 fn ends(range: &RangeInclusive<usize>) -> String {
     let (least, greatest) = (range.start(), range.end());
     if least == greatest {

@@ -15,7 +15,7 @@ pub const COMMAND: Command = Command {
     run,
 };
 
-/// The settings are read, too: where the tree begins behind others is not known.
+/// The settings are read, too: without them it is not known where the tree begins.
 fn run(given: &Given) -> Result<Answer, Fault> {
     let file = given.file()?;
     file.call(|input| Settings::from_bytes(input.settings))?;
@@ -23,7 +23,7 @@ fn run(given: &Given) -> Result<Answer, Fault> {
     typed(&file.name, &tree).map(Answer::accepted)
 }
 
-/// A tree as a typed list, of which the proved reader has made the same tree.
+/// A tree as a typed list, which the proved reader has read back to the same tree.
 pub fn typed(name: &str, tree: &Tree) -> Result<String, Fault> {
     let text = tree.typed();
     let bytes = tree

@@ -1,4 +1,4 @@
-//! All mistakes of a list that can be told of: what may not stand there is taken for something that may, and the proved reader is asked again.
+//! All mistakes of a list that can be reported: what is not allowed there is replaced by something that is, and the proved reader is called again.
 
 use leg_sheet::{calls, Refusal, TypedFault};
 
@@ -6,7 +6,7 @@ use super::encoding::{is_marked, BYTE_ORDER_MARK};
 use super::{characters, first, from_place};
 use crate::shown::Mistake;
 
-/// The mistakes that are told of at the most.
+/// The most mistakes that are reported.
 const MOST: usize = 100;
 
 /// The mistakes of a list by their places, and whether nothing was left out behind the last of them.
@@ -39,7 +39,7 @@ fn found(list: &[u8]) -> (Vec<Mistake>, bool) {
 
 /// A line of a list.
 struct Line {
-    /// As the reader is asked of it.
+    /// As the reader gets it.
     asked: Vec<u8>,
     /// As it was, but for its front: a tab there is two spaces, and a byte order mark is nothing.
     kept: Vec<u8>,
@@ -56,7 +56,7 @@ impl Line {
         }
     }
 
-    /// Puts other bytes for so many in front.
+    /// Puts other bytes for this many in front.
     fn put_front(&mut self, count: usize, front: &[u8]) {
         self.grown += front.len() as isize - count as isize;
         for line in [&mut self.asked, &mut self.kept] {
@@ -79,7 +79,7 @@ fn joined(lines: &[Line], of: impl Fn(&Line) -> &[u8]) -> Vec<u8> {
     lines.join(&b'\n')
 }
 
-/// Whether what is wrong at a place could be mended. Behind the front a character that may not stand there is `?`, and so is a backslash.
+/// Whether what is wrong at a place could be mended. Behind the front a character that is not allowed is replaced by `?`, and so is a backslash.
 fn mend(lines: &mut [Line], kept: &[u8], fault: TypedFault) -> bool {
     let (line, column) = (fault.line as usize, fault.column as usize);
     let rest = from_place(kept, line, column);

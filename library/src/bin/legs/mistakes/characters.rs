@@ -185,7 +185,7 @@ const LETTERS: &[(&str, &str)] = &[
 mod tests {
     use super::*;
 
-    /// What is to be written can be printed, stands in the table once, and is of the same case.
+    /// What is to be written can be printed, is in the table once, and is of the same case.
     #[test]
     fn the_tables() {
         let signs = SIGNS.iter().map(|&(it, ..)| it);

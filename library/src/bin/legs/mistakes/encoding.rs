@@ -35,7 +35,7 @@ pub fn mistake(list: &[u8], fault: TypedFault) -> Option<Mistake> {
     }
 }
 
-/// Whether a list begins with the byte order mark of UTF-8, which is then the first character that may not stand there.
+/// Whether a list begins with the byte order mark of UTF-8, which is then the first character that is not allowed.
 pub fn is_marked(list: &[u8]) -> bool {
     list.starts_with(BYTE_ORDER_MARK)
 }

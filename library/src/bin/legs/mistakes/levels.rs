@@ -1,4 +1,4 @@
-//! Lines that stand too deep, or at the left edge.
+//! Lines that are too deep, or at the left edge.
 
 use leg_sheet::{typed_lines, LineKind, TypedLine};
 
@@ -37,7 +37,7 @@ pub fn no_parent(list: &[u8], mistake: Mistake) -> Mistake {
     }
 }
 
-/// A line so many levels inside a text, which may have been meant for a row or column.
+/// A line this many levels inside a text, which may have been meant for a row or column.
 fn inside_text(text: TypedLine, levels: usize, mistake: Mistake) -> Mistake {
     let (shown, number, line) = (
         beginning(&String::from_utf8_lossy(text.typed)),

@@ -1,4 +1,4 @@
-//! What a page shows. Every number comes from the proved calls: the sheet from `print_sheet`, whose each place is from `places`, sizes and nodes below from `sizes`, flags and pair from `leaf_record`.
+//! What a page shows. Every number comes from the proved calls: the sheet from `print_sheet`, the leaf of each place from `places`, sizes and nodes below from `sizes`, flags and pair from `leaf_record`.
 
 use leg_sheet::{CutPair, Flags, Input, LeafRecord, Refusal, SizeRecord, Tree};
 
@@ -19,7 +19,7 @@ pub struct Node {
     pub kind: &'static str,
     pub parent: Option<usize>,
     pub size: SizeRecord,
-    /// Where its leaves stand; without lines a leaf of width 0 has no place.
+    /// Where its leaves are; without lines a leaf of width 0 has no place.
     pub area: Option<Area>,
     pub leaf: Option<Leaf>,
 }
@@ -29,9 +29,9 @@ pub struct Node {
 pub struct Leaf {
     pub flags: Flags,
     pub pair: CutPair,
-    /// At the upper end of its right side, where that stands under the middle of a leaf.
+    /// At the upper end of its right side, where that is under the middle of a leaf.
     pub above: Option<Crossing>,
-    /// At the left end of its lower side, where that stands right of the middle of a leaf.
+    /// At the left end of its lower side, where that is right of the middle of a leaf.
     pub beside: Option<Crossing>,
 }
 
@@ -91,7 +91,7 @@ fn natural(node: &Node) -> (u16, u16) {
     (node.size.natural_width, node.size.natural_height)
 }
 
-/// A sheet's lines and columns. One of no columns is feeds alone, and has a line more.
+/// A sheet's lines and columns. One of no columns is line feeds alone, and has a line more.
 fn dimensions(sheet: &str) -> (usize, usize) {
     let first = sheet.split('\n').next().unwrap_or_default();
     (sheet.split('\n').count(), first.len())

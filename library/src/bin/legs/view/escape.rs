@@ -16,7 +16,7 @@ fn character(it: char) -> String {
     }
 }
 
-/// A string of JSON, with its quotes. No `<` stands in it, so that nothing in a text ends the script element or begins a comment there.
+/// A string of JSON, with its quotes. No `<` is in it, so that nothing in a text ends the script element or begins a comment there.
 pub fn json(text: &str) -> String {
     format!("\"{}\"", text.chars().map(inside).collect::<String>())
 }

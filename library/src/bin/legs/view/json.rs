@@ -34,7 +34,7 @@ fn numbers<const N: usize>(numbers: [usize; N]) -> String {
     list(numbers.iter().map(usize::to_string))
 }
 
-/// A line's owners: how many places in a row are whose, -1 in the margin.
+/// A line's owners: how many places in a row belong to which leaf, -1 for the margin.
 fn runs(owners: &[Option<usize>]) -> String {
     list(owners.chunk_by(|one, two| one == two).map(|run| {
         let owner = run[0].map_or("-1".into(), |node| node.to_string());

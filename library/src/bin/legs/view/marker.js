@@ -53,7 +53,7 @@ function drawMarked() {
 /** A text in one field of a table: line feeds and backslashes as in typed lists. */
 const inField = (text) => text.replaceAll("\\", "\\\\").replaceAll("\n", "\\n");
 
-/** The answers, a line each, their fields parted by tabs: the fields of a place that has none are empty but for the refusal's number. */
+/** The answers, a line each, their fields separated by tabs: the fields of a place that has none are empty but for the refusal's number. */
 function tsv() {
   const lines = marked().map(({ said, place, wrong, refused, node, line: top, column: left }) => {
     const text = wrong ? "" : data.sheets[shown].texts[node];

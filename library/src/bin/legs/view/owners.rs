@@ -1,4 +1,4 @@
-//! Whose each place of a sheet is.
+//! The leaf of each place of a sheet.
 
 use leg_sheet::{calls, Input, Place, Refusal, Settings};
 
@@ -46,7 +46,7 @@ pub struct Owners {
 }
 
 impl Owners {
-    /// Asks for every place inside the margin, as many at once as the call takes.
+    /// Looks up every place inside the margin, as many at once as the call takes.
     pub fn of(input: Input, lines: usize, columns: usize, nodes: usize) -> Result<Owners, Refusal> {
         let mut owners = Owners {
             lines: vec![vec![None; columns]; lines],
@@ -75,7 +75,7 @@ impl Owners {
         *self.lines.get(place.line)?.get(place.column)?
     }
 
-    /// At the upper end of an area's right side, where that stands under the middle of a leaf.
+    /// At the upper end of an area's right side, where that is under the middle of a leaf.
     pub fn above(&self, Area { first, last }: Area) -> Option<Crossing> {
         let column = last.column + 1;
         let line = first.line;
@@ -88,7 +88,7 @@ impl Owners {
         )
     }
 
-    /// At the left end of its lower side, where that stands right of the middle of a leaf.
+    /// At the left end of its lower side, where that is right of the middle of a leaf.
     pub fn beside(&self, Area { first, last }: Area) -> Option<Crossing> {
         let column = first.column;
         let line = last.line + 1;

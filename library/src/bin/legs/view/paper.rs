@@ -11,7 +11,7 @@ const HIGH: usize = 120;
 /// The largest letters, 11 points, in micrometres.
 const LARGEST: usize = 3_880;
 
-/// The style for a sheet of so many lines and columns: its numbers, and the paper's direction.
+/// The style for a sheet of this many lines and columns: its numbers, and the paper's direction.
 pub fn style(lines: usize, columns: usize) -> String {
     let (lines, columns) = (lines.max(1), columns.max(1));
     let (direction, across, down) = if is_wide(lines, columns) {

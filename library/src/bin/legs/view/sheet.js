@@ -93,7 +93,7 @@ function goTo(node) {
   return area !== null;
 }
 
-/** The next leaf that has a place, so many steps on, and none past the ends. */
+/** The next leaf that has a place, this many steps on, and none past the ends. */
 function goOn(step) {
   const { node } = find(line, column);
   const placed = leaves.filter((leaf) => data.nodes[leaf].area);
