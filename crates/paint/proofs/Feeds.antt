@@ -67,7 +67,8 @@ line-fed pre o l w e h =
 -- a line, and the lines y after it, which joined are j
 line-then : (pre o l j : List ℕ) (w : ℕ) (ends y : List (List ℕ)) → length l ≡ w → w + 1 + length j ≤ length o
     → ((q r : List ℕ) → length j ≤ length r → pasted (pasted (q ++ r) (length q + w) (w + 1) ends) (length q) (w + 1) y ≡ q ++ (j ++ drop (length j) r))
-    → pasted (sets (pasted (sets (pre ++ o) (length pre + w) (10 ∷ [])) (length pre + w + (w + 1)) (w + 1) ends) (length pre) l) (length pre + (w + 1)) (w + 1) y
+    → pasted (sets (pasted (sets (pre ++ o) (length pre + w) (10 ∷ [])) (length pre + w + (w + 1)) (w + 1) ends) (length pre) l) (length pre + (w + 1))
+    (w + 1) y
     ≡ pre ++ ((l ++ (10 ∷ j)) ++ drop (length (l ++ (10 ∷ j))) o)
 line-then pre o l j w ends y e h rest =
     let q = pre ++ (l ++ (10 ∷ [])) in

@@ -200,7 +200,8 @@ pub fn rows(out: &mut [u8], at: usize, stride: usize, n: usize, w: usize, byte: 
     p
 }
 
-// n lines of a mark and w spaces, at the places that `rows` has. The loop goes by the place: by a count the compiler would unroll it, which costs where n is small.
+// n lines of a mark and w spaces, at the places that `rows` has. The loop goes by the place: with a count the compiler would unroll it, which costs where n is
+// small.
 pub fn marked_rows(out: &mut [u8], at: usize, stride: usize, n: usize, w: usize, mark: u8) -> usize
     requires { ⌜ (1 ≤ stride) × Room at stride n (1 + w) (length (now out)) ⌝ }
     ensures { λ r. ⌜ Wrote r (at + n * stride) (now (out .exit)) (pasted (now (out .entry)) at stride (replicate n (mark ∷ replicate w 32))) ⌝ }
