@@ -13,7 +13,7 @@ use Rattle.tree.specs.Tree.{Tree}
 use Rattle.tree.specs.Bytes.{lengthAt}
 use Rattle.tree.specs.Reading.{isText, headerOf, ReadOne, ReadAll, readElement, readSequence, readTree, cellRead, groupRead, moreRead, treeAnswer}
 use Rattle.tree.specs.Planning.{Plan, headerIn, oddRange, PlanOne, PlanAll, cellIn, rangeIn, groupIn, moreIn, elementIn, sequenceIn, wholeIn}
-use Rattle.tree.specs.Contracts.{rootIn, planAnswer}
+use Rattle.tree.specs.Contracts.{wholeAnswer, planAnswer}
 use Rattle.tree.specs.declared.Header.{Header}
 use Rattle.tree.specs.declared.Header.the-variants.{Fault, Element}
 use Rattle.tree.specs.Promises.{treeOf, treeRead, treesOf}
@@ -176,5 +176,5 @@ pub read-same : (s : List ℕ) → treeRead (wholeIn false s) ≡ readTree s
 unfolding wholeIn readTree
 read-same s = whole-case s (ltb 32768 (length s)) (eqb (3 + lengthAt s) (length s))
 
-pub root-same : (s : List ℕ) → rootIn false s ≡ treeAnswer (readTree s)
-root-same s = answer-same (wholeIn false s) ∙ ap treeAnswer (read-same s)
+pub whole-same : (s : List ℕ) → wholeAnswer false s ≡ treeAnswer (readTree s)
+whole-same s = answer-same (wholeIn false s) ∙ ap treeAnswer (read-same s)

@@ -1,4 +1,4 @@
-use mathlib.Core.Path.{_≡_, sym, _∙_}
+use mathlib.Core.Path.{_≡_, refl, sym, _∙_}
 use Prim.Native.Nat.{ℕ, _+_, _≤_, _<_}
 use native.Mathlib.Omega.{arith}
 use lib.ListN.{length}
@@ -84,6 +84,11 @@ returns-5 c =
     (element-range _ g _ _ _ _ _ _ (front k) (c .before .before .before .before .if1 .left) (c .before .before .before .if3 .taken)
     (sym (c .if4 .left) ∙ c .before .is-range .ensures)))
 
+returns-6 : tie.Need-returns-6
+returns-6 c =
+    let k = c .before .before in
+    record { tag = _; len = _; header = front k; no-cell = c .before .if1 .left; no-range = c .if3 .left; end-is = refl; fits = fits k }
+
 pub read-cell-spec : {M : Type 1} → statement M
 read-cell-spec =
     tie.close
@@ -105,4 +110,4 @@ read-cell-spec =
     returns-3
     returns-4
     returns-5
-    (λ c. search needs))
+    returns-6)
