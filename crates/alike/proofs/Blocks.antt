@@ -14,7 +14,8 @@ use Rattle.sizes.specs.Sizes.{sep}
 use Rattle.block.specs.declared.Flags.{Flags}
 use Rattle.block.specs.Block.{Leaf, mark, topLeft, topRight, bottomLeft, edge, slackBefore, indent, textLine, body, topLine, middle, bottomLine, block}
 use Rattle.alike.proofs.ReplacedBytes.{lines-recast, width-recast, height-recast}
-use Rattle.alike.proofs.RelatedBytes.{Over, Rows, over-append, over-replicate, over-map, over-pick, over-ruled, rows-append, rows-paired, rows-column, rows-replicate, rows-map}
+use Rattle.alike.proofs.RelatedBytes.{Over, Rows, over-append, over-replicate, over-map, over-pick, over-ruled, rows-append, rows-paired, rows-column}
+use Rattle.alike.proofs.RelatedBytes.{rows-replicate, rows-map}
 
 -- what a sheet has in addition to the texts' own bytes is related to itself
 pub record Surround (R : ℕ → ℕ → Type 0) (s : Settings) : Type 0 where

@@ -13,7 +13,8 @@ use Rattle.common.specs.Choice.{pick}
 use Rattle.common.specs.Outcome.{Outcome}
 use Rattle.tree.specs.Reading.{ReadOne, readTree}
 use Rattle.tree.specs.Accepted.{element}
-use Rattle.drafts.specs.Store.{isName, tagFor, tagIn, hasTag, fieldsOf, fieldBytes, storeOf, withoutTag, draftOf, saveTree, saveIn, saveOf, forgetOf, noReturn, returnFound, returnOf}
+use Rattle.drafts.specs.Store.{isName, tagFor, tagIn, hasTag, fieldsOf, fieldBytes, storeOf, withoutTag, draftOf, saveTree, saveIn, saveOf, forgetOf, noReturn}
+use Rattle.drafts.specs.Store.{returnFound, returnOf}
 use Rattle.drafts.specs.declared.Returned.{Returned}
 use Rattle.drafts.specs.Promises.{DraftCall, answerTo, storeAfter, Fields, Formed}
 use Rattle.drafts.proofs.Fields.{read-store, store-of-length, fields-without, without-gone, without-shorter, joined-last, fields-last, element-field}

@@ -39,7 +39,8 @@ use Rattle.alike.proofs.ReplacedBytes.{nodes-recast}
 use Rattle.alike.proofs.Masks.{mask-keeps}
 use Rattle.alike.proofs.Pairs.{inputs-alike}
 use Rattle.alike.proofs.Lent.{lent-none, sizes-lent, record-lent, place-lent}
-use Rattle.alike.proofs.Calls.{same-by, masked-records, read-tree-alike, leaf-record-alike, leaf-at-alike, find-places-alike, fold-list-alike, nearest-cells-alike, plan-sheet-alike}
+use Rattle.alike.proofs.Calls.{same-by, masked-records, read-tree-alike, leaf-record-alike, leaf-at-alike, find-places-alike, fold-list-alike}
+use Rattle.alike.proofs.Calls.{nearest-cells-alike, plan-sheet-alike}
 use Rattle.alike.proofs.Printed.{print-leaf-alike, print-sheet-alike}
 use Rattle.alike.proofs.Blanked.{blank-texts-alike}
 use Rattle.alike.proofs.Drafts.{save-draft-alike, forget-draft-alike, return-draft-alike}

@@ -3,7 +3,8 @@ use mathlib.Core.List.{List}
 use Prim.Native.Nat.{ℕ}
 use Rattle.alike.specs.Pairs.{AlikeBytes}
 use Rattle.alike.specs.Promises.{OneLayout}
-use Rattle.alike.proofs.Calls.{read-tree-alike, collect-sizes-alike, leaf-record-alike, leaf-at-alike, find-places-alike, fold-list-alike, nearest-cells-alike, plan-sheet-alike}
+use Rattle.alike.proofs.Calls.{read-tree-alike, collect-sizes-alike, leaf-record-alike, leaf-at-alike, find-places-alike, fold-list-alike}
+use Rattle.alike.proofs.Calls.{nearest-cells-alike, plan-sheet-alike}
 use Rattle.alike.proofs.Printed.{print-leaf-alike, print-sheet-alike}
 use Rattle.alike.proofs.Drafts.{save-draft-alike}
 use Rattle.alike.proofs.Blanked.{blank-texts-alike}

@@ -22,7 +22,8 @@ use Rattle.blank.specs.Alike.{recast, recast*, covered, masked, Alike}
 use Rattle.plan.specs.Answers as plan
 use Rattle.plan.specs.Answers.{planInput}
 use Rattle.alike.specs.Pairs as pairs
-use Rattle.alike.specs.Pairs.{AlikeBytes, SameFront, afterElement, AlikeTrees, planRecast, planRecast*, planMasked, PlanTexts, PlanTexts*, AlikePlans, SameRead, SameInput, SamePlanInput}
+use Rattle.alike.specs.Pairs.{AlikeBytes, SameFront, afterElement, AlikeTrees, planRecast, planRecast*, planMasked, PlanTexts, PlanTexts*, AlikePlans}
+use Rattle.alike.specs.Pairs.{SameRead, SameInput, SamePlanInput}
 use Rattle.alike.proofs.Lines.{alike-lines}
 use Rattle.alike.proofs.Readers as readers
 use Rattle.alike.proofs.Readers.{SamePlans, length-alike, whole-alike}

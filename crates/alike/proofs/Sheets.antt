@@ -18,7 +18,8 @@ use Rattle.sheet.specs.Sheet.{between, margined, sheetLines, sheet}
 use Rattle.blank.specs.Alike.{recast, covered, masked, Alike}
 use Rattle.alike.specs.Own.{foundBytes, leafBytes}
 use Rattle.alike.proofs.ReplacedBytes.{natural-recast}
-use Rattle.alike.proofs.RelatedBytes.{Over, Rows, none, over-append, over-replicate, over-length, over-at, over-feeds, rows-append, rows-replicate, rows-each}
+use Rattle.alike.proofs.RelatedBytes.{Over, Rows, none, over-append, over-replicate, over-length, over-at, over-feeds, rows-append, rows-replicate}
+use Rattle.alike.proofs.RelatedBytes.{rows-each}
 use Rattle.alike.proofs.Blocks.{Surround, block-recast}
 use Rattle.alike.proofs.Walks.{placed, sheet-cast, leaves-cast}
 use Rattle.alike.proofs.Masks.{mask-keeps, Under, under-own, under-surround, outside-mask}

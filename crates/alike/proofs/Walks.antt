@@ -9,7 +9,8 @@ use Rattle.settings.specs.declared.Settings.{Settings}
 use Rattle.tree.specs.Tree.{Axis, across, down, Tree, Trees, cell, group, none, more, empty?, count, nodes}
 use Rattle.splits.specs.Splits.{shortSplits3}
 use Rattle.sizes.specs.Sizes.{sep, allot, spareOf}
-use Rattle.layout.specs.Walk.{Context, Placed, leafOf, Walked, alongList, besideList, leafWalked, child, lay, joinWalked, noneWalked, walk, children, root, leaves}
+use Rattle.layout.specs.Walk.{Context, Placed, leafOf, Walked, alongList, besideList, leafWalked, child, lay, joinWalked, noneWalked, walk, children, root}
+use Rattle.layout.specs.Walk.{leaves}
 use Rattle.blank.specs.Alike.{recast, recast*}
 use Rattle.alike.proofs.ReplacedBytes.{empty-recast, count-recast, nodes-recast, allot-recast, spare-recast, natural-recast}
 use Rattle.alike.proofs.RelatedBytes.{Rows, rows-append, rows-paired}

@@ -8,7 +8,8 @@ use Rattle.common.specs.Choice.{pick, both}
 use Rattle.splits.specs.Splits.{named, isNamed}
 use Rattle.settings.specs.declared.Settings.{Settings}
 use Rattle.text.specs.Text.{textWidth, textHeight}
-use Rattle.text.proofs.JoinedLines.{Free, NoFeed, free-append, free-replicate, free-spaces, more, no-feed-append, no-feed-lines, no-feed-map, no-feed-replicate, none}
+use Rattle.text.proofs.JoinedLines.{Free, NoFeed, free-append, free-replicate, free-spaces, more, no-feed-append, no-feed-lines, no-feed-map, no-feed-replicate}
+use Rattle.text.proofs.JoinedLines.{none}
 use Rattle.sizes.specs.declared.Size.{Size}
 use Rattle.sizes.specs.Sizes.{sep}
 use Rattle.block.specs.declared.Flags.{Flags}

@@ -13,7 +13,8 @@ use Rattle.common.specs.Outcome.{Outcome}
 use Rattle.tree.specs.Reading.{ReadOne, readTree}
 use Rattle.tree.specs.Accepted.{element}
 use Rattle.tree.proofs.Sound.{tree-refusal}
-use Rattle.drafts.specs.Store.{isName, tagFor, hasTag, fieldsOf, fieldBytes, storeOf, withoutTag, draftOf, saveTree, saveOf, forgetOf, returnFound, returnOf}
+use Rattle.drafts.specs.Store.{isName, tagFor, hasTag, fieldsOf, fieldBytes, storeOf, withoutTag, draftOf, saveTree, saveOf, forgetOf, returnFound}
+use Rattle.drafts.specs.Store.{returnOf}
 use Rattle.drafts.specs.Promises.{nameIn, OfForm, DraftCall, answerTo, storeAfter, lastSaved, Formed}
 use Rattle.drafts.proofs.Fields.{read-store, fields-without, without-gone, without-shorter, joined-last, fields-last, element-field}
 use Rattle.drafts.proofs.Formed.{store-parsed, used-and-zeros}

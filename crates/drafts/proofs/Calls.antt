@@ -11,7 +11,8 @@ use Rattle.common.specs.Choice.{pick}
 use Rattle.common.specs.Outcome.{Outcome}
 use Rattle.tree.specs.Reading.{ReadOne, readTree, treeAnswer}
 use Rattle.drafts.specs.declared.Returned.{Returned}
-use Rattle.drafts.specs.Store.{isName, tagFor, hasTag, fieldsOf, fieldBytes, withoutTag, draftOf, saveTree, saveIn, saveOf, forgetIn, forgetOf, noReturn, returnFound, returnIn, returnOf}
+use Rattle.drafts.specs.Store.{isName, tagFor, hasTag, fieldsOf, fieldBytes, withoutTag, draftOf, saveTree, saveIn, saveOf, forgetIn, forgetOf, noReturn}
+use Rattle.drafts.specs.Store.{returnFound, returnIn, returnOf}
 use Rattle.drafts.specs.Promises.{TreeRead, DraftCall, save, forget, return, answerTo}
 use Rattle.drafts.proofs.OpenedStore.{tree-read}
 

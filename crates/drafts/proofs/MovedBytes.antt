@@ -4,11 +4,13 @@ use Prim.Native.Nat.{ℕ, suc, _+_, _-_, _/_, _%_, _≤_, _<_}
 use native.Mathlib.Omega.{arith}
 use native.Mathlib.Numerals.{add-one}
 use mathlib.Core.List.{List, [], _∷_, _++_, append-assoc, append-nil}
-use lib.ListN.{length, getD, set, take, drop, replicate, length-append, length-replicate, length-drop, length-set, getD-replicate, drop-of-length-le, take-append-drop, replicate-append-replicate}
+use lib.ListN.{length, getD, set, take, drop, replicate, length-append, length-replicate, length-drop, length-set, getD-replicate, drop-of-length-le}
+use lib.ListN.{take-append-drop, replicate-append-replicate}
 use native.Mathlib.Nat.{add-suc}
 use Rattle.common.proofs.Copies.{Copied, copied-none, copied-more, copied-all, copied-after}
 use Rattle.tree.specs.Accepted.{element}
-use lib.Seq.{sets, sets-eq, set-split, set-at, drop-cons, paste, length-paste, take-paste, getD-drop, take-at, drop-at, take-all, length-take-le, take-take, drop-drop, drop-append-le}
+use lib.Seq.{sets, sets-eq, set-split, set-at, drop-cons, paste, length-paste, take-paste, getD-drop, take-at, drop-at, take-all, length-take-le, take-take}
+use lib.Seq.{drop-drop, drop-append-le}
 
 -- ---- down over a gap
 

@@ -16,13 +16,15 @@ use Rattle.common.proofs.Stores.{sets-front}
 use Rattle.tree.specs.Reading.{ReadOne, readTree, treeAnswer}
 use Rattle.tree.specs.Accepted.{element}
 use Rattle.tree.proofs.Sound.{tree-refusal, tree-sound}
-use Rattle.drafts.specs.Store.{isName, tagFor, hasTag, fieldsOf, fieldBytes, storeOf, withoutTag, draftOf, saveTree, saveIn, saveOf, forgetIn, forgetOf, noReturn, returnFound, returnIn, returnOf}
+use Rattle.drafts.specs.Store.{isName, tagFor, hasTag, fieldsOf, fieldBytes, storeOf, withoutTag, draftOf, saveTree, saveIn, saveOf, forgetIn, forgetOf}
+use Rattle.drafts.specs.Store.{noReturn, returnFound, returnIn, returnOf}
 use Rattle.drafts.specs.Contracts.{noField, fieldFrom, scanOf, refusedOpen, openedOf}
 use Rattle.drafts.specs.Promises.{TreeRead, Field, Fields, Formed}
 use Rattle.drafts.specs.declared.scan.FieldAt.{FieldAt}
 use Rattle.drafts.specs.declared.scan.Scan.{Scan}
 use Rattle.drafts.specs.declared.Opened.{Opened}
-use Rattle.drafts.proofs.Formed.{store-parsed, FieldIn, field-in, field-absent, used-and-zeros, zeros-behind, at-within, at-used, gap-store, body-is, others-is, size-low}
+use Rattle.drafts.proofs.Formed.{store-parsed, FieldIn, field-in, field-absent, used-and-zeros, zeros-behind, at-within, at-used, gap-store, body-is}
+use Rattle.drafts.proofs.Formed.{others-is, size-low}
 
 fields-mid : (front : List (List ℕ)) (f : List ℕ) (back : List (List ℕ)) → Fields (front ++ (f ∷ back)) → Field f
 fields-mid [] f back k = k .0

@@ -14,9 +14,11 @@ use Rattle.tree.specs.Tree.{Tree}
 use Rattle.tree.specs.Reading.{ReadOne, readTree}
 use Rattle.tree.specs.Accepted.{element}
 use Rattle.tree.proofs.Sound.{tree-refusal}
-use Rattle.drafts.specs.Store.{isName, tagFor, isTag, hasTag, fieldsOf, fieldBytes, storeOf, withoutTag, draftOf, saveTree, saveOf, forgetOf, returnFound, returnOf}
+use Rattle.drafts.specs.Store.{isName, tagFor, isTag, hasTag, fieldsOf, fieldBytes, storeOf, withoutTag, draftOf, saveTree, saveOf, forgetOf, returnFound}
+use Rattle.drafts.specs.Store.{returnOf}
 use Rattle.drafts.specs.Promises.{nameIn, DraftCall, save, forget, return, answerTo, storeAfter, noted, lastSaved, Fields}
-use Rattle.drafts.proofs.Fields.{read-store, store-of-length, fields-without, without-gone, without-shorter, joined-last, fields-last, found-other, found-none, found-last, found-before, element-field}
+use Rattle.drafts.proofs.Fields.{read-store, store-of-length, fields-without, without-gone, without-shorter, joined-last, fields-last, found-other}
+use Rattle.drafts.proofs.Fields.{found-none, found-last, found-before, element-field}
 
 -- ---- names
 

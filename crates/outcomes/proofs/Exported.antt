@@ -33,8 +33,10 @@ use Rattle.c_encoding.specs.Numbers.{refusal, written, offered, settingsNumbers
 use Rattle.c_encoding.specs.Cuts.{refusedBy, unless, writtenTwo, keptGiven, shortGiven, splits3Given, lentGiven, splitsGiven}
 use Rattle.c_encoding.specs.Places.{placeNumbers, placeGiven}
 use Rattle.c_encoding.specs.Plans.{endsWord}
-use Rattle.outcomes.specs.Promises.{Among, Answers, inputIn, ofShare, ofSizes, ofRecord, ofLeaf, ofPlace, ofLegSettings, ofLegPlace, ofLegCut, ExportNumbers}
-use Rattle.outcomes.specs.Figures.{leg-settings-met, leg-margin-met, leg-sizes-met, leg-record-met, leg-place-met, leg-splits3-met, leg-lent-met, leg-splits-met, leg-share-met}
+use Rattle.outcomes.specs.Promises.{Among, Answers, inputIn, ofShare, ofSizes, ofRecord, ofLeaf, ofPlace, ofLegSettings, ofLegPlace, ofLegCut}
+use Rattle.outcomes.specs.Promises.{ExportNumbers}
+use Rattle.outcomes.specs.Figures.{leg-settings-met, leg-margin-met, leg-sizes-met, leg-record-met, leg-place-met, leg-splits3-met, leg-lent-met}
+use Rattle.outcomes.specs.Figures.{leg-splits-met, leg-share-met}
 use Rattle.outcomes.proofs.Numbers.{call-numbers, number-of, input-among}
 
 -- ---- a call's answer, packed

@@ -30,7 +30,8 @@ use Rattle.splits.specs.Splits.{shortSplits3, shortSplits}
 use Rattle.splits.specs.Lists.{listOf}
 use Rattle.splits.specs.Cuts.{cutAnswered, refusedCut, cutOf, inPlaceCut, answeredShort, refusedShort, shortOf}
 use Rattle.text.specs.Text.{joinLines}
-use Rattle.drafts.specs.Store.{isName, tagFor, hasTag, fieldsOf, fieldBytes, storeOf, withoutTag, draftOf, saveTree, saveIn, saveOf, forgetIn, forgetOf, noReturn, returnFound, returnIn, returnOf}
+use Rattle.drafts.specs.Store.{isName, tagFor, hasTag, fieldsOf, fieldBytes, storeOf, withoutTag, draftOf, saveTree, saveIn, saveOf, forgetIn, forgetOf}
+use Rattle.drafts.specs.Store.{noReturn, returnFound, returnIn, returnOf}
 use Rattle.sharing.specs.declared.Shared.{Shared}
 use Rattle.sharing.specs.Sharing.{shareOf, share}
 use Rattle.sizes.specs.Sizes.{naturals}
@@ -69,8 +70,10 @@ use Rattle.fold.specs.declared.Folded.{Folded}
 use Rattle.widen.specs.declared.Widened.{Widened}
 use Rattle.drafts.specs.declared.Returned.{Returned}
 use Rattle.blank.specs.declared.Blanked.{Blanked}
-use Rattle.outcomes.specs.Promises.{Among, inputIn, ofSettings, ofTree, ofCut, ofShare, ofSizes, ofRecord, ofLeaf, ofSheet, ofPlace, ofPlaces, ofFold, ofPlan, ofSave, ofForget, ofReturn, ofBlank, ofTyped, CallNumbers}
-use Rattle.outcomes.specs.Figures.{settings-met, tree-met, cut-met, kept-met, short-met, share-met, collect-met, record-met, leaf-met, sheet-met, place-met, places-met, fold-met, plan-met, nearest-met, save-met, forget-met, return-met, blank-met}
+use Rattle.outcomes.specs.Promises.{Among, inputIn, ofSettings, ofTree, ofCut, ofShare, ofSizes, ofRecord, ofLeaf, ofSheet, ofPlace, ofPlaces, ofFold}
+use Rattle.outcomes.specs.Promises.{ofPlan, ofSave, ofForget, ofReturn, ofBlank, ofTyped, CallNumbers}
+use Rattle.outcomes.specs.Figures.{settings-met, tree-met, cut-met, kept-met, short-met, share-met, collect-met, record-met, leaf-met, sheet-met}
+use Rattle.outcomes.specs.Figures.{place-met, places-met, fold-met, plan-met, nearest-met, save-met, forget-met, return-met, blank-met}
 use Rattle.outcomes.specs.TypedFigures.{typed-met}
 
 -- ---- cases

@@ -37,7 +37,11 @@ use Rattle.places.specs.Together.{findsOf}
 use Rattle.c_encoding.specs.Numbers.{refusal, written, readGiven, sizeNumbers, sizesGiven, recordGiven}
 use Rattle.c_encoding.specs.Cuts.{refusedBy, splits3Given, writtenTwo, keptGiven, lentGiven, shortGiven, splitsGiven}
 use Rattle.c_encoding.specs.Places.{placeGiven}
-use Rattle.outcomes.specs.Promises.{Met, Handed, legSettings, legMargin, legSizes, legRecord, legPlace, legSplits3, legLent, legSplits, legShare, ofLegSettings, ofLegPlace, ofLegCut, ofSettings, ofTree, ofCut, ofShare, ofSizes, ofRecord, ofLeaf, ofSheet, ofPlace, ofPlaces, ofFold, ofPlan, ofSave, ofForget, ofReturn, ofBlank, settingsNumber, treeNumber, cutNumber, keptNumber, shortNumber, shareNumber, collectNumber, recordNumber, leafNumber, sheetNumber, placeNumber, placesNumber, foldNumber, planNumber, nearestNumber, saveNumber, forgetNumber, returnNumber, blankNumber}
+use Rattle.outcomes.specs.Promises.{Met, Handed, legSettings, legMargin, legSizes, legRecord, legPlace, legSplits3, legLent, legSplits, legShare}
+use Rattle.outcomes.specs.Promises.{ofLegSettings, ofLegPlace, ofLegCut, ofSettings, ofTree, ofCut, ofShare, ofSizes, ofRecord, ofLeaf, ofSheet, ofPlace}
+use Rattle.outcomes.specs.Promises.{ofPlaces, ofFold, ofPlan, ofSave, ofForget, ofReturn, ofBlank, settingsNumber, treeNumber, cutNumber, keptNumber}
+use Rattle.outcomes.specs.Promises.{shortNumber, shareNumber, collectNumber, recordNumber, leafNumber, sheetNumber, placeNumber, placesNumber, foldNumber}
+use Rattle.outcomes.specs.Promises.{planNumber, nearestNumber, saveNumber, forgetNumber, returnNumber, blankNumber}
 
 -- ---- settings
 

@@ -16,7 +16,8 @@ use Rattle.block.specs.declared.Flags.{Flags}
 use Rattle.paint.specs.declared.borders.Borders.{Borders}
 use Rattle.block.specs.Block.{Leaf, body, topLine, middle, bottomLine, block, blockHeight, blockWidth}
 use Rattle.common.specs.Writing.{Wrote}
-use Rattle.paint.specs.Contracts.{pasted, Room, leafWith, Paintable, spaceLines, bordersOf, topOf, leftOf, rightOf, bottomOf, columnsIn, Lined, begunOf, BodyBegins, Rest, endedOf, middleOf}
+use Rattle.paint.specs.Contracts.{pasted, Room, leafWith, Paintable, spaceLines, bordersOf, topOf, leftOf, rightOf, bottomOf, columnsIn, Lined, begunOf}
+use Rattle.paint.specs.Contracts.{BodyBegins, Rest, endedOf, middleOf}
 use Rattle.paint.specs.declared.Begun.{Begun}
 use Rattle.block.proofs.Dimensions.{dims-paired}
 use Rattle.block.proofs.Dims.{body-dims, left-dims, edges-dims, middle-dims}

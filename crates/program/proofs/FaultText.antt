@@ -12,7 +12,8 @@ use Rattle.common.specs.Choice.{pick}
 use Rattle.common.specs.Writing.{Wrote}
 use Rattle.common.proofs.Stores.{sets-append}
 use Rattle.common.proofs.Copies.{then-wrote}
-use Rattle.program.specs.Words.{digits, decimal, words30, words31, words32, words33, words34, words35, words36, words37, words38, words39, wordsLarge, faultWords, lineText, columnText, colonText, placeText, faultText}
+use Rattle.program.specs.Words.{digits, decimal, words30, words31, words32, words33, words34, words35, words36, words37, words38, words39, wordsLarge}
+use Rattle.program.specs.Words.{faultWords, lineText, columnText, colonText, placeText, faultText}
 
 -- ---- digits
 

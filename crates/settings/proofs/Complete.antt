@@ -13,7 +13,8 @@ use Rattle.settings.specs.declared.Settings.{Settings}
 use Rattle.settings.specs.declared.Margin.{Margin}
 use Rattle.settings.specs.declared.Alignment.{Alignment}
 use Rattle.settings.specs.declared.Priority.{Priority}
-use Rattle.settings.specs.Reading.{low, high, marginLow, marginHigh, within, alignmentOf, priorityOf, marginOf, noMargin, settingsOf, read, readBehind, readForm, readSettings}
+use Rattle.settings.specs.Reading.{low, high, marginLow, marginHigh, within, alignmentOf, priorityOf, marginOf, noMargin, settingsOf, read, readBehind}
+use Rattle.settings.specs.Reading.{readForm, readSettings}
 use Rattle.settings.specs.Promises.{Bounded, Ranges}
 use Rattle.settings.proofs.Within.{bare-form, lined-form}
 use Rattle.settings.specs.Defaults.{alignmentNumber, priorityNumber, settingsBytes, marginBytes}

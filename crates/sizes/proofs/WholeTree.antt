@@ -12,7 +12,8 @@ use Rattle.sizes.specs.declared.Size.{Size}
 use Rattle.sizes.specs.declared.natural.Node.{Node}
 use Rattle.sizes.specs.Sizes.{natural, allot, spareOf, childSize, sizes, sizes*, treeSizes}
 use Rattle.sizes.specs.Listed.{flat}
-use Rattle.sizes.specs.Contracts.{putSizes, Holds, ReadyRoot, ReadyTree, Collects, Allots, Measures, naturalSizes, naturalSizes*, allottedSize, naturalAt, Here, Allotted, AllottedIn, naturalSize}
+use Rattle.sizes.specs.Contracts.{putSizes, Holds, ReadyRoot, ReadyTree, Collects, Allots, Measures, naturalSizes, naturalSizes*, allottedSize, naturalAt}
+use Rattle.sizes.specs.Contracts.{Here, Allotted, AllottedIn, naturalSize}
 use Rattle.sizes.proofs.Fill.{fits-refl}
 use Rattle.sizes.proofs.Within.{sizes-length, tree-sizes-length}
 use Rattle.sizes.proofs.Naturals.{natural-sizes-length}

@@ -68,7 +68,8 @@ use Rattle.sheet.proofs.Tiling.{Covers}
 use Rattle.sheet.proofs.Demand3.{covered-once, sheet-rectangle, place-owned}
 use Rattle.sheet.proofs.Calls.{sheet-printed}
 use Rattle.leaf.proofs.Written.{leaf-written}
-use Rattle.tiling.specs.Promises.{sizesWritten, allottedWritten, linesIn, byteIn, Rectangle, OneNode, leafText, startIn, blockLines, blockColumns, BlockCovers, leafSeen, insideLines, insideColumns, InRectangle, Tiles, Sharing, Tiled, SharedOut}
+use Rattle.tiling.specs.Promises.{sizesWritten, allottedWritten, linesIn, byteIn, Rectangle, OneNode, leafText, startIn, blockLines, blockColumns}
+use Rattle.tiling.specs.Promises.{BlockCovers, leafSeen, insideLines, insideColumns, InRectangle, Tiles, Sharing, Tiled, SharedOut}
 
 -- ---- what the size collector wrote: the sizes of all nodes, and the counts of nodes below them
 

@@ -12,7 +12,8 @@ use Rattle.tree.specs.Tree.{Axis}
 use Rattle.tree.specs.Bytes.{lengthAt, axisOf}
 use Rattle.tree.specs.Promises.{contents, PlanEncodes, PlanEncodesAll}
 use Rattle.tree.specs.Reading.{isText}
-use Rattle.tree.specs.Planning.{Plan, Plans, headerIn, oddRange, lastTag, isRange, PlanOne, PlanAll, cellIn, rangeIn, groupIn, moreIn, elementIn, sequenceIn, wholeIn}
+use Rattle.tree.specs.Planning.{Plan, Plans, headerIn, oddRange, lastTag, isRange, PlanOne, PlanAll, cellIn, rangeIn, groupIn, moreIn, elementIn}
+use Rattle.tree.specs.Planning.{sequenceIn, wholeIn}
 use Rattle.tree.specs.declared.Header.{Header}
 use Rattle.tree.specs.declared.Header.the-variants.{Fault, Element}
 use Rattle.tree.proofs.Fronts.{contents-length, tag-low, tag-high, axis-of}

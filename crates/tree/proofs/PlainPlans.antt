@@ -8,7 +8,8 @@ use lib.ListN.{drop}
 use Rattle.tree.specs.Tree as tree
 use Rattle.tree.specs.Tree.{Tree, Trees, nodes, nodes*}
 use Rattle.tree.specs.Bytes.{lengthAt}
-use Rattle.tree.specs.Promises.{Texts, Texts*, GotTree, Encodes, EncodesAll, contents, PlanEncodes, PlanEncodesAll, planNodes, planNodes*, planDepth, planDepth*, Allowed, Allowed*, GotPlan, depth, depth*, treeOf, treesOf}
+use Rattle.tree.specs.Promises.{Texts, Texts*, GotTree, Encodes, EncodesAll, contents, PlanEncodes, PlanEncodesAll, planNodes, planNodes*, planDepth}
+use Rattle.tree.specs.Promises.{planDepth*, Allowed, Allowed*, GotPlan, depth, depth*, treeOf, treesOf}
 use Rattle.tree.specs.Planning.{Plan, Plans}
 
 pub no-range : {A : Type 0} → false ≡ true → A

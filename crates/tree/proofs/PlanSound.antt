@@ -13,8 +13,10 @@ use borrow.Author.Tests.{ltb-false, leb-false, eqb-true, eqb-false}
 use Rattle.common.specs.Choice.{pick, both}
 use Rattle.tree.specs.Bytes.{lengthAt, tagOf, axisOf}
 use Rattle.tree.specs.Reading.{isText}
-use Rattle.tree.specs.Planning.{Plan, Plans, headerIn, oddRange, lastTag, isRange, PlanOne, PlanAll, elementIn, sequenceIn, wholeIn, groupIn, moreIn, cellIn, rangeIn}
-use Rattle.tree.specs.Promises.{planNodes, planNodes*, planDepth, planDepth*, PlanEncodes, PlanEncodesAll, GoodRange, Allowed, Allowed*, GotPlan, PlanRefusal}
+use Rattle.tree.specs.Planning.{Plan, Plans, headerIn, oddRange, lastTag, isRange, PlanOne, PlanAll, elementIn, sequenceIn, wholeIn, groupIn, moreIn}
+use Rattle.tree.specs.Planning.{cellIn, rangeIn}
+use Rattle.tree.specs.Promises.{planNodes, planNodes*, planDepth, planDepth*, PlanEncodes, PlanEncodesAll, GoodRange, Allowed, Allowed*, GotPlan}
+use Rattle.tree.specs.Promises.{PlanRefusal}
 use Rattle.tree.specs.declared.Header.{Header}
 use Rattle.tree.specs.declared.Header.the-variants.{Fault, Element}
 

@@ -20,7 +20,8 @@ use Rattle.tree.proofs.Complete.{tree-bytes}
 use Rattle.text.specs.Text.{lines}
 use Rattle.typed.specs.declared.scan.ScanState.{ScanState}
 use Rattle.typed.specs.Text.{Text, wrong, text, typedText}
-use Rattle.typed.specs.Line.{Item, cell, group, ownText, OneLine, skip, fault, node, isRow, isColumn, levelOf, cellAt, plainLine, oneLineOf, withoutReturn, spaces}
+use Rattle.typed.specs.Line.{Item, cell, group, ownText, OneLine, skip, fault, node, isRow, isColumn, levelOf, cellAt, plainLine, oneLineOf}
+use Rattle.typed.specs.Line.{withoutReturn, spaces}
 use Rattle.typed.specs.Scan.{TypedNode, stopped, found, placeFault, nextOf, scanFrom, noneYet, scanLines}
 use Rattle.typed.specs.Contracts.{totalOf, Chained}
 use Rattle.typed.specs.Typed.{parent, push, treesAt, rootOf}

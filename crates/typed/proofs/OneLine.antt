@@ -15,7 +15,8 @@ use Rattle.common.specs.Choice.{pick, both}
 use Rattle.tree.specs.Tree.{Axis, across, down}
 use Rattle.tree.specs.Bytes.{tagOf}
 use Rattle.typed.specs.Text.{Text, wrong, text, textFrom, typedText}
-use Rattle.typed.specs.Line.{Item, cell, group, OneLine, skip, fault, node, withoutReturn, spaces, sameBytes, isRow, isColumn, levelOf, cellAt, cellLine, plainLine, plainOf, oneLineOf}
+use Rattle.typed.specs.Line.{Item, cell, group, OneLine, skip, fault, node, withoutReturn, spaces, sameBytes, isRow, isColumn, levelOf, cellAt, cellLine}
+use Rattle.typed.specs.Line.{plainLine, plainOf, oneLineOf}
 use Rattle.typed.specs.Contracts.{wordKind, noLine, levelLine, TextAt, LineTold, checkedText}
 use Rattle.typed.specs.declared.typed_text.TextCheck.{TextCheck}
 use Rattle.typed.specs.declared.line.Line.{Line}

@@ -19,7 +19,8 @@ use Rattle.typed.specs.declared.scan.NodeSpot.{NodeSpot}
 use Rattle.typed.specs.declared.scan.ScanState.{ScanState}
 use Rattle.typed.specs.declared.scan.Scanned.{Scanned}
 use Rattle.typed.specs.Line.{Item, cell, group, ownText, OneLine, skip, fault, node, oneLineOf}
-use Rattle.typed.specs.Contracts.{itemTag, TextAt, LineTold, lineFault, nextLine, spotFor, noSpot, noNode, SmallLine, Spotted, SpotsHeld, totalOf, ScanTold}
+use Rattle.typed.specs.Contracts.{itemTag, TextAt, LineTold, lineFault, nextLine, spotFor, noSpot, noNode, SmallLine, Spotted, SpotsHeld, totalOf}
+use Rattle.typed.specs.Contracts.{ScanTold}
 use Rattle.typed.specs.Scan.{TypedNode, TypedScan, stopped, found, adding, placeFault, levelUnder, nextOf, scanFrom, noneYet, scanLines}
 use Rattle.typed.proofs.Texts.{text-short}
 use Rattle.typed.proofs.OneLine.{text-in}

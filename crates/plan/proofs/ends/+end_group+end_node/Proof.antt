@@ -12,7 +12,8 @@ use Rattle.tree.specs.Bytes.{lengthAt}
 use Rattle.plan.specs.Contracts.{ReadyPlan, ReadyPlans}
 use Rattle.plan.proofs.Fronts.{front-asks, end-in, inside-shorter}
 use Rattle.plan.proofs.Passing.{SomePlans, MorePlans, turn, over, next-whole}
-use Rattle.plan.proofs.Turns.{Turn, begins, kid-ready, child-asks, next, span-asks, ends, range-asks, range-gives, leaf-asks, leaf-gives, group-ready, group-gives}
+use Rattle.plan.proofs.Turns.{Turn, begins, kid-ready, child-asks, next, span-asks, ends, range-asks, range-gives, leaf-asks, leaf-gives, group-ready}
+use Rattle.plan.proofs.Turns.{group-gives}
 use Rattle.plan.proofs.ends.end_group.Reads as end-group
 use Rattle.plan.proofs.ends.end_group.Kinds as end-group-kinds
 use Rattle.plan.proofs.ends.+end_group+end_node.Lts-end_group as end-group-lts

@@ -5,7 +5,8 @@ use Prim.Native.Nat.{_+_, _-_}
 use mathlib.Core.Logic.{⊎-elim}
 use lib.ListN.{length}
 use Rattle.text.proofs.Lines.{line-from, line-in}
-use Rattle.typed.proofs.Scanned.{reading-next, reading-same, reading-room, line-long, Reading, reading-none, numbers-small, reading-stop, reading-empty, reading-all}
+use Rattle.typed.proofs.Scanned.{reading-next, reading-same, reading-room, line-long, Reading, reading-none, numbers-small, reading-stop, reading-empty}
+use Rattle.typed.proofs.Scanned.{reading-all}
 use Rattle.typed.proofs.scan.scan.Statement.{statement}
 use Rattle.typed.proofs.scan.scan.Tie as tie
 

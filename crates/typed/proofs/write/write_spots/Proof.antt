@@ -6,7 +6,8 @@ use mathlib.Core.List.{List}
 use lib.ListN.{length}
 use Rattle.typed.specs.Scan.{TypedNode}
 use Rattle.typed.specs.Contracts.{ReadyNodes}
-use Rattle.typed.proofs.Written.{writing-long, NodesWriting, writing-none, level-low, inside-small, room-before, grown-small, spot-ready, writing-more, writing-all}
+use Rattle.typed.proofs.Written.{writing-long, NodesWriting, writing-none, level-low, inside-small, room-before, grown-small, spot-ready, writing-more}
+use Rattle.typed.proofs.Written.{writing-all}
 use Rattle.typed.proofs.write.write_spots.Statement.{statement}
 use Rattle.typed.proofs.write.write_spots.Tie as tie
 
