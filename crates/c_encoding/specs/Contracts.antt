@@ -9,7 +9,9 @@ use Rattle.leaf.specs.declared.LeafRecord.{LeafRecord}
 
 -- the last five of them
 abbrev pub choiceNumbers : Settings → List ℕ
-choiceNumbers s = alignmentNumber (s .horizontal) ∷ alignmentNumber (s .vertical) ∷ pick (s .«line_mode») 1 0 ∷ priorityNumber (s .«width_priority») ∷ priorityNumber (s .«height_priority») ∷ []
+choiceNumbers s =
+    alignmentNumber (s .horizontal) ∷ alignmentNumber (s .vertical) ∷ pick (s .«line_mode») 1 0
+    ∷ priorityNumber (s .«width_priority») ∷ priorityNumber (s .«height_priority») ∷ []
 
 -- four numbers of a list and one of another, alternately, n times
 unfoldable pub fives : ℕ → List ℕ → List ℕ → List ℕ

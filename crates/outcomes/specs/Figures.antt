@@ -176,7 +176,8 @@ unfolding refusals foldOf list? cells? count fold.listedTrees foldCells naturals
 fold-met = record {
   inputs =
       on plainSettings columnOfOne (1, 0, 0 ∷ [])
-      ∷ (refusals (0, 0, []) ++ (on plainSettings emptyCell (0, 0, []) ∷ on plainSettings columnOfOne (0, 0, []) ∷ on plainSettings columnOfOne (1, 0, []) ∷ []));
+      ∷ (refusals (0, 0, [])
+      ++ (on plainSettings emptyCell (0, 0, []) ∷ on plainSettings columnOfOne (0, 0, []) ∷ on plainSettings columnOfOne (1, 0, []) ∷ []));
   each = refl;
 }
 
@@ -223,7 +224,8 @@ pub save-met : Met saveNumber ofSave
 unfolding refusals saveOf
 save-met = record {
   inputs =
-      (replicate 6 0, 65, emptyCell) ∷ (1 ∷ [], 65, emptyCell) ∷ ([], 64, emptyCell) ∷ (map (λ (t : List ℕ). ([], 65, t)) badTrees ++ (([], 65, emptyCell) ∷ []));
+      (replicate 6 0, 65, emptyCell) ∷ (1 ∷ [], 65, emptyCell) ∷ ([], 64, emptyCell)
+      ∷ (map (λ (t : List ℕ). ([], 65, t)) badTrees ++ (([], 65, emptyCell) ∷ []));
   each = refl;
 }
 

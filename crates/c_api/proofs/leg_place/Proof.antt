@@ -18,7 +18,8 @@ pack-requires-2 : tie.Need-pack-requires-2
 pack-requires-2 c κs = search needs
 
 returns-2 : tie.Need-returns-2
-returns-2 c = place-short _ _ _ (c .before .before .before .before .leaf-at .ensures) (c .before .before .if1 .left) _ (c .before .if2 .taken) (c .pack2 .ensures)
+returns-2 c =
+    place-short _ _ _ (c .before .before .before .before .leaf-at .ensures) (c .before .before .if1 .left) _ (c .before .if2 .taken) (c .pack2 .ensures)
 
 put-place-requires : tie.Need-put-place-requires
 put-place-requires c κs =

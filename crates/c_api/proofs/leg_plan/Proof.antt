@@ -19,7 +19,9 @@ pack-requires-2 : tie.Need-pack-requires-2
 pack-requires-2 c κs = search needs
 
 returns-2 : tie.Need-returns-2
-returns-2 c = ends-come _ _ (c .before .before .before .before .before .plan-sheet .ensures) _ _ (c .before .before .before .if1 .left) (c .pack2 .ensures) _ (c .before .put-ends .ensures)
+returns-2 c =
+    ends-come _ _ (c .before .before .before .before .before .plan-sheet .ensures) _ _ (c .before .before .before .if1 .left) (c .pack2 .ensures) _
+    (c .before .put-ends .ensures)
 
 pub leg-plan-spec : {M : Type 1} → statement M
 leg-plan-spec =

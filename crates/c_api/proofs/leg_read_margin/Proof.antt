@@ -17,7 +17,9 @@ pack-requires-2 : tie.Need-pack-requires-2
 pack-requires-2 c κs = search needs
 
 returns-2 : tie.Need-returns-2
-returns-2 c = read-short 8 marginNumbers margin-many _ _ _ (c .before .before .before .before .read-settings .ensures) (c .before .before .if1 .left) _ (c .before .if2 .taken) (c .pack2 .ensures)
+returns-2 c =
+    read-short 8 marginNumbers margin-many _ _ _ (c .before .before .before .before .read-settings .ensures) (c .before .before .if1 .left) _
+    (c .before .if2 .taken) (c .pack2 .ensures)
 
 put-margin-requires : tie.Need-put-margin-requires
 put-margin-requires c κs = c .before .before .if2 .left
@@ -29,7 +31,10 @@ same-length : tie.Need-same-length
 same-length c = search needs
 
 returns-3 : tie.Need-returns-3
-returns-3 c = read-written 8 marginNumbers margin-many _ _ _ (c .before .before .before .before .before .before .before .before .before .read-settings .ensures) (c .before .before .before .before .before .before .before .if1 .left) _ _ (c .before .before .before .before .before .before .if2 .left) (c .pack3 .ensures) (c .before .before .before .put-margin .ensures)
+returns-3 c =
+    let tested = c .before .before .before .before .before .before in
+    read-written 8 marginNumbers margin-many _ _ _ (tested .before .before .before .read-settings .ensures) (tested .before .if1 .left) _ _ (tested .if2 .left)
+    (c .pack3 .ensures) (c .before .before .before .put-margin .ensures)
 
 pub leg-read-margin-spec : {M : Type 1} → statement M
 leg-read-margin-spec =

@@ -17,7 +17,9 @@ pack-requires-2 : tie.Need-pack-requires-2
 pack-requires-2 c κs = search needs
 
 returns-2 : tie.Need-returns-2
-returns-2 c = read-short 28 settingsNumbers settings-many _ _ _ (c .before .before .before .before .read-settings .ensures) (c .before .before .if1 .left) _ (c .before .if2 .taken) (c .pack2 .ensures)
+returns-2 c =
+    read-short 28 settingsNumbers settings-many _ _ _ (c .before .before .before .before .read-settings .ensures) (c .before .before .if1 .left) _
+    (c .before .if2 .taken) (c .pack2 .ensures)
 
 put-settings-requires : tie.Need-put-settings-requires
 put-settings-requires c κs =
@@ -30,7 +32,10 @@ same-length : tie.Need-same-length
 same-length c = search needs
 
 returns-3 : tie.Need-returns-3
-returns-3 c = read-written 28 settingsNumbers settings-many _ _ _ (c .before .before .before .before .before .before .before .before .before .read-settings .ensures) (c .before .before .before .before .before .before .before .if1 .left) _ _ (c .before .before .before .before .before .before .if2 .left) (c .pack3 .ensures) (c .before .before .before .put-settings .ensures)
+returns-3 c =
+    let tested = c .before .before .before .before .before .before in
+    read-written 28 settingsNumbers settings-many _ _ _ (tested .before .before .before .read-settings .ensures) (tested .before .if1 .left) _ _
+    (tested .if2 .left) (c .pack3 .ensures) (c .before .before .before .put-settings .ensures)
 
 pub leg-read-settings-spec : {M : Type 1} → statement M
 leg-read-settings-spec =

@@ -62,9 +62,10 @@ returns-2 c =
     let k = c .before .before .before .before .before .before .before .before .before .before .before .short-splits in
     let h : length (k .result .positions .entries) ≡ 512 = search needs in
     let g : length (k .result .left .pieces) ≡ 512 = search needs in
-    splits-written _ _ _ _ _ _
-    (rw (c .before .before .before .before .before .before .before .before .before .before .before .before .before .before .before .min .ensures) at
-    (c .before .before .before .before .before .before .before .before .before .before .before .before .before .before .refused-by .ensures)) (c .before .before .before .before .before .before .before .before .before .before .before .before .before .if1 .left) _ (c .before .before .before .before .before .before .before .before .before .before .before .before .list-at .ensures) _ (k .ensures) _ _ _ h g (c .pack2 .ensures) (c .before .before .before .before .before .before .before .before .put-positions .ensures) (c .before .before .before .put-list .ensures)
+    let listed = c .before .before .before .before .before .before .before .before .before .before .before .before in
+    splits-written _ _ _ _ _ _ (rw (listed .before .before .before .min .ensures) at (listed .before .before .refused-by .ensures))
+    (listed .before .if1 .left) _ (listed .list-at .ensures) _ (k .ensures) _ _ _ h g (c .pack2 .ensures)
+    (c .before .before .before .before .before .before .before .before .put-positions .ensures) (c .before .before .before .put-list .ensures)
 
 pub leg-short-splits-spec : {M : Type 1} → statement M
 leg-short-splits-spec =

@@ -18,6 +18,11 @@ use Rattle.frame.proofs.refused.Reads as refused-reads
 use Rattle.layout.proofs.flags_of.Reads as flags-of-reads
 use Rattle.sizes.proofs.lists.allotted_at.Reads as allotted-at-reads
 
+-- the output keeps its length
+same : (c : tie.After-end-lines) → length (c .end-lines .last .0)
+    ≡ length (c .before .before .before .before .before .before .before .before .before .before .before .before .before .before .before .before .args .out .now)
+same c = search needs
+
 entry-at-requires : tie.Need-entry-at-requires
 entry-at-requires c κs = omega (arith, long (c .before .before .before .before .before .pre .begins))
 
@@ -57,42 +62,53 @@ returns c = λ q. print-refused (c .refused .ensures) (print-no-room (q .begins)
 
 end-lines-requires : tie.Need-end-lines-requires
 end-lines-requires c κs =
-    let q = c .before .before .before .before .before .before .before .before .before .before .before .before .before .before .before .pre in
-    ends-room (q .begins) _ (c .before .before .before .before .before .before .before .before .before .entry-at .ensures) _ (c .before .before .before .before .before .before .allotted-at .ensures .0) _
-    (c .before .before .before .before .before .flags-of .ensures) (c .before .before .before .before .before .before .allotted-at .ensures .1) _
-    (c .before .before .before .before .block-width .ensures) _ (c .before .before .before .block-height .ensures) (q .fits) _ (c .before .before .saturating-dec .ensures) _
-    (c .before .if1 .left)
+    let b = c .before .before .before .before in
+    let q = b .before .before .before .before .before .before .before .before .before .before .before .pre in
+    ends-room (q .begins) _ (b .before .before .before .before .before .entry-at .ensures) _ (b .before .before .allotted-at .ensures .0) _
+    (b .before .flags-of .ensures) (b .before .before .allotted-at .ensures .1) _ (b .block-width .ensures) _ (c .before .before .before .block-height .ensures)
+    (q .fits) _ (c .before .before .saturating-dec .ensures) _ (c .before .if1 .left)
 
 slice-write-leaf : tie.Need-slice-write-leaf
 slice-write-leaf c =
-    omega (
-      arith,
-      long (c .before .before .before .before .before .before .before .before .before .before .before .before .before .before .before .before .before .before .pre .begins),
-    )
+    let tested = c .before .before .before .before in
+    omega (arith, long (tested .before .before .before .before .before .before .before .before .before .before .before .before .before .before .pre .begins))
 
 slice-reshare-prefix-paint-leaves : tie.Need-slice-reshare-prefix-paint-leaves
 slice-reshare-prefix-paint-leaves c =
-    rw length-set
-    (in-entry (c .before .before .before .before .before .before .before .before .before .before .before .before .before .before .before .before .before .before .pre .begins) _ (c .before .before .before .before .before .before .before .before .before .before .before .before .entry-at .ensures))
+    let found = c .before .before .before .before .before .before .before .before .before .before .before .before in
+    rw length-set (in-entry (found .before .before .before .before .before .before .pre .begins) _ (found .entry-at .ensures))
 
 slice-aggregate-paint-leaves : tie.Need-slice-aggregate-paint-leaves
 slice-aggregate-paint-leaves c =
-    sym (length-take-le _ _
-    (rw length-set
-    (in-entry (c .before .before .before .before .before .before .before .before .before .before .before .before .before .before .before .before .before .before .before .pre .begins) _ (c .before .before .before .before .before .before .before .before .before .before .before .before .before .entry-at .ensures))))
+    let found = c .before .before .before .before .before .before .before .before .before .before .before .before .before in
+    sym (length-take-le _ _ (rw length-set (in-entry (found .before .before .before .before .before .before .pre .begins) _ (found .entry-at .ensures))))
 
 paint-leaves-requires : tie.Need-paint-leaves-requires
-paint-leaves-requires c κs = let q =
-    c .before .before .before .before .before .before .before .before .before .before .before .before .before .before .before .before .before .before .before .before .pre in paints (q .begins) _ (c .before .before .before .before .before .before .before .before .before .before .before .before .before .before .entry-at .ensures) _ (c .before .before .before .before .before .before .before .before .before .before .before .allotted-at .ensures .0) _ (c .before .before .before .before .before .before .before .before .before .before .flags-of .ensures) (c .before .before .before .before .before .before .before .before .before .before .before .allotted-at .ensures .1) _ (c .before .before .before .before .before .before .before .before .before .block-width .ensures) _ (c .before .before .before .before .before .before .before .before .block-height .ensures) (q .fits) _ (c .before .before .before .before .before .before .before .saturating-dec .ensures) (q .short) (c .before .before .before .before .before .before .before .before .before .before .before .before .before .before .before .before .before .before .before .before .args .out .now) (c .before .before .before .before .before .before .if1 .left) _ (search needs) _ refl
+paint-leaves-requires c κs =
+    let ended = c .before .before .before .before in
+    let tested = ended .before .before in
+    let flagged = tested .before .before .before .before in
+    let start = flagged .before .before .before .before .before .before .before .before .before .before in
+    let q = start .pre in
+    paints (q .begins) _ (flagged .before .before .before .before .entry-at .ensures) _ (flagged .before .allotted-at .ensures .0) _
+    (flagged .flags-of .ensures) (flagged .before .allotted-at .ensures .1) _ (tested .before .before .before .block-width .ensures) _
+    (tested .before .before .block-height .ensures) (q .fits) _ (tested .before .saturating-dec .ensures) (q .short) (start .args .out .now) (tested .if1 .left)
+    _ (same ended) _ refl
 
 returns-2 : tie.Need-returns-2
 returns-2 c = λ q.
-    let same : length (c .before .before .before .before .before .before .before .end-lines .last .0)
-    ≡ length (c .before .before .before .before .before .before .before .before .before .before .before .before .before .before .before .before .before .before .before .before .before .before .before .args .out .now) = search needs in
-    let p = paints (q .begins) _
-    (c .before .before .before .before .before .before .before .before .before .before .before .before .before .before .before .before .before .entry-at .ensures) _ (c .before .before .before .before .before .before .before .before .before .before .before .before .before .before .allotted-at .ensures .0) _ (c .before .before .before .before .before .before .before .before .before .before .before .before .before .flags-of .ensures) (c .before .before .before .before .before .before .before .before .before .before .before .before .before .before .allotted-at .ensures .1) _ (c .before .before .before .before .before .before .before .before .before .before .before .before .block-width .ensures) _ (c .before .before .before .before .before .before .before .before .before .before .before .block-height .ensures) (q .fits) _ (c .before .before .before .before .before .before .before .before .before .before .saturating-dec .ensures) (q .short) (c .before .before .before .before .before .before .before .before .before .before .before .before .before .before .before .before .before .before .before .before .before .before .before .args .out .now) (c .before .before .before .before .before .before .before .before .before .if1 .left) (length (c .before .before .before .before .before .before .before .end-lines .last .0)) same _ refl in
-    alone-whole (q .begins) _
-    (c .before .before .before .before .before .before .before .before .before .before .before .before .before .before .before .before .before .entry-at .ensures) _ (c .before .before .before .before .before .before .before .before .before .before .before .before .before .before .allotted-at .ensures .0) _ (c .before .before .before .before .before .before .before .before .before .before .before .before .before .flags-of .ensures) (c .before .before .before .before .before .before .before .before .before .before .before .before .before .before .allotted-at .ensures .1) _ (c .before .before .before .before .before .before .before .before .before .before .before .before .block-width .ensures) _ (c .before .before .before .before .before .before .before .before .before .before .before .block-height .ensures) (q .fits) _ (c .before .before .before .before .before .before .before .before .before .before .saturating-dec .ensures) (q .short) (c .before .before .before .before .before .before .before .before .before .before .before .before .before .before .before .before .before .before .before .before .before .before .before .args .out .now) (c .before .before .before .before .before .before .before .before .before .if1 .left) (length (c .before .before .before .before .before .before .before .end-lines .last .0)) same _ refl _ _ (c .before .before .before .before .before .before .before .end-lines .ensures) (c .before .before .paint-leaves .ensures p)
+    let ended = c .before .before .before .before .before .before .before in
+    let tested = ended .before .before in
+    let flagged = tested .before .before .before .before in
+    let out = flagged .before .before .before .before .before .before .before .before .before .before .args .out .now in
+    let p = paints (q .begins) _ (flagged .before .before .before .before .entry-at .ensures) _ (flagged .before .allotted-at .ensures .0) _
+    (flagged .flags-of .ensures) (flagged .before .allotted-at .ensures .1) _ (tested .before .before .before .block-width .ensures) _
+    (tested .before .before .block-height .ensures) (q .fits) _ (tested .before .saturating-dec .ensures) (q .short) out (tested .if1 .left) _
+    (same ended) _ refl in
+    alone-whole (q .begins) _ (flagged .before .before .before .before .entry-at .ensures) _ (flagged .before .allotted-at .ensures .0) _
+    (flagged .flags-of .ensures) (flagged .before .allotted-at .ensures .1) _ (tested .before .before .before .block-width .ensures) _
+    (tested .before .before .block-height .ensures) (q .fits) _ (tested .before .saturating-dec .ensures) (q .short) out (tested .if1 .left) _
+    (same ended) _ refl _ _ (ended .end-lines .ensures) (c .before .before .paint-leaves .ensures p)
 
 pub print-block-spec : {M : Type 1} → statement M
 print-block-spec =

@@ -21,11 +21,12 @@ print-block-requires c κs =
 
 returns-2 : tie.Need-returns-2
 returns-2 c =
-    let d = c .before .before .before .before .before .before .before .before .before .before .before .seek-leaf in
+    let tested = c .before .before .before .before .before .before .before .before in
+    let d = tested .before .before .before .seek-leaf in
     let n : length (d .last .1 .1 .1 .1 .0) ≡ 5120 = search needs in
-    let m = d .ensures .0 .meets (c .before .before .before .before .before .before .before .before .if1 .left) in
+    let m = d .ensures .0 .meets (tested .if1 .left) in
     let w = c .before .before .before .print-block .ensures (shows-part _ (part-of (d .last .1 .1 .1 .1 .0) (d .result .entry) 5120 n) (m .shows)) in
-    let e = m .print-is (c .before .before .before .before .before .before .before .before .before .before .before .before .before .before .before .before .before .args .out .now) in
+    let e = m .print-is (tested .before .before .before .before .before .before .before .before .before .args .out .now) in
     (w .0 ∙ ap (λ x. x .answer) (sym e), w .1 ∙ ap (λ x. x .memory) (sym e))
 
 pub print-leaf-spec : {M : Type 1} → statement M

@@ -29,7 +29,9 @@ allotted-at-requires c κs =
     in-list (c .before .before .before .before .before .before .before .before .pre .begins) _ (c .before .before .before .before .entry-at .ensures)
 
 returns : tie.Need-returns
-returns c = λ q. record-is (q .begins) _ (c .before .before .before .before .before .before .before .entry-at .ensures) _ (c .before .before .allotted-at .ensures .0) _ (c .before .flags-of .ensures) _ _ (c .before .before .before .before .before .list-at .ensures) (c .before .before .before .list-at2 .ensures)
+returns c = λ q.
+    record-is (q .begins) _ (c .before .before .before .before .before .before .before .entry-at .ensures) _ (c .before .before .allotted-at .ensures .0) _
+    (c .before .flags-of .ensures) _ _ (c .before .before .before .before .before .list-at .ensures) (c .before .before .before .list-at2 .ensures)
 
 pub record-at-spec : {M : Type 1} → statement M
 record-at-spec =

@@ -32,9 +32,11 @@ fits c =
 -- the entries end in the list that was lent
 front : (c : tie.After-walk-tree) → c .walk-tree .result ≤ length (c .walk-tree .last .1 .1 .1 .1 .0)
 front c =
+    let b = c .before .before .before .before .before .before .before .before .before in
+    let start = b .before .before .before .before .before .before .before .before .before .before in
     let k = fits (c .before .before .before .before .before) in
     let g = c .before .before .separator .ensures .0 in
-    list-end-in k _ _ g (c .before .before .before .before .before .before .before .before .before .before .before .before .before .before .before .before .before .before .before .pre) _ _ _ (c .walk-tree .ensures (walk-ready k _ _ g (c .before .before .before .before .before .before .before .before .before .before .before .before .before .before .before .before .before .before .before .pre)))
+    list-end-in k _ _ g (start .pre) _ _ _ (c .walk-tree .ensures (walk-ready k _ _ g (start .pre)))
 
 returns : tie.Need-returns
 returns c =
@@ -68,33 +70,37 @@ slice-aggregate-find-leaf c = sym (length-take-le _ _ (front (c .before .before 
 
 find-leaf-requires : tie.Need-find-leaf-requires
 find-leaf-requires c κs =
-    let w = c .before .before .before in
-    let k = fits (w .before .before .before .before .before) in
-    let g = c .before .before .before .before .before .separator .ensures .0 in
-    lists k _ _ g (c .before .before .before .before .before .before .before .before .before .before .before .before .before .before .before .before .before .before .before .before .before .before .pre) _ _ _ (w .walk-tree .ensures (walk-ready k _ _ g (c .before .before .before .before .before .before .before .before .before .before .before .before .before .before .before .before .before .before .before .before .before .before .pre)))
+    let b = c .before .before .before .before .before in
+    let start = b .before .before .before .before .before .before .before .before .before .before .before .before .before .before .before .before .before in
+    let k = fits (b .before .before .before) in
+    let g = b .separator .ensures .0 in
+    lists k _ _ g (start .pre) _ _ _ (c .before .before .before .walk-tree .ensures (walk-ready k _ _ g (start .pre)))
 
 returns-3 : tie.Need-returns-3
 returns-3 c =
-    let a = c .before .before .before .before .before .before .before .before .before .before .before .before .before .before .before .before .before .before .before .before .before .before .before .before .args in
-    let k = fits (c .before .before .before .before .before .before .before .before .before .before) in
-    let g = c .before .before .before .before .before .before .before .separator .ensures .0 in
-    let w = c .before .before .before .before .before .walk-tree .ensures
-    (walk-ready k _ _ g
-    (c .before .before .before .before .before .before .before .before .before .before .before .before .before .before .before .before .before .before .before .before .before .before .before .before .pre)) in
-    (seeks-hit k _ _ g (c .before .before .before .before .before .before .before .before .before .before .before .before .before .before .before .before .before .before .before .before .before .before .before .before .pre) _ _ _ w _ _ (c .before .find-leaf .ensures (lists k _ _ g (c .before .before .before .before .before .before .before .before .before .before .before .before .before .before .before .before .before .before .before .before .before .before .before .before .pre) _ _ _ w)) (c .if3 .taken), size-list-length (inputOf (a .settings .now) (a .tree .now)) _ _ (c .before .before .before .before .before .before .before .before .before .before .before .before .before .before .before .before .before .before .before .measure-tree .ensures .1))
+    let walked = c .before .before .before .before .before in
+    let measured = walked .before .before .before .before .before .before .before .before .before .before .before .before .before .before in
+    let start = measured .before .before .before .before .before in
+    let a = start .args in
+    let k = fits (walked .before .before .before .before .before) in
+    let g = walked .before .before .separator .ensures .0 in
+    let w = walked .walk-tree .ensures (walk-ready k _ _ g (start .pre)) in (
+      seeks-hit k _ _ g (start .pre) _ _ _ w _ _ (c .before .find-leaf .ensures (lists k _ _ g (start .pre) _ _ _ w)) (c .if3 .taken),
+      size-list-length (inputOf (a .settings .now) (a .tree .now)) _ _ (measured .measure-tree .ensures .1),
+    )
 
 returns-4 : tie.Need-returns-4
 returns-4 c =
-    let a = c .before .before .before .before .before .before .before .before .before .before .before .before .before .before .before .before .before .before .before .before .before .before .before .before .before .args in
-    let k = fits (c .before .before .before .before .before .before .before .before .before .before .before) in
-    let g = c .before .before .before .before .before .before .before .before .separator .ensures .0 in
-    let w = c .before .before .before .before .before .before .walk-tree .ensures
-    (walk-ready k _ _ g
-    (c .before .before .before .before .before .before .before .before .before .before .before .before .before .before .before .before .before .before .before .before .before .before .before .before .before .pre)) in (
+    let walked = c .before .before .before .before .before .before in
+    let measured = walked .before .before .before .before .before .before .before .before .before .before .before .before .before .before in
+    let start = measured .before .before .before .before .before in
+    let a = start .args in
+    let k = fits (walked .before .before .before .before .before) in
+    let g = walked .before .before .separator .ensures .0 in
+    let w = walked .walk-tree .ensures (walk-ready k _ _ g (start .pre)) in (
       seeks-none _ _ _ _ _ _ 9 _ (c .none-sought3 .ensures) (λ z. omega arith)
-          (misses k _ _ g
-          (c .before .before .before .before .before .before .before .before .before .before .before .before .before .before .before .before .before .before .before .before .before .before .before .before .before .pre) _ _ _ w _ _ (c .before .before .find-leaf .ensures (lists k _ _ g (c .before .before .before .before .before .before .before .before .before .before .before .before .before .before .before .before .before .before .before .before .before .before .before .before .before .pre) _ _ _ w)) (c .before .if3 .left)),
-      size-list-length (inputOf (a .settings .now) (a .tree .now)) _ _ (c .before .before .before .before .before .before .before .before .before .before .before .before .before .before .before .before .before .before .before .before .measure-tree .ensures .1),
+          (misses k _ _ g (start .pre) _ _ _ w _ _ (c .before .before .find-leaf .ensures (lists k _ _ g (start .pre) _ _ _ w)) (c .before .if3 .left)),
+      size-list-length (inputOf (a .settings .now) (a .tree .now)) _ _ (measured .measure-tree .ensures .1),
     )
 
 pub seek-leaf-spec : {M : Type 1} → statement M

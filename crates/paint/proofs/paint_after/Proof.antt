@@ -30,7 +30,8 @@ same-length-2 : tie.Need-same-length-2
 same-length-2 c = search needs
 
 returns-2 : tie.Need-returns-2
-returns-2 c = ended-open _ _ _ _ _ _ (c .before .before .before .before .before .before .if1 .taken) (c .if2 .left) _ (c .before .before .before .print-right .ensures)
+returns-2 c =
+    ended-open _ _ _ _ _ _ (c .before .before .before .before .before .before .if1 .taken) (c .if2 .left) _ (c .before .before .before .print-right .ensures)
 
 returns-3 : tie.Need-returns-3
 returns-3 c = ended-bare _ _ _ _ _ _ (c .if1 .left)

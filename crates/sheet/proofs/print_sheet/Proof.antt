@@ -36,16 +36,16 @@ took : (c : tie.After-natural-at) → let a = c .before .before .before .before 
 took c = let d = c .before .before .before .before .before .measure-tree in
     taken _ _ _ _ _ (d .ensures .0) (d .ensures .1) (c .before .before .before .if1 .left) (long (c .before .before .before .before .before))
 
+-- the output as it was given
+abbrev given : tie.Else2 → List ℕ
+given c = c .before .before .before .before .before .before .before .before .before .before .before .before .before .args .out .now
+
 -- the sheet is printed
-none : (c : tie.Else2)
-    → refusalOf (c .before .before .frame-of .result)
-    (length (c .before .before .before .before .before .before .before .before .before .before .before .before .before .args .out .now)) ≡ 0
+none : (c : tie.Else2) → refusalOf (c .before .before .frame-of .result) (length (given c)) ≡ 0
 none c = sym (c .before .refusal-of .ensures) ∙ c .if2 .left
 
 -- the output keeps its length
-same : (c : tie.After-margin-before)
-    → length (c .margin-before .last .0)
-    ≡ length (c .before .before .before .before .before .before .before .before .before .before .before .before .before .before .before .before .before .before .before .before .args .out .now)
+same : (c : tie.After-margin-before) → length (c .margin-before .last .0) ≡ length (given (c .before .before .before .before .before .before .before))
 same c = search needs
 
 -- the entries end in the list that was lent
@@ -53,7 +53,7 @@ front : (c : tie.After-walk-tree) → c .walk-tree .result ≤ length (c .walk-t
 front c =
     let e = c .before .before .before .before .before .before .before .before .before .before .before .before .before in
     let k = sheet-fitting (took (e .before .before .before)) (e .before .before .before .natural-at .ensures .0) (e .before .before .frame-of .ensures)
-    (e .before .before .before .before .before .before .before .before .before .before .before .before .before .args .out .now) (none e) in
+    (given e) (none e) in
     let g = c .before .before .separator .ensures .0 in
     list-end-in k _ _ g (le-refl 5120) _ _ _ (c .walk-tree .ensures (walk-ready k _ _ g (le-refl 5120)))
 
@@ -77,7 +77,7 @@ end-lines-requires c κs =
     let k = took (e .before .before .before) in
     let ze = e .before .before .before .natural-at .ensures .0 in
     let fe = e .before .before .frame-of .ensures in
-    let o = e .before .before .before .before .before .before .before .before .before .before .before .before .before .args .out .now in
+    let o = given e in
     let n = none e in
     sheet-fits k ze fe o n
 
@@ -87,13 +87,14 @@ margin-before-requires c κs =
     let k = took (e .before .before .before) in
     let ze = e .before .before .before .natural-at .ensures .0 in
     let fe = e .before .before .frame-of .ensures in
-    let o = e .before .before .before .before .before .before .before .before .before .before .before .before .before .args .out .now in
+    let o = given e in
     let n = none e in
     framed k ze fe o n (search needs)
 
 slice-aggregate-walk-tree : tie.Need-slice-aggregate-walk-tree
 slice-aggregate-walk-tree c =
-    sym (long (c .before .before .before .before .before .before .before .before .before .before .before .before .before .before .before .before .before .before))
+    let e = c .before .before .before .before .before .before .before .before .before .before in
+    sym (long (e .before .before .before .before .before .before .before .before))
 
 walk-tree-requires : tie.Need-walk-tree-requires
 walk-tree-requires c κs =
@@ -101,13 +102,14 @@ walk-tree-requires c κs =
     let k = took (e .before .before .before) in
     let ze = e .before .before .before .natural-at .ensures .0 in
     let fe = e .before .before .frame-of .ensures in
-    let o = e .before .before .before .before .before .before .before .before .before .before .before .before .before .args .out .now in
+    let o = given e in
     let n = none e in
     walk-ready (sheet-fitting k ze fe o n) _ _ (c .before .separator .ensures .0) (le-refl 5120)
 
 slice-aggregate-paint-leaves : tie.Need-slice-aggregate-paint-leaves
 slice-aggregate-paint-leaves c =
-    sym (long (c .before .before .before .before .before .before .before .before .before .before .before .before .before .before .before .before .before .before .before .before .before .before .before))
+    let e = c .before .before .before .before .before .before .before .before .before .before .before .before .before .before .before in
+    sym (long (e .before .before .before .before .before .before .before .before))
 
 array-share-prefix-leaves : tie.Need-array-share-prefix-leaves
 array-share-prefix-leaves c = front (c .before .before)
@@ -121,7 +123,7 @@ sub-paint-leaves c =
     let k = took (e .before .before .before) in
     let ze = e .before .before .before .natural-at .ensures .0 in
     let fe = e .before .before .frame-of .ensures in
-    let o = e .before .before .before .before .before .before .before .before .before .before .before .before .before .args .out .now in
+    let o = given e in
     let n = none e in
     let l = same (c .before .before .before .before .before .before .before .before .before) in
     omega (arith, base-in k ze fe o n (c .before .before .before .before .before .before .before .before .before .margin-before .ensures .end-is))
@@ -132,7 +134,7 @@ part-paint-leaves-start c =
     let k = took (e .before .before .before) in
     let ze = e .before .before .before .natural-at .ensures .0 in
     let fe = e .before .before .frame-of .ensures in
-    let o = e .before .before .before .before .before .before .before .before .before .before .before .before .before .args .out .now in
+    let o = given e in
     let n = none e in
     let l = same (c .before .before .before .before .before .before .before .before .before) in
     omega (arith, base-in k ze fe o n (c .before .before .before .before .before .before .before .before .before .margin-before .ensures .end-is))
@@ -143,7 +145,7 @@ paint-leaves-requires c κs =
     let k = took (e .before .before .before) in
     let ze = e .before .before .before .natural-at .ensures .0 in
     let fe = e .before .before .frame-of .ensures in
-    let o = e .before .before .before .before .before .before .before .before .before .before .before .before .before .args .out .now in
+    let o = given e in
     let n = none e in
     let l = same (c .before .before .before .before .before .before .before .before .before .before) in
     let be = c .before .before .before .before .before .before .before .before .before .before .margin-before .ensures .end-is in
@@ -156,27 +158,33 @@ paint-leaves-requires c κs =
 
 margin-after-requires : tie.Need-margin-after-requires
 margin-after-requires c κs =
-    (framed (took (c .before .before .before .before .before .before .before .before .before .before .before .before .before .before .before .before .before .before .before .before .before .before .before .before)) (c .before .before .before .before .before .before .before .before .before .before .before .before .before .before .before .before .before .before .before .before .before .before .before .before .natural-at .ensures .0) (c .before .before .before .before .before .before .before .before .before .before .before .before .before .before .before .before .before .before .before .before .before .before .before .frame-of .ensures) (c .before .before .before .before .before .before .before .before .before .before .before .before .before .before .before .before .before .before .before .before .before .before .before .before .before .before .before .before .before .before .before .before .before .before .args .out .now) (none (c .before .before .before .before .before .before .before .before .before .before .before .before .before .before .before .before .before .before .before .before .before)) (search needs), c .before .before .before .before .before .before .before .before .before .before .before .before .before .before .margin-before .ensures .end-is)
+    let margined = c .before .before .before .before .before .before .before .before .before .before .before .before .before .before in
+    let e = margined .before .before .before .before .before .before .before in (
+      framed (took (e .before .before .before)) (e .before .before .before .natural-at .ensures .0) (e .before .before .frame-of .ensures) (given e) (none e)
+          (search needs),
+      margined .margin-before .ensures .end-is,
+    )
 
 returns-3 : tie.Need-returns-3
 returns-3 c =
-    let e = c .before .before .before .before .before .before .before .before .before .before .before .before .before .before .before .before .before .before .before .before .before .before .before .before in
+    let painted = c .before .before .before .before .before .before in
+    let walked = painted .before .before .before .before .before in
+    let margined = walked .before .before .before .before .before .before in
+    let e = margined .before .before .before .before .before .before .before in
     let k = took (e .before .before .before) in
     let ze = e .before .before .before .natural-at .ensures .0 in
     let fe = e .before .before .frame-of .ensures in
-    let o = e .before .before .before .before .before .before .before .before .before .before .before .before .before .args .out .now in
+    let o = given e in
     let n = none e in
-    let l = same (c .before .before .before .before .before .before .before .before .before .before .before .before .before .before .before .before .before) in
-    let be = c .before .before .before .before .before .before .before .before .before .before .before .before .before .before .before .before .before .margin-before .ensures .end-is in
-    let le = part-long (c .before .before .before .before .before .before .before .before .before .before .before .before .before .before .before .before .before .margin-before .last .0) (c .before .before .before .before .before .before .before .before .before .before .before .before .before .before .before .before .before .margin-before .result) l in
+    let l = same margined in
+    let d = margined .margin-before in
+    let le = part-long (d .last .0) (d .result) l in
     let kf = sheet-fitting k ze fe o n in
-    let g = c .before .before .before .before .before .before .before .before .before .before .before .before .before .separator .ensures .0 in
-    let es = entries-listed kf _ _ g (le-refl 5120) _ _ _
-    (c .before .before .before .before .before .before .before .before .before .before .before .walk-tree .ensures (walk-ready kf _ _ g (le-refl 5120))) in
-    sheet-answers k ze fe o n be le _
-    (c .before .before .before .before .before .before .before .before .before .before .before .before .before .before .before .before .before .margin-before .last .0) _ _ _ _ _ _ es (c .before .before .before .before .before .before .before .before .before .before .before .before .before .before .before .before .before .before .before .before .before .before .end-lines .ensures) (c .before .before .before .before .before .before .before .before .before .before .before .before .before .before .before .before .before .margin-before .ensures .out-is) l (part-to-end (c .before .before .before .before .before .before .before .before .before .before .before .before .before .before .before .before .before .margin-before .last .0) (c .before .before .before .before .before .before .before .before .before .before .before .before .before .before .before .before .before .margin-before .result))
-    (c .before .before .before .before .before .before .paint-leaves .ensures (sheet-paints k ze fe o n be le _ _ es))
-    (part-back (c .before .before .before .before .before .before .before .before .before .before .before .before .before .before .before .before .before .margin-before .last .0) (c .before .before .before .before .before .before .paint-leaves .last .1 .1 .1 .1 .1 .0) (c .before .before .before .before .before .before .before .before .before .before .before .before .before .before .before .before .before .margin-before .result)) (c .before .before .margin-after .ensures)
+    let g = walked .before .before .separator .ensures .0 in
+    let es = entries-listed kf _ _ g (le-refl 5120) _ _ _ (walked .walk-tree .ensures (walk-ready kf _ _ g (le-refl 5120))) in
+    sheet-answers k ze fe o n (d .ensures .end-is) le _ (d .last .0) _ _ _ _ _ _ es (margined .before .before .before .before .before .end-lines .ensures)
+    (d .ensures .out-is) l (part-to-end (d .last .0) (d .result)) (painted .paint-leaves .ensures (sheet-paints k ze fe o n (d .ensures .end-is) le _ _ es))
+    (part-back (d .last .0) (painted .paint-leaves .last .1 .1 .1 .1 .1 .0) (d .result)) (c .before .before .margin-after .ensures)
 
 pub print-sheet-spec : {M : Type 1} → statement M
 print-sheet-spec =

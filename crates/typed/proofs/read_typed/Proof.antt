@@ -50,15 +50,14 @@ same-length : tie.Need-same-length
 same-length c = search needs
 
 returns-4 : tie.Need-returns-4
-returns-4 c = (
-  typed-done _ _ (c .before .before .before .before .before .before .before .before .before .before .if1 .left) _
-      (c .before .before .before .before .before .before .before .before .before .scan .ensures)
-      (got-nodes _ (c .before .before .before .before .before .before .before .before .before .before .before .before .before .args .out .now)
-      (c .before .before .before .before .before .before .before .before .before .before .if1 .left) _
-      (c .before .before .before .before .before .before .before .before .before .scan .ensures)
-      (c .before .before .before .before .before .before .before .if2 .left)) (c .before .before .before .before .before .if3 .left) _ (c .before .before .write-spots .ensures _ (nodes-ready _ (c .before .before .before .before .before .before .before .before .before .before .before .before .before .args .out .now) (c .before .before .before .before .before .before .before .before .before .before .if1 .left) _ (c .before .before .before .before .before .before .before .before .before .scan .ensures) (got-nodes _ (c .before .before .before .before .before .before .before .before .before .before .before .before .before .args .out .now) (c .before .before .before .before .before .before .before .before .before .before .if1 .left) _ (c .before .before .before .before .before .before .before .before .before .scan .ensures) (c .before .before .before .before .before .before .before .if2 .left)) _ (c .before .before .before .before .before .if3 .left))),
-  c .before .before .before .before .before .if3 .left,
-)
+returns-4 c =
+    let tested = c .before .before .before .before .before in
+    let scanned = tested .before .before .before .before in
+    let out = scanned .before .before .before .before .args .out .now in
+    let s = scanned .scan .ensures in
+    let got = got-nodes _ out (scanned .before .if1 .left) _ s (tested .before .before .if2 .left) in
+    let ready = nodes-ready _ out (scanned .before .if1 .left) _ s got _ (tested .if3 .left) in
+    (typed-done _ _ (scanned .before .if1 .left) _ s got (tested .if3 .left) _ (c .before .before .write-spots .ensures _ ready), tested .if3 .left)
 
 pub read-typed-spec : {M : Type 1} → statement M
 read-typed-spec =

@@ -26,14 +26,17 @@ put-list-requires-2 c κs = search needs
 same-length : tie.Need-same-length
 same-length c = search needs
 
+-- as many numbers as the list has room for
+long : (c : tie.After-bit) → length (c .before .before .before .args .cut .taken .pieces) ≡ 512
+long c = search needs
+
 returns : tie.Need-returns
 returns c =
-    let start = c .before .before .before .before .before .before .before .before .before .before .before .before .before .before .before .before .before .before .before in
-    let long : length (start .args .cut .taken .pieces) ≡ 512 = search needs in
-    cut-stored (start .args .cut) (start .args .out .now)
-    (c .before .before .before .before .before .before .before .before .before .before .before .before .before .before .before .before .bit .ensures)
-    (c .before .before .before .before .before .before .before .before .before .before .before .before .copy-numbers .ensures .out-is)
-    (c .before .before .before .before .before .before .before .put-list .ensures) long (c .before .before .put-list2 .ensures)
+    let put = c .before .before .before .before .before .before .before in
+    let b = put .before .before .before .before .before .before .before .before .before in
+    let start = b .before .before .before .args in
+    cut-stored (start .cut) (start .out .now) (b .bit .ensures) (put .before .before .before .before .before .copy-numbers .ensures .out-is)
+    (put .put-list .ensures) (long b) (c .before .before .put-list2 .ensures)
 
 pub put-cut-spec : {M : Type 1} → statement M
 put-cut-spec =

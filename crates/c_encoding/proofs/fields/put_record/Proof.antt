@@ -23,15 +23,17 @@ put-list-requires-2 c κs = search needs
 same-length : tie.Need-same-length
 same-length c = search needs
 
+-- as many numbers as the list has room for
+long : (c : tie.After-front) → length (c .before .before .before .before .before .args .r .horizontal .pieces) ≡ 512
+long c = search needs
+
 returns : tie.Need-returns
 returns c =
-    let start = c .before .before .before .before .before .before .before .before .before .before .before .before .before .before .before .before .before .before .before .before in
-    let r = start .args .r in
-    let long : length (r .horizontal .pieces) ≡ 512 = search needs in
-    record-stored r (start .args .out .now)
-    (c .before .before .before .before .before .before .before .before .before .before .before .before .before .before .before .front .ensures)
-    (c .before .before .before .before .before .before .before .before .before .before .before .before .copy-numbers .ensures .out-is)
-    (c .before .before .before .before .before .before .before .put-list .ensures) long (c .before .before .put-list2 .ensures)
+    let put = c .before .before .before .before .before .before .before in
+    let b = put .before .before .before .before .before .before .before .before in
+    let start = b .before .before .before .before .before .args in
+    record-stored (start .r) (start .out .now) (b .front .ensures) (put .before .before .before .before .before .copy-numbers .ensures .out-is)
+    (put .put-list .ensures) (long b) (c .before .before .put-list2 .ensures)
 
 pub put-record-spec : {M : Type 1} → statement M
 put-record-spec =

@@ -38,9 +38,12 @@ same-length c = search needs
 
 returns : tie.Need-returns
 returns c =
-    let start = c .before .before .before .before .before .before .before .before .before .before .before .before .before .before .before .before .before .before .before .before .before .before .before .before .before in
-    settings-stored (start .args .s) (start .args .out .now) (start .pre .0)
-    (c .before .before .before .before .before .before .before .before .before .before .before .before .before .before .before .before .before .before .before .before .widen-bytes .ensures) (c .before .before .before .before .before .before .before .before .before .before .before .before .before .before .before .before .before .padding .ensures) (c .before .before .before .before .before .before .before .before .before .before .before .before .before .before .copy-numbers .ensures .out-is) (c .before .before .before .before .before .before .before .before .widen-bytes2 .ensures) (c .before .before .before .before .before .choices .ensures) (c .before .before .copy-numbers2 .ensures .out-is)
+    let b = c .before .before .before .before .before in
+    let copied = b .before .before .before .before .before .before .before .before .before in
+    let start = copied .before .before .before .before .before .before .before .before .before .before .before in
+    settings-stored (start .args .s) (start .args .out .now) (start .pre .0) (copied .before .before .before .before .before .before .widen-bytes .ensures)
+    (copied .before .before .before .padding .ensures) (copied .copy-numbers .ensures .out-is) (b .before .before .before .widen-bytes2 .ensures)
+    (b .choices .ensures) (c .before .before .copy-numbers2 .ensures .out-is)
 
 pub put-settings-spec : {M : Type 1} → statement M
 put-settings-spec =

@@ -53,7 +53,10 @@ end-scan-requires-2 : tie.Need-end-scan-requires-2 Inv-loop μ-loop
 end-scan-requires-2 c κs = search needs
 
 returns-2 : tie.Need-returns-2 Inv-loop μ-loop
-returns-2 c = scan-bad _ _ _ _ _ (c .before .before .before .before .before .before .before .loop .inv) (c .before .before .before .before .before .before .loop-test .taken) _ (c .before .before .field-size .ensures .0) (c .before .before .before .before .if1 .left) _ (c .end-scan2 .ensures) (c .before .if2 .taken)
+returns-2 c =
+    let tested = c .before .before .before .before in
+    scan-bad _ _ _ _ _ (tested .before .before .before .loop .inv) (tested .before .before .loop-test .taken) _ (c .before .before .field-size .ensures .0)
+    (tested .if1 .left) _ (c .end-scan2 .ensures) (c .before .if2 .taken)
 
 wide-requires : tie.Need-wide-requires Inv-loop μ-loop
 wide-requires c κs = search needs
@@ -64,13 +67,20 @@ sub-k c = scan-tag _ _ _ _ _ (c .before .before .before .before .before .before 
     (c .before .before .before .before .if1 .left) (c .before .if2 .left) _ (c .wide .ensures .0) .0
 
 array-read-if3 : tie.Need-array-read-if3 Inv-loop μ-loop
-array-read-if3 c = scan-tag _ _ _ _ _ (c .before .before .before .before .before .before .before .loop .inv) (c .before .before .before .before .before .before .loop-test .taken) _ (c .before .before .field-size .ensures .0) (c .before .before .before .before .if1 .left) (c .before .if2 .left) _ (c .wide .ensures .0) .1
+array-read-if3 c =
+    let tested = c .before .before .before .before in
+    scan-tag _ _ _ _ _ (tested .before .before .before .loop .inv) (tested .before .before .loop-test .taken) _ (c .before .before .field-size .ensures .0)
+    (tested .if1 .left) (c .before .if2 .left) _ (c .wide .ensures .0) .1
 
 end-scan-requires-3 : tie.Need-end-scan-requires-3 Inv-loop μ-loop
 end-scan-requires-3 c κs = search needs
 
 returns-3 : tie.Need-returns-3 Inv-loop μ-loop
-returns-3 c = scan-again _ _ _ _ _ (c .before .before .before .before .before .before .before .before .before .loop .inv) (c .before .before .before .before .before .before .before .before .loop-test .taken) _ (c .before .before .before .before .field-size .ensures .0) (c .before .before .before .before .before .before .if1 .left) (c .before .before .before .if2 .left) _ (c .before .before .wide .ensures .0) _ (c .end-scan3 .ensures) (c .before .if3 .taken)
+returns-3 c =
+    let tested = c .before .before .before in
+    scan-again _ _ _ _ _ (tested .before .before .before .before .before .before .loop .inv) (tested .before .before .before .before .before .loop-test .taken)
+    _ (tested .before .field-size .ensures .0) (tested .before .before .before .if1 .left) (tested .if2 .left) _ (c .before .before .wide .ensures .0) _
+    (c .end-scan3 .ensures) (c .before .if3 .taken)
 
 array-write-seen : tie.Need-array-write-seen Inv-loop μ-loop
 array-write-seen c =
@@ -88,7 +98,11 @@ loop-less : tie.Need-loop-less Inv-loop μ-loop
 loop-less c = search needs
 
 loop-again : tie.Need-loop-again Inv-loop μ-loop
-loop-again c = scan-more _ _ _ _ _ (c .before .before .before .before .before .before .before .before .before .loop .inv) (c .before .before .before .before .before .before .before .before .loop-test .taken) _ (c .before .before .before .before .field-size .ensures .0) (c .before .before .before .before .before .before .if1 .left) (c .before .before .before .if2 .left) _ (c .before .before .wide .ensures .0) (c .before .if3 .left) _ (c .next-field .ensures)
+loop-again c =
+    let tested = c .before .before .before in
+    scan-more _ _ _ _ _ (tested .before .before .before .before .before .before .loop .inv) (tested .before .before .before .before .before .loop-test .taken) _
+    (tested .before .field-size .ensures .0) (tested .before .before .before .if1 .left) (tested .if2 .left) _ (c .before .before .wide .ensures .0)
+    (c .before .if3 .left) _ (c .next-field .ensures)
 
 end-scan-requires-4 : tie.Need-end-scan-requires-4 Inv-loop μ-loop
 end-scan-requires-4 c κs = search needs

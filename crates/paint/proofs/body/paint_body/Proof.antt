@@ -68,15 +68,19 @@ add-p c =
 
 mul-p : tie.Need-mul-p
 mul-p c =
-    let start = c .before .before .before .before .before .before .before .before .before .before .before .before in
+    let planned = c .before .before .before .before .before .before .before .before .before in
+    let start = planned .before .before .before in
     let a = start .args in
-    omega (arith, above-small (a .s) (a .text .now) (a .natural) (a .size) _ (start .pre .0 .1) (start .pre .0 .2) (c .before .before .before .before .before .before .before .before .before .plan-body .ensures) _ _ _ (start .pre .1))
+    let h = start .pre in
+    omega (arith, above-small (a .s) (a .text .now) (a .natural) (a .size) _ (h .0 .1) (h .0 .2) (planned .plan-body .ensures) _ _ _ (h .1))
 
 add-p-2 : tie.Need-add-p-2
 add-p-2 c =
-    let start = c .before .before .before .before .before .before .before .before .before .before .before .before in
+    let planned = c .before .before .before .before .before .before .before .before .before in
+    let start = planned .before .before .before in
     let a = start .args in
-    omega (arith, above-small (a .s) (a .text .now) (a .natural) (a .size) _ (start .pre .0 .1) (start .pre .0 .2) (c .before .before .before .before .before .before .before .before .before .plan-body .ensures) _ _ _ (start .pre .1))
+    let h = start .pre in
+    omega (arith, above-small (a .s) (a .text .now) (a .natural) (a .size) _ (h .0 .1) (h .0 .2) (planned .plan-body .ensures) _ _ _ (h .1))
 
 text-lines-requires : tie.Need-text-lines-requires
 text-lines-requires c κs =

@@ -6,8 +6,9 @@ use Rattle.paint.proofs.bytes.copy_eight.Tie as tie
 
 returns : tie.Need-returns
 returns c =
-    let a = c .before .before .before .before .before .before .before .before .before .before .before .before .args in
-    rw (c .before .before .put-four2 .ensures, c .before .before .before .before .before .before .put-four .ensures, c .before .before .before .before .before .before .before .before .four-at2 .ensures, c .before .before .before .before .before .before .before .before .before .four-at .ensures)
+    let b = c .before .before .before .before .before .before in
+    let a = b .before .before .before .before .before .before .args in
+    rw (c .before .before .put-four2 .ensures, b .put-four .ensures, b .before .before .four-at2 .ensures, b .before .before .before .four-at .ensures)
     (eight-stores (a .line .now) (a .out .now) (a .at) (a .from) (omega arith))
 
 pub copy-eight-spec : {M : Type 1} → statement M

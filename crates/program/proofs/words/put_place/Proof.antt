@@ -35,7 +35,11 @@ same-length c = search needs
 
 returns-2 : tie.Need-returns-2
 returns-2 c =
-    place-put _ _ (c .before .before .before .before .before .before .before .before .before .before .before .before .before .before .before .before .before .before .before .before .before .before .before .if1 .left) _ _ _ _ _ _ _ _ _ _ _ (c .before .before .before .before .before .before .before .before .before .before .before .before .before .before .before .before .before .before .before .before .copy-bytes .ensures) (c .before .before .before .before .before .before .before .before .before .before .before .before .before .before .before .before .put-digits .ensures .0) (c .before .before .before .before .before .before .before .before .before .before .before .copy-bytes2 .ensures) (c .before .before .before .before .before .before .before .put-digits2 .ensures .0) (c .before .before .copy-bytes3 .ensures)
+    let b = c .before .before .before .before .before .before .before in
+    let d = b .before .before .before .before .before .before .before .before .before in
+    place-put _ _ (d .before .before .before .before .before .before .before .if1 .left) _ _ _ _ _ _ _ _ _ _ _
+    (d .before .before .before .before .copy-bytes .ensures) (d .put-digits .ensures .0) (b .before .before .before .before .copy-bytes2 .ensures)
+    (b .put-digits2 .ensures .0) (c .before .before .copy-bytes3 .ensures)
 
 pub put-place-spec : {M : Type 1} → statement M
 put-place-spec =

@@ -42,7 +42,9 @@ leveled-requires : tie.Need-leveled-requires
 leveled-requires c κs = search needs
 
 returns-2 : tie.Need-returns-2
-returns-2 c = cell-right _ _ _ (c .before .before .before .before .before .before .pre .0) (c .before .before .before .before .before .before .pre .1) _ (c .before .before .before .check-text .ensures .0) _ (c .before .if1 .left) (c .leveled .ensures)
+returns-2 c =
+    cell-right _ _ _ (c .before .before .before .before .before .before .pre .0) (c .before .before .before .before .before .before .pre .1) _
+    (c .before .before .before .check-text .ensures .0) _ (c .before .if1 .left) (c .leveled .ensures)
 
 pub read-cell-spec : {M : Type 1} → statement M
 read-cell-spec =

@@ -117,7 +117,9 @@ stop-at-requires-2 : tie.Need-stop-at-requires-2 Inv-loop μ-loop
 stop-at-requires-2 c κs = search needs
 
 returns-2 : tie.Need-returns-2 Inv-loop μ-loop
-returns-2 c = reading-empty _ _ _ _ _ (c .before .before .before .before .loop .inv) (c .before .before .before .loop-test .left) _ (c .before .if3 .taken) (c .stop-at2 .ensures .0) (c .stop-at2 .ensures .1) (c .stop-at2 .ensures .2)
+returns-2 c =
+    reading-empty _ _ _ _ _ (c .before .before .before .before .loop .inv) (c .before .before .before .loop-test .left) _ (c .before .if3 .taken)
+    (c .stop-at2 .ensures .0) (c .stop-at2 .ensures .1) (c .stop-at2 .ensures .2)
 
 returns-3 : tie.Need-returns-3 Inv-loop μ-loop
 returns-3 c = reading-all _ _ _ _ _ (c .before .before .before .loop .inv) (c .before .before .loop-test .left) _ (c .if3 .left) refl refl refl refl

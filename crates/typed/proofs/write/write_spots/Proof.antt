@@ -58,31 +58,37 @@ sub-p-2 c = omega (
 
 write-spot-requires : tie.Need-write-spot-requires Inv-loop μ-loop
 write-spot-requires c κs =
-    spot-ready _ _ _ _ _ _ (c .before .before .before .before .before .before .before .before .pre .is) _ _ _ _ _
-    (c .before .before .before .before .before .loop .inv .1 .1 (c .before .before .before .before .before .before .before .before .pre .of)
-    (c .before .before .before .before .before .before .before .before .pre .is)) (c .before .before .before .before .loop-test .taken) _ (c .before .before .inside-of .ensures) (c .before .before .before .before .before .loop .inv .0)
+    let turn = c .before .before .before .before in
+    let q = turn .before .before .before .before .pre in
+    let m = turn .before .loop .inv in
+    spot-ready _ _ _ _ _ _ (q .is) _ _ _ _ _ (m .1 .1 (q .of) (q .is)) (turn .loop-test .taken) _ (c .before .before .inside-of .ensures) (m .0)
 
 grown-requires : tie.Need-grown-requires Inv-loop μ-loop
-grown-requires c κs = (
-  level-low _ _ _ _ _ _ (c .before .before .before .before .before .before .before .before .before .before .before .pre .is) _ _ _ _ _
-      (c .before .before .before .before .before .before .before .before .loop .inv .1 .1
-      (c .before .before .before .before .before .before .before .before .before .before .before .pre .of)
-      (c .before .before .before .before .before .before .before .before .before .before .before .pre .is)) (c .before .before .before .before .before .before .before .loop-test .taken),
-  grown-small _ _ _ _ _ _ (c .before .before .before .before .before .before .before .before .before .before .before .pre .is) _ _ _ _ _ (c .before .before .before .before .before .before .before .before .loop .inv .1 .1 (c .before .before .before .before .before .before .before .before .before .before .before .pre .of) (c .before .before .before .before .before .before .before .before .before .before .before .pre .is)) (c .before .before .before .before .before .before .before .loop-test .taken) _ (c .before .before .before .before .before .inside-of .ensures),
-)
+grown-requires c κs =
+    let turn = c .before .before .before .before .before .before .before in
+    let q = turn .before .before .before .before .pre in
+    let w = turn .before .loop .inv .1 .1 (q .of) (q .is) in (
+      level-low _ _ _ _ _ _ (q .is) _ _ _ _ _ w (turn .loop-test .taken),
+      grown-small _ _ _ _ _ _ (q .is) _ _ _ _ _ w (turn .loop-test .taken) _ (c .before .before .before .before .before .inside-of .ensures),
+    )
 
 loop-less : tie.Need-loop-less Inv-loop μ-loop
 loop-less c = search needs
 
 loop-again : tie.Need-loop-again Inv-loop μ-loop
-loop-again c = (
-  writing-long _ _ _ _ _ _
-      (writing-more _ _ _ _ _ _ (c .before .before .before .before .before .before .before .before .before .before .before .before .pre .is) _ _ _ _ _
-      (c .before .before .before .before .before .before .before .before .before .loop .inv .1 .1
-      (c .before .before .before .before .before .before .before .before .before .before .before .before .pre .of)
-      (c .before .before .before .before .before .before .before .before .before .before .before .before .pre .is)) (c .before .before .before .before .before .before .before .before .loop-test .taken) _ (c .before .before .before .before .before .before .inside-of .ensures) _ _ (c .before .before .before .write-spot .ensures) (c .grown .ensures)),
-  (omega arith, λ ns r. writing-more _ _ _ _ _ ns r _ _ _ _ _ (c .before .before .before .before .before .before .before .before .before .loop .inv .1 .1 ns r) (c .before .before .before .before .before .before .before .before .loop-test .taken) _ (c .before .before .before .before .before .before .inside-of .ensures) _ _ (c .before .before .before .write-spot .ensures) (c .grown .ensures)),
-)
+loop-again c =
+    let wrote = c .before .before .before in
+    let turn = wrote .before .before .before .before .before in
+    let q = turn .before .before .before .before .pre in
+    let w = turn .before .loop .inv .1 .1 in
+    let i = wrote .before .before .before .inside-of .ensures in (
+      writing-long _ _ _ _ _ _ (writing-more _ _ _ _ _ _ (q .is) _ _ _ _ _ (w (q .of) (q .is)) (turn .loop-test .taken) _ i _ _ (wrote .write-spot .ensures)
+          (c .grown .ensures)),
+      (
+        omega arith,
+        λ ns r. writing-more _ _ _ _ _ ns r _ _ _ _ _ (w ns r) (turn .loop-test .taken) _ i _ _ (wrote .write-spot .ensures) (c .grown .ensures),
+      ),
+    )
 
 same-length : tie.Need-same-length Inv-loop μ-loop
 same-length c = c .before .loop .inv .0
