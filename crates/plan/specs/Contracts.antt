@@ -1,6 +1,6 @@
 -- What the measuring of a planning tree's ends requires and ensures.
 use mathlib.Core.Path.{_≡_}
-use Prim.Native.Nat.{ℕ, _<_}
+use Prim.Native.Nat.{ℕ}
 use mathlib.Core.Bool.{Bool, false}
 use mathlib.Core.List.{List}
 use lib.ListN.{getD}
@@ -10,17 +10,16 @@ use Rattle.tree.specs.Bytes.{axisOf}
 use Rattle.tree.specs.Planning.{Plan, Plans}
 use Rattle.tree.specs.Promises.{PlanEncodes, PlanEncodesAll}
 use Rattle.sizes.specs.declared.Size.{Size}
+use Rattle.sizes.specs.Contracts.{SizeUnder}
 use Rattle.plan.specs.Ends.{noPlans?, rangeSize, endSize}
 
 -- a size of at most 21 bits: 42 for each byte of a planning tree
-pub record ShortSize (z : Size) : Type 0 where
-  pub wide : z .width < 2097152
-  pub tall : z .height < 2097152
+abbrev pub ShortSize : Size → Type 0
+ShortSize z = SizeUnder 2097152 z
 
 -- and with what is around the root: it has 32 bits
-pub record Wide (z : Size) : Type 0 where
-  pub wide : z .width < 4294967296
-  pub tall : z .height < 4294967296
+abbrev pub Wide : Size → Type 0
+Wide z = SizeUnder 4294967296 z
 
 -- the end of a range with these four bytes
 abbrev pub endOf : Settings → Bool → List ℕ → Size
