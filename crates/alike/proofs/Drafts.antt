@@ -5,8 +5,7 @@ use native.Mathlib.Omega.{arith}
 use mathlib.Core.Bool.{Bool, true, false}
 use mathlib.Core.List.{List, [], _∷_, _++_}
 use mathlib.Core.Option.{Option, some, none}
-use lib.ListN.{length, take, drop, length-append}
-use lib.Seq.{take-at}
+use lib.ListN.{length, drop, length-append}
 use lib.Dec.{eqb, ltb}
 use borrow.Author.Tests.{ltb-false}
 use Rattle.common.specs.Choice.{pick}
@@ -14,7 +13,7 @@ use Rattle.common.specs.Outcome.{Outcome}
 use Rattle.tree.specs.Reading.{ReadOne, readTree}
 use Rattle.tree.specs.Accepted.{element}
 use Rattle.drafts.specs.Store.{isName, tagFor, tagIn, hasTag, fieldsOf, fieldBytes, storeOf, withoutTag, draftOf, saveTree, saveIn, saveOf, forgetOf, noReturn}
-use Rattle.drafts.specs.Store.{returnFound, returnOf}
+use Rattle.drafts.specs.Store.{returnFound, returnIn, returnOf}
 use Rattle.drafts.specs.declared.Returned.{Returned}
 use Rattle.drafts.specs.Promises.{DraftCall, answerTo, storeAfter, Fields, Formed}
 use Rattle.drafts.proofs.Fields.{read-store, store-of-length, fields-without, without-gone, without-shorter, joined-last, fields-last, element-field}
@@ -25,17 +24,12 @@ use Rattle.alike.specs.Pairs.{AlikeBytes, SameRead, SameField, SameField
 use Rattle.alike.specs.Lent.{BothReturn}
 use Rattle.alike.proofs.Readers.{length-alike}
 use Rattle.alike.proofs.Pairs.{reads-alike}
-use Rattle.alike.proofs.Lent.{both-through, return-lent}
+use Rattle.alike.proofs.Lent.{lent-none, lent-front, both-pick}
 
 -- the same number, and stores of the right form again
 record FormedAnswer (x y : Outcome ℕ (List ℕ)) : Type 0 where
   number : x .answer ≡ y .answer
   stores : FormedStores (x .memory) (y .memory)
-
--- two returns into one buffer
-record SameReturn (x y : Outcome Returned (List ℕ)) : Type 0 where
-  answer : x .answer ≡ y .answer
-  draft : AlikeBytes (take (x .answer .count) (x .memory)) (take (x .answer .count) (y .memory))
 
 -- ---- fields
 
@@ -80,6 +74,22 @@ same-found n (pairs.more {f} {g} {fs} {gs} x k) = rw (x .tag) (go (eqb (tagIn g)
     go : (c : Bool) → SameFound (draftOf n fs) (draftOf n gs) → SameFound (pick c (some (drop 3 f)) (draftOf n fs)) (pick c (some (drop 3 g)) (draftOf n gs))
     go true ih = a-draft (x .draft)
     go false ih = ih
+
+-- ---- return, to two buffers of one length
+
+module _ (o r : List ℕ) (l : length o ≡ length r) where
+  nothing : (k : ℕ) → BothReturn AlikeBytes o r (noReturn k o) (noReturn k r)
+  nothing k = record { answer = refl; lent = lent-none AlikeBytes o r (pairs.same []) }
+
+  returned : {x y : Option (List ℕ)} → SameFound x y → BothReturn AlikeBytes o r (returnFound x o) (returnFound y r)
+  returned no-draft = nothing 19
+  returned (a-draft {d} {e = f} s) =
+      let e : length f ≡ length d = sym (length-alike s) in
+      rw (l, e)
+      (both-pick AlikeBytes o r (ltb (length r) (length d)) (nothing 8) (record { answer = refl; lent = lent-front AlikeBytes o r (length d) d f refl e s }))
+
+  returned-in : (n : ℕ) {fs gs : List (List ℕ)} → SameFields fs gs → BothReturn AlikeBytes o r (returnIn (some fs) n o) (returnIn (some gs) n r)
+  returned-in n k = both-pick AlikeBytes o r (isName n) (returned (same-found (tagFor n) k)) (nothing 19)
 
 -- ---- stores
 
@@ -134,37 +144,6 @@ module _ {o r : List ℕ} (a : FormedStores o r) where
       go true true = record { number = refl; stores = forgotten (tagFor n) }
       go true false = record { number = refl; stores = a }
       go false d = record { number = refl; stores = a }
-
-  -- ---- return
-
-  nothing : (k : ℕ) (out : List ℕ) → SameReturn (noReturn k out) (noReturn k out)
-  nothing k out = record { answer = refl; draft = pairs.same [] }
-
-  returned : {x y : Option (List ℕ)} → SameFound x y → (out : List ℕ) → SameReturn (returnFound x out) (returnFound y out)
-  returned no-draft out = nothing 19 out
-  returned (a-draft {d} {e} s) out = let l : length e ≡ length d = sym (length-alike s) in rw l (go (ltb (length out) (length d)))
-    where
-      go : (c : Bool) → SameReturn
-          (pick c (noReturn 8 out) (record { answer = record { number = 0; count = length d }; memory = d ++ drop (length d) out }))
-          (pick c (noReturn 8 out) (record { answer = record { number = 0; count = length d }; memory = e ++ drop (length d) out }))
-      go true = nothing 8 out
-      go false = record {
-        answer = refl;
-        draft = rw (take-at d (drop (length d) out) (length d) refl, take-at e (drop (length d) out) (length d) (sym (length-alike s))) s;
-      }
-
-  one-return : (n : ℕ) (out : List ℕ) → SameReturn (returnOf o n out) (returnOf r n out)
-  unfolding returnOf
-  one-return n out = rw (a .reads, a .other-reads) (go (isName n))
-    where
-      go : (c : Bool) → SameReturn (pick c (returnFound (draftOf (tagFor n) fs) out) (noReturn 19 out)) (pick c (returnFound (draftOf (tagFor n) gs) out)
-          (noReturn 19 out))
-      go true = returned (same-found (tagFor n) (a .same)) out
-      go false = nothing 19 out
-
-  return-formed : (n : ℕ) (out other : List ℕ) → length out ≡ length other → BothReturn AlikeBytes out other (returnOf o n out) (returnOf r n other)
-  return-formed n out other e = let k = one-return n out in
-      both-through AlikeBytes out other (k .answer) (k .draft) (return-lent out out refl o n) (return-lent out other e r n)
 
   -- ---- save
 
@@ -232,10 +211,13 @@ forget-draft-alike (pairs.two-stores a) n = formed-answer (forget-formed a n)
 
 pub return-draft-alike : {o r : List ℕ} → AlikeStores o r → (n : ℕ) (out other : List ℕ) → length out ≡ length other
     → BothReturn AlikeBytes out other (returnOf o n out) (returnOf r n other)
-return-draft-alike (pairs.one-store o) n out other e =
-    both-through AlikeBytes out other {y = returnOf o n out} refl (pairs.same (take (returnOf o n out .answer .count) (returnOf o n out .memory)))
-    (return-lent out out refl o n) (return-lent out other e o n)
-return-draft-alike (pairs.two-stores a) n out other e = return-formed a n out other e
+unfolding returnOf
+return-draft-alike (pairs.one-store o) n out other e = go (fieldsOf o)
+  where
+    go : (x : Option (List (List ℕ))) → BothReturn AlikeBytes out other (returnIn x n out) (returnIn x n other)
+    go none = nothing out other e 18
+    go (some fs) = returned-in out other e n (same-fields fs)
+return-draft-alike (pairs.two-stores a) n out other e = rw (a .reads, a .other-reads) (returned-in out other e n (a .same))
 
 -- ---- series of calls
 

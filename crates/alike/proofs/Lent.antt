@@ -12,14 +12,11 @@ use Rattle.common.specs.Sums.{greatest}
 use Rattle.common.specs.Outcome.{Outcome}
 use Rattle.settings.specs.declared.Settings.{Settings}
 use Rattle.tree.specs.Tree.{nodes}
-use Rattle.tree.specs.Reading.{ReadOne, readTree}
-use Rattle.tree.specs.Accepted.{bytesOf}
 use Rattle.text.specs.Text.{joinLines}
 use Rattle.sizes.specs.declared.Size.{Size}
 use Rattle.sizes.specs.Collecting.{sizeWidth}
 use Rattle.sizes.specs.Sizes.{naturals}
 use Rattle.sizes.specs.Input.{Input, refused, given}
-use Rattle.drafts.specs.Store.{isName, tagFor, fieldsOf, draftOf, returnFound, returnIn, returnOf}
 use Rattle.block.specs.Block.{block}
 use Rattle.fold.specs.declared.Tried.{Tried}
 use Rattle.fold.specs.Fold.{columns, find}
@@ -27,7 +24,6 @@ use Rattle.fold.specs.Answers.{listedTrees, list?, counts, writes, foldCells, f
 use Rattle.collector.specs.declared.SizeRecord.{SizeRecord}
 use Rattle.collector.specs.Records.{recordsOf, collectOf}
 use Rattle.collector.proofs.Zipped.{records-length}
-use Rattle.blank.specs.Blank.{blanked, cellFlags, dotsFor, allCells, blankTo, blankIn, blankOf}
 use Rattle.layout.specs.Walk.{Placed, leafOf, leaves}
 use Rattle.frame.specs.Frame.{tooLarge}
 use Rattle.frame.specs.Printer.{printTo}
@@ -42,7 +38,7 @@ use Rattle.places.specs.declared.LeafPlace.{LeafPlace}
 use Rattle.places.specs.Together.{wordOf, firstFault, findsOf}
 use Rattle.c_encoding.specs.Numbers.{refusal, written, offered, sizeNumbers, sizesGiven, recordNumbers, recordGiven}
 use Rattle.c_encoding.specs.Places.{placeNumbers, placeGiven}
-use Rattle.alike.specs.Lent.{Lent, BothAnswer, Equal, BothCollect, BothPrint, BothFind, BothFold, BothReturn, BothBlank, BothNearest, BothGive}
+use Rattle.alike.specs.Lent.{Lent, BothAnswer, Equal, BothCollect, BothPrint, BothFind, BothFold, BothNearest, BothGive}
 
 -- ---- one law for all
 
@@ -149,38 +145,6 @@ module _ (o r : List ℕ) (e : length o ≡ length r) where
   fold-lent (refused k) w budget = record { answer = refl; lent = lent-none Equal o r refl }
   fold-lent (given s t) w budget =
       both-pick Equal o r (list? t) (cells-lent s w budget (naturals s (listedTrees t))) (record { answer = refl; lent = lent-none Equal o r refl })
-
-  -- ---- drafts and blanked trees
-
-  draft-lent : (x : Option (List ℕ)) → BothReturn Equal o r (returnFound x o) (returnFound x r)
-  draft-lent none = record { answer = refl; lent = lent-none Equal o r refl }
-  draft-lent (some d) =
-      rw e
-      (both-pick Equal o r (ltb (length r) (length d)) (record { answer = refl; lent = lent-none Equal o r refl })
-      (record { answer = refl; lent = lent-same o r (length d) d refl }))
-
-  pub return-lent : (store : List ℕ) (n : ℕ) → BothReturn Equal o r (returnOf store n o) (returnOf store n r)
-  unfolding returnOf
-  return-lent store n = go (fieldsOf store)
-    where
-      go : (x : Option (List (List ℕ))) → BothReturn Equal o r (returnIn x n o) (returnIn x n r)
-      go none = record { answer = refl; lent = lent-none Equal o r refl }
-      go (some fs) = both-pick Equal o r (isName n) (draft-lent (draftOf (tagFor n) fs)) (record { answer = refl; lent = lent-none Equal o r refl })
-
-  pub blank-lent : (tree ns : List ℕ) → BothBlank Equal o r (blankOf tree ns o) (blankOf tree ns r)
-  unfolding blankOf
-  blank-lent tree ns = go (readTree tree)
-    where
-      to : (bytes : List ℕ) → BothBlank Equal o r (blankTo bytes o) (blankTo bytes r)
-      to bytes =
-          rw e
-          (both-pick Equal o r (ltb (length r) (length bytes)) (record { answer = refl; lent = lent-none Equal o r refl })
-          (record { answer = refl; lent = lent-same o r (length bytes) bytes refl }))
-
-      go : (x : ReadOne) → BothBlank Equal o r (blankIn x ns o) (blankIn x ns r)
-      go (ReadOne.refused k) = record { answer = refl; lent = lent-none Equal o r refl }
-      go (ReadOne.one t z n) =
-          both-pick Equal o r (allCells (cellFlags t) ns) (to (bytesOf (blanked (dotsFor ns) 0 t))) (record { answer = refl; lent = lent-none Equal o r refl })
 
   -- ---- the C functions that write numbers
 
