@@ -5,24 +5,6 @@ use Rattle.c_encoding.proofs.Record.{record-stored}
 use Rattle.c_encoding.proofs.fields.put_record.Statement.{statement}
 use Rattle.c_encoding.proofs.fields.put_record.Tie as tie
 
-front-requires : tie.Need-front-requires
-front-requires c κs = search needs
-
-slice-aggregate-copy-numbers : tie.Need-slice-aggregate-copy-numbers
-slice-aggregate-copy-numbers c = search needs
-
-copy-numbers-requires : tie.Need-copy-numbers-requires
-copy-numbers-requires c κs = search needs
-
-put-list-requires : tie.Need-put-list-requires
-put-list-requires c κs = search needs
-
-put-list-requires-2 : tie.Need-put-list-requires-2
-put-list-requires-2 c κs = search needs
-
-same-length : tie.Need-same-length
-same-length c = search needs
-
 -- as many numbers as the list has room for
 long : (c : tie.After-front) → length (c .before .before .before .before .before .args .r .horizontal .pieces) ≡ 512
 long c = search needs
@@ -39,10 +21,10 @@ pub put-record-spec : {M : Type 1} → statement M
 put-record-spec =
     tie.close
     (tie.spec
-    front-requires
-    slice-aggregate-copy-numbers
-    copy-numbers-requires
-    put-list-requires
-    put-list-requires-2
-    same-length
+    (λ c κs. search needs)
+    (λ c. search needs)
+    (λ c κs. search needs)
+    (λ c κs. search needs)
+    (λ c κs. search needs)
+    (λ c. search needs)
     returns)
