@@ -16,7 +16,7 @@ use Rattle.common.proofs.Stores.{sets-front}
 use Rattle.tree.specs.Reading.{ReadOne, readTree, treeAnswer}
 use Rattle.tree.specs.Accepted.{element}
 use Rattle.tree.proofs.Sound.{tree-refusal, tree-sound}
-use Rattle.drafts.specs.Store.{isName, tagFor, hasTag, fieldsOf, fieldBytes, storeOf, withoutTag, draftOf, saveTree, saveIn, saveOf, forgetIn, forgetOf}
+use Rattle.drafts.specs.Store.{isName, tagFor, hasTag, fieldsOf, fieldBytes, storeOf, withoutTag, saveTree, saveIn, saveOf, forgetIn, forgetOf}
 use Rattle.drafts.specs.Store.{noReturn, returnFound, returnIn, returnOf}
 use Rattle.drafts.specs.Contracts.{noField, fieldFrom, scanOf, refusedOpen, openedOf}
 use Rattle.drafts.specs.Promises.{TreeRead, Field, Fields, Formed}
@@ -78,56 +78,43 @@ module _ (n : ℕ) (x : Option (List (List ℕ))) (s : Scan) (e : s ≡ scanOf (
 
 -- ---- a refusal
 
+-- of a name: f is the refusal, y what is done otherwise
+named : {A : Type 0} (f : ℕ → A) (n : ℕ) (fs : List (List ℕ)) (y : A) (c : Bool)
+    → (pick c (record { number = 0; used = length (fieldBytes fs); spot = fieldFrom (tagFor n) 0 fs }) (refusedOpen 19) .number ≡ 0 → ⊥)
+    → f (pick c (record { number = 0; used = length (fieldBytes fs); spot = fieldFrom (tagFor n) 0 fs }) (refusedOpen 19) .number) ≡ pick c y (f 19)
+named f n fs y true q = absurd (q refl)
+named f n fs y false q = refl
+
 module _ (o : List ℕ) (n : ℕ) (p : Opened) (e : p ≡ openedOf n (fieldsOf o)) (h : p .number ≡ 0 → ⊥) where
+  opened-not : openedOf n (fieldsOf o) .number ≡ 0 → ⊥
+  opened-not z = h (ap (λ (q : Opened). q .number) e ∙ z)
+
+  abbrev stays : ℕ → Outcome ℕ (List ℕ)
+  stays k = record { answer = k; memory = o }
+
   pub refused-return : (out : List ℕ) → noReturn (p .number) out ≡ returnOf o n out
   unfolding returnOf
-  refused-return out = rw e (go (fieldsOf o) (λ z. h (ap (λ (q : Opened). q .number) e ∙ z)))
+  refused-return out = rw e (go (fieldsOf o) opened-not)
     where
-      named : (fs : List (List ℕ)) (c :
-          Bool) → (pick c (record { number = 0; used = length (fieldBytes fs); spot = fieldFrom (tagFor n) 0 fs }) (refusedOpen 19) .number ≡ 0 → ⊥)
-          → noReturn (pick c (record { number = 0; used = length (fieldBytes fs); spot = fieldFrom (tagFor n) 0 fs }) (refusedOpen 19) .number) out
-          ≡ pick c (returnFound (draftOf (tagFor n) fs) out) (noReturn 19 out)
-      named fs true q = absurd (q refl)
-      named fs false q = refl
-
       go : (x : Option (List (List ℕ))) → (openedOf n x .number ≡ 0 → ⊥) → noReturn (openedOf n x .number) out ≡ returnIn x n out
       go none q = refl
-      go (some fs) q = named fs (isName n) q
+      go (some fs) q = named (λ k. noReturn k out) n fs _ (isName n) q
 
   pub refused-save : (tree : List ℕ) → record { answer = p .number; memory = o } ≡ saveOf o n tree
   unfolding saveOf
-  refused-save tree = rw e (go (fieldsOf o) (λ z. h (ap (λ (q : Opened). q .number) e ∙ z)))
+  refused-save tree = rw e (go (fieldsOf o) opened-not)
     where
-      named : (fs : List (List ℕ)) (c : Bool) (y : Outcome ℕ (List ℕ))
-          → (pick c (record { number = 0; used = length (fieldBytes fs); spot = fieldFrom (tagFor n) 0 fs }) (refusedOpen 19) .number ≡ 0 → ⊥)
-          → record {
-            answer = pick c (record { number = 0; used = length (fieldBytes fs); spot = fieldFrom (tagFor n) 0 fs }) (refusedOpen 19) .number;
-            memory = o;
-          } ≡ pick c y (record { answer = 19; memory = o })
-      named fs true y q = absurd (q refl)
-      named fs false y q = refl
-
-      go : (x : Option (List (List ℕ))) → (openedOf n x .number ≡ 0 → ⊥) → record { answer = openedOf n x .number; memory = o } ≡ saveIn o x n tree
+      go : (x : Option (List (List ℕ))) → (openedOf n x .number ≡ 0 → ⊥) → stays (openedOf n x .number) ≡ saveIn o x n tree
       go none q = refl
-      go (some fs) q = named fs (isName n) (saveTree o fs (tagFor n) tree (readTree tree)) q
+      go (some fs) q = named stays n fs _ (isName n) q
 
   pub refused-forget : record { answer = p .number; memory = o } ≡ forgetOf o n
   unfolding forgetOf
-  refused-forget = rw e (go (fieldsOf o) (λ z. h (ap (λ (q : Opened). q .number) e ∙ z)))
+  refused-forget = rw e (go (fieldsOf o) opened-not)
     where
-      named : (fs : List (List ℕ)) (c : Bool) (y : Outcome ℕ (List ℕ))
-          → (pick c (record { number = 0; used = length (fieldBytes fs); spot = fieldFrom (tagFor n) 0 fs }) (refusedOpen 19) .number ≡ 0 → ⊥)
-          → record {
-            answer = pick c (record { number = 0; used = length (fieldBytes fs); spot = fieldFrom (tagFor n) 0 fs }) (refusedOpen 19) .number;
-            memory = o;
-          } ≡ pick c y (record { answer = 19; memory = o })
-      named fs true y q = absurd (q refl)
-      named fs false y q = refl
-
-      go : (x : Option (List (List ℕ))) → (openedOf n x .number ≡ 0 → ⊥) → record { answer = openedOf n x .number; memory = o } ≡ forgetIn o x n
+      go : (x : Option (List (List ℕ))) → (openedOf n x .number ≡ 0 → ⊥) → stays (openedOf n x .number) ≡ forgetIn o x n
       go none q = refl
-      go (some fs) q = named fs (isName n) (pick (hasTag (tagFor n) fs) (record { answer = 0; memory = storeOf (length o) (withoutTag (tagFor n) fs) })
-          (record { answer = 19; memory = o })) q
+      go (some fs) q = named stays n fs _ (isName n) q
 
 -- ---- opened
 
