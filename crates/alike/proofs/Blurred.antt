@@ -3,7 +3,7 @@ use mathlib.Core.Path.{_≡_, refl, sym, ap, ap₂, _∙_}
 use Prim.Native.Nat.{ℕ, zero, suc, _+_, _*_, _≤_, _<_}
 use native.Mathlib.Omega.{arith}
 use mathlib.Core.Bool.{Bool, true, false}
-use mathlib.Core.List.{List, [], _∷_, _++_, map}
+use mathlib.Core.List.{List, _++_, map}
 use lib.ListN.{length, getD, take, drop, length-map, length-drop, length-append, List·getD-append}
 use lib.Seq.{take-at, drop-at, length-take-le, getD-take}
 use lib.Dec.{eqb, leb}
@@ -12,7 +12,7 @@ use Rattle.common.specs.Choice.{pick}
 use Rattle.tree.specs.Tree.{Axis, across, down}
 use Rattle.tree.specs.Bytes.{lengthAt, tagOf}
 use Rattle.tree.specs.Promises.{contents}
-use Rattle.tree.specs.Reading.{isText, ReadOne, readTree}
+use Rattle.tree.specs.Reading.{isText, readTree}
 use Rattle.tree.proofs.Fronts.{contents-length}
 use Rattle.blank.specs.Alike.{covered}
 use Rattle.alike.specs.Pairs as pairs

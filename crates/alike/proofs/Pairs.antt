@@ -4,7 +4,7 @@ use Prim.Native.Nat.{ℕ, _+_, _≤_}
 use native.Mathlib.Omega.{arith}
 use mathlib.Core.Bool.{true, false}
 use mathlib.Core.List.{List, [], _∷_, map}
-use lib.ListN.{length, getD, drop, length-map}
+use lib.ListN.{length, getD, length-map}
 use lib.Seq.{drop-length}
 use Rattle.settings.specs.Reading.{Parsed, readSettings}
 use Rattle.tree.specs.Tree as tree
@@ -12,11 +12,10 @@ use Rattle.tree.specs.Tree.{Axis, Tree, Trees}
 use Rattle.tree.specs.Bytes.{lengthAt, tagOf}
 use Rattle.tree.specs.Reading.{isText, ReadOne, readTree}
 use Rattle.tree.specs.Promises.{Texts, Texts*, contents, PlanEncodes, PlanEncodesAll, treeOf, treesOf, treeRead}
-use Rattle.tree.specs.Planning.{Plan, Plans, PlanOne, wholeIn}
+use Rattle.tree.specs.Planning.{Plan, Plans, PlanOne}
 use Rattle.tree.proofs.SameReading.{read-same}
 use Rattle.tree.proofs.PlainPlans.{planOf, plansOf, plan-is}
 use Rattle.tree.proofs.Fronts.{contents-length}
-use Rattle.text.specs.Text.{lineLengths}
 use Rattle.sizes.specs.Input.{inputOf, settingsInput}
 use Rattle.blank.specs.Alike.{recast, recast*, covered, masked, Alike}
 use Rattle.plan.specs.Answers as plan

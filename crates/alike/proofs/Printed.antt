@@ -14,7 +14,7 @@ use Rattle.common.specs.Outcome.{Outcome}
 use Rattle.settings.specs.declared.Settings.{Settings}
 use Rattle.settings.specs.Reading.{settingsEnd}
 use Rattle.tree.specs.Tree.{Tree}
-use Rattle.sizes.specs.Input.{Input, refused, given, inputOf}
+use Rattle.sizes.specs.Input.{Input, given, inputOf}
 use Rattle.layout.specs.Walk.{Placed, leaves}
 use Rattle.frame.specs.declared.Written.{Written}
 use Rattle.frame.specs.Frame.{tooLarge}

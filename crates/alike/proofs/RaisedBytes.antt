@@ -1,7 +1,7 @@
 -- A tree with the texts of some Cells masked, blanked or left as they are: all three are made byte by byte from one tree, in which 256 is added to the bytes of
 -- those texts. So where the first has the mask on a sheet the second has a dot, and elsewhere the first and the third agree.
 use mathlib.Core.Path.{_≡_, refl, sym, ap, ap₂, _∙_}
-use Prim.Native.Nat.{ℕ, suc, _+_, _-_, _≤_, _<_}
+use Prim.Native.Nat.{ℕ, suc, _+_, _-_, _<_}
 use native.Mathlib.Omega.{arith}
 use native.Mathlib.Nat.{add-sub-cancel-left}
 use mathlib.Core.Bool.{Bool, true, false}

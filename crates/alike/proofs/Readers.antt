@@ -1,10 +1,10 @@
 -- The readers answer equally for bytes that are alike, of a tree or of none: the same refusal, or alike plans of as many bytes and nodes.
-use mathlib.Core.Path.{_≡_, refl, sym, ap, ap₂, _∙_}
+use mathlib.Core.Path.{_≡_, refl, sym, ap, ap₂}
 use Prim.Native.Nat.{ℕ, zero, suc, _+_, _≤_}
 use native.Mathlib.Omega.{arith}
 use mathlib.Core.Bool.{Bool, true, false, not}
-use mathlib.Core.List.{List, [], _∷_, _++_, map}
-use lib.ListN.{length, getD, take, drop, length-map, length-drop}
+use mathlib.Core.List.{List, [], _∷_}
+use lib.ListN.{length, getD, take, drop, length-drop}
 use lib.Dec.{eqb, ltb, leb}
 use Rattle.common.specs.Choice.{pick, both}
 use Rattle.tree.specs.declared.Header.{Header}

@@ -5,7 +5,7 @@ use mathlib.Core.Bool.{Bool}
 use mathlib.Core.List.{List, _∷_, _++_}
 use lib.Dec.{eqb}
 use Rattle.settings.specs.declared.Settings.{Settings}
-use Rattle.tree.specs.Tree.{Axis, across, down, Tree, Trees, cell, group, none, more, nodes}
+use Rattle.tree.specs.Tree.{Axis, across, down, Tree, Trees, cell, group, none, more}
 use Rattle.tree.specs.Planning.{Plan, Plans}
 use Rattle.sizes.specs.declared.Size.{Size}
 use Rattle.sizes.specs.Sizes.{natural}

@@ -10,7 +10,6 @@ use lib.Dec.{eqb}
 use Rattle.common.specs.Choice.{pick}
 use Rattle.settings.specs.declared.Settings.{Settings}
 use Rattle.tree.specs.Tree.{Tree}
-use Rattle.block.specs.Block.{block}
 use Rattle.layout.specs.Walk.{Placed, leafOf, leaves, insideW, insideH}
 use Rattle.leaf.specs.Answers.{leafNumbered}
 use Rattle.frame.specs.Frame.{W, H, tooLarge}

@@ -2,8 +2,7 @@
 use mathlib.Core.Path.{_≡_, refl, sym, ap, _∙_}
 use Prim.Native.Nat.{ℕ, _≤_}
 use native.Mathlib.Omega.{arith}
-use mathlib.Core.Bool.{Bool}
-use mathlib.Core.List.{List, [], _∷_, _++_}
+use mathlib.Core.List.{List, [], _++_}
 use native.Mathlib.Nat.{zero-add}
 use lib.ListN.{length, drop}
 use lib.Seq.{sets, sets-eq}
@@ -16,8 +15,6 @@ use Rattle.tree.specs.Accepted.{bytesOf}
 use Rattle.tree.proofs.Sound.{tree-sound}
 use Rattle.tree.proofs.Complete.{tree-bytes}
 use Rattle.sizes.specs.Input.{given}
-use Rattle.sheet.specs.Sheet.{sheet}
-use Rattle.frame.specs.Frame.{tooLarge}
 use Rattle.blank.specs.Alike.{Alike}
 use Rattle.tree.proofs.Lengths.{is-bytes-in, bytes-length}
 use Rattle.typed.specs.Promises.{typeOf}

@@ -1,7 +1,7 @@
 -- A leaf's block (document 01, "Block and sheet"; `generate_value_table`, `config_borders`).
 use Prim.Native.Nat.{ℕ, _+_, _-_, _/_}
 use mathlib.Core.Bool.{Bool, not}
-use mathlib.Core.List.{List, [], _∷_, _++_, map}
+use mathlib.Core.List.{List, _++_, map}
 use lib.ListN.{length, getD, replicate}
 use Rattle.common.specs.Choice.{pick, both}
 use Rattle.splits.specs.Splits.{named}

@@ -1,14 +1,13 @@
 -- A leaf's parts, from its entry.
-use mathlib.Core.Path.{_≡_, refl, sym, ap, _∙_}
+use mathlib.Core.Path.{_≡_, refl, ap, _∙_}
 use Prim.Native.Nat.{ℕ, _+_, _-_, _*_, _≤_, _<_}
 use native.Mathlib.Omega.{arith}
 use native.Mathlib.Nat.{add-sub-cancel-left}
-use mathlib.Core.List.{List, _++_}
-use lib.ListN.{length, take, drop, length-take, length-drop}
+use mathlib.Core.List.{List}
+use lib.ListN.{length, take, drop, length-take}
 use lib.Seq.{drop-drop}
 use Rattle.settings.specs.declared.Settings.{Settings}
 use Rattle.tree.specs.Bytes.{lengthAt}
-use Rattle.tree.specs.Promises.{contents}
 use Rattle.sizes.specs.declared.Size.{Size}
 use Rattle.sizes.specs.Sizes.{leafSize}
 use Rattle.sizes.specs.Listed.{allottedAt}

@@ -12,7 +12,7 @@ use Rattle.tree.specs.Tree as tree
 use Rattle.tree.specs.Tree.{Axis, across, down, Tree, Trees}
 use Rattle.tree.specs.Planning.{Plan, Plans}
 use Rattle.sizes.specs.declared.Size.{Size}
-use Rattle.sizes.specs.Sizes.{sep, along, beside, sized, spanned, leafSize, natural, naturals}
+use Rattle.sizes.specs.Sizes.{along, beside, sized, spanned, leafSize, natural, naturals}
 use Rattle.sizes.specs.Contracts.{Fits}
 use Rattle.sizes.proofs.Fill.{fits-refl}
 use Rattle.plan.specs.Promises.{WithinRange, Chooses, Chooses*}

@@ -1,6 +1,5 @@
 // What is wrong with a typed list, as text.
 use common::copy::copy_bytes;
-ghost use mathlib.Core.Path.{_≡_};
 ghost use Prim.Native.Nat.{_+_, _≤_};
 ghost use lib.ListN.{length};
 ghost use lib.Seq.{sets};

@@ -9,7 +9,6 @@ use lib.Dec.{ltb, leb, eqb}
 use borrow.Author.Tests.{ltb-false, eqb-true, ne-eqb}
 use Rattle.common.specs.Choice.{pick}
 use Rattle.tree.specs.Tree as tree
-use Rattle.tree.specs.Tree.{Tree}
 use Rattle.tree.specs.Bytes.{lengthAt}
 use Rattle.tree.specs.Reading.{isText, headerOf, ReadOne, ReadAll, readElement, readSequence, readTree, cellRead, groupRead, moreRead, treeAnswer}
 use Rattle.tree.specs.Planning.{Plan, headerIn, oddRange, PlanOne, PlanAll, cellIn, rangeIn, groupIn, moreIn, elementIn, sequenceIn, wholeIn}

@@ -1,5 +1,4 @@
 use native.Mathlib.Omega.{arith}
-use mathlib.Core.Path.{_≡_}
 use Rattle.entries.proofs.EntryParts.{long, in-list, in-entry, few}
 use Rattle.leaf.proofs.Records.{few-v, record-is}
 use borrow.Author.Needs.{needs}

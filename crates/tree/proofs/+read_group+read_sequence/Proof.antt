@@ -4,7 +4,7 @@
 use borrow.Author.Needs.{needs}
 use native.Mathlib.Omega.{arith}
 use native.Mathlib.Nat.{le-of-eq}
-use mathlib.Core.Path.{_≡_, refl, sym, _∙_}
+use mathlib.Core.Path.{refl, sym, _∙_}
 use Rattle.tree.specs.Contracts.{begunFits, GroupFront}
 use Rattle.tree.specs.declared.ElementBegun.{ElementBegun}
 use Rattle.tree.specs.declared.Step.{Step}

@@ -1,5 +1,4 @@
 use mathlib.Core.Path.{refl}
-use native.Mathlib.Omega.{arith}
 use borrow.Author.Needs.{needs}
 use Rattle.paint.proofs.Ground.{sides-painted}
 use Rattle.paint.proofs.body.paint_sides.Statement.{statement}
