@@ -50,9 +50,9 @@ laid-no-feed {s} p (one f fits) = block-no-feed s p (leafOf f)
 laid-no-feed p (side q r) = no-feed-paired (laid-no-feed p q) (laid-no-feed p r)
 laid-no-feed p (under q r) = no-feed-append (laid-no-feed p q) (laid-no-feed p r)
 
-parted : (x : List (List ℕ)) → NoFeed x → 0 < length x → lines (joinLines x) ≡ x
-parted [] n h = absurd (omega arith)
-parted (l ∷ x) n h = lines-feeds n
+lines-back : (x : List (List ℕ)) → NoFeed x → 0 < length x → lines (joinLines x) ≡ x
+lines-back [] n h = absurd (omega arith)
+lines-back (l ∷ x) n h = lines-feeds n
 
 -- the lines between the margins
 free-mapped : (f : List ℕ → List ℕ) → ((l : List ℕ) → Free l → Free (f l)) → {x : List (List ℕ)} → NoFeed x → NoFeed (map f x)
@@ -87,15 +87,15 @@ margined-no-feed m f w h =
     between-free : (l : List ℕ) → Free l → Free (between m l)
     between-free l p = free-join (free-bytes (m .left) _ (f 0)) (free-join p (free-bytes (m .right) _ (f 1)))
 
-pub sheet-parted : (s : Settings) (t : Tree) → Ranges s → lines (sheet s t) ≡ sheetLines s t
+pub sheet-split : (s : Settings) (t : Tree) → Ranges s → lines (sheet s t) ≡ sheetLines s t
 unfolding sheet sheetLines
-sheet-parted s t r =
-    parted _ (margined-no-feed (s .margin) (printable (s .margin .fills) (r .margin-fills)) (insideW s t) (laid-no-feed (plain s r) (root-laid s t)))
+sheet-split s t r =
+    lines-back _ (margined-no-feed (s .margin) (printable (s .margin .fills) (r .margin-fills)) (insideW s t) (laid-no-feed (plain s r) (root-laid s t)))
     (omega (arith, lines-dims s t .lines, some-lines s t))
 
-pub inside-parted : (s : Settings) (t : Tree) → Ranges s → lines (insideSheet s t) ≡ walk s t (root s t) .content
+pub inside-split : (s : Settings) (t : Tree) → Ranges s → lines (insideSheet s t) ≡ walk s t (root s t) .content
 unfolding insideSheet insideH
-inside-parted s t r = parted _ (laid-no-feed (plain s r) (root-laid s t)) (omega (arith, sheet-dims s t .lines, natural-height s t))
+inside-split s t r = lines-back _ (laid-no-feed (plain s r) (root-laid s t)) (omega (arith, sheet-dims s t .lines, natural-height s t))
 
-pub block-parted : (s : Settings) (f : Placed) → Ranges s → 0 < length (block s (leafOf f)) → lines (joinLines (block s (leafOf f))) ≡ block s (leafOf f)
-block-parted s f r h = parted _ (block-no-feed s (plain s r) (leafOf f)) h
+pub block-split : (s : Settings) (f : Placed) → Ranges s → 0 < length (block s (leafOf f)) → lines (joinLines (block s (leafOf f))) ≡ block s (leafOf f)
+block-split s f r h = lines-back _ (block-no-feed s (plain s r) (leafOf f)) h

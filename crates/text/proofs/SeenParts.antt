@@ -80,14 +80,14 @@ module _ (s : List ℕ) (i n : ℕ) (h : i + n ≤ length s) where
   part-long : length (take n (drop i s)) ≡ n
   part-long = length-take-le n (drop i s) (rw length-drop (omega arith))
 
-  parted : drop i s ≡ take n (drop i s) ++ drop (i + n) s
-  parted = rw (← drop-drop n i s) (sym (take-append-drop n (drop i s)))
+  halves : drop i s ≡ take n (drop i s) ++ drop (i + n) s
+  halves = rw (← drop-drop n i s) (sym (take-append-drop n (drop i s)))
 
   part-fine : (r : Seen) → Fine i r → Fine (i + n) (after (take n (drop i s)) i r)
   part-fine r f = rw part-long at (after-fine (take n (drop i s)) i r f)
 
   part-on : (r : Seen) → after (drop (i + n) s) (i + n) (after (take n (drop i s)) i r) ≡ after (drop i s) i r
-  part-on r = sym (rw (part-long) at (ap (λ (l : List ℕ). after l i r) parted ∙ after-append (take n (drop i s)) (drop (i + n) s) i r))
+  part-on r = sym (rw (part-long) at (ap (λ (l : List ℕ). after l i r) halves ∙ after-append (take n (drop i s)) (drop (i + n) s) i r))
 
   -- n bytes more were passed
   pub reached-part : (r q : Seen) → SeenBefore s i r → q ≡ after (take n (drop i s)) i r → SeenBefore s (i + n) q

@@ -62,7 +62,7 @@ use Rattle.leaf.proofs.LeafNumbers.{leaf-found, found-leaf}
 use Rattle.sheet.specs.Answers.{sheetOf}
 use Rattle.sheet.specs.Sheet.{sheet}
 use Rattle.sheet.specs.Promises.{SheetOf}
-use Rattle.sheet.proofs.SheetLines.{block-parted}
+use Rattle.sheet.proofs.SheetLines.{block-split}
 use Rattle.sheet.proofs.Bytes.{leaf-dims}
 use Rattle.sheet.proofs.Tiling.{Covers}
 use Rattle.sheet.proofs.Demand3.{covered-once, sheet-rectangle, place-owned}
@@ -159,7 +159,7 @@ module _ (bs ts : List ℕ) (s : Settings) (t : Tree) (i : inputOf bs ts ≡ giv
     unfolding blockHeight
     lines-are o h =
         ap lines (bytes-are o h)
-        ∙ block-parted s f r (omega (arith, leaf-dims s t (p .index) f (p .stands) .lines, fits .tall, leaf-height s (f .text)))
+        ∙ block-split s f r (omega (arith, leaf-dims s t (p .index) f (p .stands) .lines, fits .tall, leaf-height s (f .text)))
 
   -- ---- the leaves' blocks, and the rectangle, by the sizes that were written
 
