@@ -83,7 +83,7 @@ static int line(const char *name) {
 }
 
 int main(void) {
-    printf("ns for a call: the tree read; blanked with no number, with the last Cell's, with those of all Cells; and this by the reading.\n");
+    printf("ns for a call: the tree read; blanked with no number, with the last Cell's, with those of all Cells. ratio: all divided by read.\n");
     printf("%-16s %6s %7s %10s %10s %10s %10s %8s\n", "tree", "nodes", "bytes", "read", "none", "last", "all", "ratio");
     if (example("examples/flight.legs"))
         return 1;

@@ -81,7 +81,7 @@ static int row(int drafts, size_t length) {
 }
 
 int main(void) {
-    printf("ns for a call on the draft that stands first: save, where it was forgotten; again, where it is there; forget; return. Then ns by the bytes of the store.\n");
+    printf("ns for a call on the first draft of a store: save, where it was forgotten; again, where it is there; forget; return. Then ns for a byte of the store.\n");
     printf("%8s %7s %8s", "store", "drafts", "bytes");
     printf(" %10s %10s %10s %10s", "save", "again", "forget", "return");
     printf(" %7s %7s %7s %7s\n", "save", "again", "forget", "return");

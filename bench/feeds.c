@@ -68,7 +68,7 @@ static int agree(uint64_t feeds) {
 
 static int table(void) {
     int missed = 0;
-    printf("ns for %d bytes. ratio: words by search of before.\n", BYTES);
+    printf("ns for %d bytes. ratio: words divided by search, before.\n", BYTES);
     printf("%8s %6s %12s %13s %14s %8s %6s %4s\n", "letters", "feeds", "plain count", "plain measure", "search, before", "words", "ratio", "bar");
     for (size_t i = 0; i < sizeof texts / sizeof *texts; i++) {
         double best[WAYS];

@@ -87,7 +87,7 @@ static int agree(size_t count, size_t nodes) {
 
 int main(void) {
     int missed = 0;
-    printf("ns for all places. ratio: a call for each place by one call.\n");
+    printf("ns for all places. ratio: a call for each place divided by one call.\n");
     printf("%6s %7s %10s %11s %7s %4s\n", "nodes", "places", "one call", "call each", "ratio", "bar");
     for (size_t i = 0; i < sizeof cells / sizeof *cells; i++) {
         size_t nodes = 1 + ROWS + ROWS * cells[i];

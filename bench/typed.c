@@ -91,7 +91,7 @@ static int line(const char *name) {
 }
 
 int main(void) {
-    printf("ns for a call: the list read, all of it and by its bytes; its tree read.\n");
+    printf("ns for a call: the list read, and this for a byte; its tree read.\n");
     printf("%-24s %7s %6s %7s %10s %8s %10s\n", "list", "bytes", "nodes", "tree", "typed", "a byte", "tree read");
     if (example("examples/flight.list"))
         return 1;

@@ -1,4 +1,4 @@
-/* Every question in a thread that has no more stack than leg_sheet.h asks for; below it is a page that can be neither read nor written. Prints the most that was used. */
+/* Every question in a thread that has no more stack than leg_sheet.h requires; below it is a page that can be neither read nor written. Prints the most that was used. */
 #include <pthread.h>
 #include <stdio.h>
 #include <stdlib.h>

@@ -17,7 +17,7 @@ static struct answer {
 static const struct question *all;
 static size_t count;
 
-static void *anew(size_t list, size_t bytes) {
+static void *fresh(size_t list, size_t bytes) {
     (void)list;
     return malloc(bytes ? bytes : 1);
 }
@@ -29,7 +29,7 @@ static int ask(size_t n) {
     uint64_t word;
     size_t list;
     int holds;
-    lend(question, alone[n].lengths, anew, lists);
+    lend(question, alone[n].lengths, fresh, lists);
     for (list = 0; list < question->call->count; list++) {
         if (question->call->lists[list].use != READ) continue;
         free(lists[list].items);
@@ -68,7 +68,7 @@ static void test(void) {
     for (n = 0; n < count; n++) {
         asks(all + n);
         exact_lengths(all + n, alone[n].lengths);
-        lend(all + n, alone[n].lengths, anew, alone[n].lists);
+        lend(all + n, alone[n].lengths, fresh, alone[n].lists);
         alone[n].word = run(all + n, alone[n].lists);
     }
     for (n = 0; n < THREADS; n++) {

@@ -83,17 +83,17 @@ static inline size_t leg_fault_column(uint64_t word) { return word >> 32 ? (size
 #define LEG_FAULT_LINE(word) ((size_t)((word) >> 40))
 #define LEG_FAULT_COLUMN(word) leg_fault_column(word)
 
-/* The refusals: number, name and sentence of each; 30 to 39 are of typed lists. 7 never occurs any more, and is kept free. LEG_REFUSALS(X) is X(number, name, sentence) of all of them, for tables of your
+/* The refusals: number, name and sentence of each; 30 to 39 are of typed lists. 7 never occurs any more, and is reserved. LEG_REFUSALS(X) is X(number, name, sentence) of all of them, for tables of your
  * own. */
 #define LEG_REFUSALS(X) \
     X(1, LEG_BAD_SETTINGS, "the settings are malformed or out of range") \
-    X(2, LEG_BAD_TREE, "the tree is too long, is cut short, has an unknown tag or a length past the end, or does not end at the end") \
+    X(2, LEG_BAD_TREE, "the tree is too long, is cut short, or has an unknown tag, a length past the end or bytes after its end") \
     X(3, LEG_BAD_TEXT, "a text has a byte other than hex 20 to 7E and 0A") \
     X(4, LEG_TOO_MANY_NODES, "the tree has more than 512 nodes") \
     X(5, LEG_TOO_DEEP, "the tree is more than 16 deep") \
     X(6, LEG_TOO_LARGE, "the sheet has over 400 columns or over 160 lines") \
     X(8, LEG_TOO_SHORT, "a lent list or output is shorter than needed") \
-    X(9, LEG_NO_LEAF, "the number names no leaf, or no Cell where texts are blanked") \
+    X(9, LEG_NO_LEAF, "the number names no leaf or, where texts are blanked, no Cell") \
     X(10, LEG_TOO_MANY_PIECES, "the split list has over 512 pieces") \
     X(11, LEG_NO_CHILD, "there are no children to share among, or the index is past them") \
     X(12, LEG_OUTSIDE_SHEET, "the line or column is outside the printed sheet") \
@@ -101,16 +101,16 @@ static inline size_t leg_fault_column(uint64_t word) { return word >> 32 ? (size
     X(14, LEG_TOO_MANY_PLACES, "there are over 256 places") \
     X(15, LEG_NOT_A_LIST, "the tree is no Column of 1 to 200 Cells") \
     X(16, LEG_TOO_WIDE, "a cell is wider than the given width") \
-    X(17, LEG_BAD_RANGE, "a range has a least above its greatest, or no line") \
+    X(17, LEG_BAD_RANGE, "a range has a least above its greatest, or a least line count of 0") \
     X(18, LEG_BAD_STORE, "the store of drafts is malformed") \
     X(19, LEG_NO_DRAFT, "the name is none of A to H, or no draft has it") \
     X(20, LEG_NO_ROOM, "the store has no room for the tree beside the other drafts") \
     X(30, LEG_LIST_TOO_LONG, "the list has over 131,072 bytes") \
-    X(31, LEG_BAD_CHARACTER, "only letters, digits, signs and spaces may stand here: no tab, no accent") \
-    X(32, LEG_BAD_ESCAPE, "after a backslash only n or a backslash may stand") \
+    X(31, LEG_BAD_CHARACTER, "only ASCII letters, digits, signs and spaces are allowed here: no tab, no accent") \
+    X(32, LEG_BAD_ESCAPE, "only n or a backslash is allowed after a backslash") \
     X(33, LEG_ODD_INDENT, "a level is two spaces, and this line begins with an odd number of them") \
-    X(34, LEG_SECOND_ROOT, "a second root: every line after the first is indented") \
-    X(35, LEG_NO_PARENT, "too deep: a line stands at most one level below a row or column, and none below a text") \
+    X(34, LEG_SECOND_ROOT, "a second root: indent every line after the first") \
+    X(35, LEG_NO_PARENT, "too deep: only a row or column has lines inside it, and these are one level deeper") \
     X(36, LEG_LIST_TOO_DEEP, "over 16 levels") \
     X(37, LEG_LIST_TOO_MANY, "over 512 rows, columns and texts") \
     X(38, LEG_LIST_TOO_LARGE, "the list is too long: with this line its tree has over 32,768 bytes") \

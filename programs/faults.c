@@ -2,7 +2,7 @@
  *   .  moves seven bytes at the most
  *   i  is interrupted by a signal
  *   e  fails
- *   0  moves nothing, and says so
+ *   0  moves nothing, and answers 0
  * Later calls are as they are. */
 #define _GNU_SOURCE
 #include <errno.h>

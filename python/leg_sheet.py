@@ -64,13 +64,13 @@ class Refused(ValueError):
 # Number, name and sentence of each refusal, as leg_sheet.h has them.
 _REFUSALS = """
 1 BadSettings the settings are malformed or out of range
-2 BadTree the tree is too long, is cut short, has an unknown tag or a length past the end, or does not end at the end
+2 BadTree the tree is too long, is cut short, or has an unknown tag, a length past the end or bytes after its end
 3 BadText a text has a byte other than hex 20 to 7E and 0A
 4 TooManyNodes the tree has more than 512 nodes
 5 TooDeep the tree is more than 16 deep
 6 TooLarge the sheet has over 400 columns or over 160 lines
 8 TooShort a lent list or output is shorter than needed
-9 NoLeaf the number names no leaf, or no Cell where texts are blanked
+9 NoLeaf the number names no leaf or, where texts are blanked, no Cell
 10 TooManyPieces the split list has over 512 pieces
 11 NoChild there are no children to share among, or the index is past them
 12 OutsideSheet the line or column is outside the printed sheet
@@ -78,16 +78,16 @@ _REFUSALS = """
 14 TooManyPlaces there are over 256 places
 15 NotAList the tree is no Column of 1 to 200 Cells
 16 TooWide a cell is wider than the given width
-17 BadRange a range has a least above its greatest, or no line
+17 BadRange a range has a least above its greatest, or a least line count of 0
 18 BadStore the store of drafts is malformed
 19 NoDraft the name is none of A to H, or no draft has it
 20 NoRoom the store has no room for the tree beside the other drafts
 30 ListTooLong the list has over 131,072 bytes
-31 BadCharacter only letters, digits, signs and spaces may stand here: no tab, no accent
-32 BadEscape after a backslash only n or a backslash may stand
+31 BadCharacter only ASCII letters, digits, signs and spaces are allowed here: no tab, no accent
+32 BadEscape only n or a backslash is allowed after a backslash
 33 OddIndent a level is two spaces, and this line begins with an odd number of them
-34 SecondRoot a second root: every line after the first is indented
-35 NoParent too deep: a line stands at most one level below a row or column, and none below a text
+34 SecondRoot a second root: indent every line after the first
+35 NoParent too deep: only a row or column has lines inside it, and these are one level deeper
 36 ListTooDeep over 16 levels
 37 ListTooMany over 512 rows, columns and texts
 38 ListTooLarge the list is too long: with this line its tree has over 32,768 bytes
@@ -201,7 +201,7 @@ def print_sheet(tree: Tree, settings: bytes = DEFAULTS) -> str:
     '+----+\\n| ab |\\n+----+'
     >>> print_sheet(b"")
     Traceback (most recent call last):
-    leg_sheet.BadTree: refused 2: the tree is too long, is cut short, has an unknown tag or a length past the end, or does not end at the end
+    leg_sheet.BadTree: refused 2: the tree is too long, is cut short, or has an unknown tag, a length past the end or bytes after its end
     """
     tree, out = _tree(tree), (ctypes.c_uint8 * _SHEET)()
     word = _loaded.leg_print_sheet(settings, len(settings), tree, len(tree), out, len(out))
@@ -243,7 +243,7 @@ def blank(tree: Tree, nodes: Iterable[int] = ()) -> bytes:
     True
     >>> blank(key, [2])
     Traceback (most recent call last):
-    leg_sheet.NoLeaf: refused 9: the number names no leaf, or no Cell where texts are blanked
+    leg_sheet.NoLeaf: refused 9: the number names no leaf or, where texts are blanked, no Cell
     """
     numbers = [node if 0 <= node <= 0xFFFF else 0xFFFF for node in nodes]
     tree = _tree(tree)

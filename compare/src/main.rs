@@ -22,7 +22,7 @@ fn is_enough(counts: &Counts) -> bool {
 
 /// Runs every part, one whether or not another finds a difference; answers how many agreed and how many did not. Last comes whether they were enough.
 fn compare_all(seed: u64, rounds: usize) -> (usize, usize) {
-    let (mut agreed, mut parted) = (0, 0);
+    let (mut agreed, mut differed) = (0, 0);
     let mut counts = Counts::default();
     let mut original = Original::default();
     for (part, run) in parts() {
@@ -34,7 +34,7 @@ fn compare_all(seed: u64, rounds: usize) -> (usize, usize) {
                 println!("{part}: {} calls agree", comparison.counts.total());
             }
             Err(difference) => {
-                parted += 1;
+                differed += 1;
                 println!(
                     "{part}: DIFFERENCE after {} calls",
                     comparison.counts.total()
@@ -50,9 +50,9 @@ fn compare_all(seed: u64, rounds: usize) -> (usize, usize) {
     if is_enough(&counts) {
         agreed += 1;
     } else {
-        parted += 1;
+        differed += 1;
     }
-    (agreed, parted)
+    (agreed, differed)
 }
 
 fn main() -> ExitCode {
@@ -66,9 +66,9 @@ fn main() -> ExitCode {
             return ExitCode::FAILURE;
         }
     };
-    let (agreed, parted) = compare_all(seed, rounds);
-    println!("{agreed} passed, {parted} failed");
-    if parted == 0 {
+    let (agreed, differed) = compare_all(seed, rounds);
+    println!("{agreed} passed, {differed} failed");
+    if differed == 0 {
         ExitCode::SUCCESS
     } else {
         ExitCode::FAILURE

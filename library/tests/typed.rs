@@ -180,11 +180,11 @@ fn faults_in_words() {
     let words = |text: String| Tree::from_typed(text).expect_err("a fault").to_string();
     let said = [
         (" ".repeat(TYPED + 1), "the list has over 131,072 bytes"),
-        ("\t".into(), "line 1, column 1: only letters, digits, signs and spaces may stand here: no tab, no accent"),
-        ("\\t".into(), "line 1, column 2: after a backslash only n or a backslash may stand"),
+        ("\t".into(), "line 1, column 1: only ASCII letters, digits, signs and spaces are allowed here: no tab, no accent"),
+        ("\\t".into(), "line 1, column 2: only n or a backslash is allowed after a backslash"),
         (" a".into(), "line 1, column 2: a level is two spaces, and this line begins with an odd number of them"),
-        ("a\nb".into(), "line 2, column 1: a second root: every line after the first is indented"),
-        ("a\n  b".into(), "line 2, column 3: too deep: a line stands at most one level below a row or column, and none below a text"),
+        ("a\nb".into(), "line 2, column 1: a second root: indent every line after the first"),
+        ("a\n  b".into(), "line 2, column 3: too deep: only a row or column has lines inside it, and these are one level deeper"),
         (nested(17), "line 17, column 33: over 16 levels"),
         (String::from("row") + &"\n  ro".repeat(NODES), "line 513, column 3: over 512 rows, columns and texts"),
         ("x".repeat(TREE), "line 1, column 1: the list is too long: with this line its tree has over 32,768 bytes"),

@@ -202,7 +202,7 @@ fn faults_have_their_place() {
         22,
         "marks: '\\0' (U+0000) cannot be printed",
     );
-    said("align left\nalign left", 2, 1, "align: stands there twice");
+    said("align left\nalign left", 2, 1, "align: given twice");
     let no_marks = "without lines there are no marks";
     said(
         "marks figure\nlines no",
@@ -227,7 +227,7 @@ fn faults_have_their_place() {
     assert_eq!(named(&[("margin", "1,17")]), "margin: 17 is over 16");
     assert_eq!(
         named(&[("margin", "1"), ("margin", "1")]),
-        "margin: stands there twice"
+        "margin: given twice"
     );
     assert_eq!(
         named(&[("marks", "")]),

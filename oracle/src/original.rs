@@ -159,7 +159,7 @@ pub fn seen(settings: &Settings, tree: &Tree) -> Seen {
     let mut sizes = vec![None; count];
     for node in &trace.nodes {
         let (natural_width, natural_height) = naturals[node.pos].expect("a node is measured");
-        assert_eq!(sizes[node.pos], None, "node {} is met twice", node.pos);
+        assert_eq!(sizes[node.pos], None, "node {} is visited twice", node.pos);
         assert!(
             !(node.kv || node.kv_is_first || node.no_bottom),
             "kv, kv_is_first and no_bottom are always false"
@@ -210,7 +210,7 @@ pub fn seen(settings: &Settings, tree: &Tree) -> Seen {
         leaves: leaves.collect(),
         sizes: sizes
             .into_iter()
-            .map(|size| size.expect("every node is met"))
+            .map(|size| size.expect("every node is visited"))
             .collect(),
         sheet,
     };

@@ -88,7 +88,7 @@ struct Typed {
 }
 
 impl Typed {
-    /// The most levels above the next node: 'a line stands at most one level below a row or column, and none below a text'.
+    /// The most levels above the next node: 'only a row or column has lines inside it, and these are one level deeper'.
     fn most(&self) -> usize {
         match self.nodes.last() {
             None => 0,

@@ -68,7 +68,7 @@ table = words30 ++ (words31 ++ (words32 ++ (words33 ++ (words34 ++ (words35 ++ (
 
 -- where each of them begins, and where the last ends
 abbrev start : ℕ → ℕ
-start i = getD (0 ∷ 31 ∷ 103 ∷ 152 ∷ 222 ∷ 275 ∷ 361 ∷ 375 ∷ 407 ∷ 474 ∷ 530 ∷ []) i 0
+start i = getD (0 ∷ 31 ∷ 111 ∷ 161 ∷ 231 ∷ 279 ∷ 361 ∷ 375 ∷ 407 ∷ 474 ∷ 530 ∷ []) i 0
 
 -- the words of fault k are a part of the table, 100 bytes at the most
 pub record Row (k : ℕ) : Type 0 where

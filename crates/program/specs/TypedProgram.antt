@@ -12,7 +12,7 @@ use Rattle.typed.specs.Typed.{typedOf}
 use Rattle.program.specs.Program.{printedOf}
 use Rattle.program.specs.Words.{faultText}
 
--- a refusal of the sheet has its words alone
+-- a refusal of the sheet is reported without a place
 abbrev pub sheetFault : ℕ → List ℕ
 sheetFault k = faultText k 0 0
 

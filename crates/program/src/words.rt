@@ -26,18 +26,18 @@ fn put_digits(n: usize, places: usize, out: &mut [u8], at: usize) -> usize
 
 // The words of the faults 30 to 39, one after the other.
 const WORDS: [u8; 530] = *b"the list has over 131,072 bytes\
-    only letters, digits, signs and spaces may stand here: no tab, no accent\
-    after a backslash only n or a backslash may stand\
+    only ASCII letters, digits, signs and spaces are allowed here: no tab, no accent\
+    only n or a backslash is allowed after a backslash\
     a level is two spaces, and this line begins with an odd number of them\
-    a second root: every line after the first is indented\
-    too deep: a line stands at most one level below a row or column, and none below a text\
+    a second root: indent every line after the first\
+    too deep: only a row or column has lines inside it, and these are one level deeper\
     over 16 levels\
     over 512 rows, columns and texts\
     the list is too long: with this line its tree has over 32,768 bytes\
     the list is empty: no line has a row, a column or a text";
 
 // Where each of them begins, and where the last ends.
-const ENDS: [usize; 11] = [0, 31, 103, 152, 222, 275, 361, 375, 407, 474, 530];
+const ENDS: [usize; 11] = [0, 31, 111, 161, 231, 279, 361, 375, 407, 474, 530];
 
 // The words of a fault from `at` on; the answer is where they end.
 fn put_words(number: u8, out: &mut [u8], at: usize) -> usize

@@ -135,7 +135,7 @@ impl Changed {
     fn once(&self, word: &'static Word) -> Result<&'static Word, Wrong> {
         let name = word.name();
         if self.names.contains(&name) {
-            return Err(Wrong::new(0, format!("{name}: stands there twice")));
+            return Err(Wrong::new(0, format!("{name}: given twice")));
         }
         Ok(word)
     }

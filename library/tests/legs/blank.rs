@@ -35,7 +35,7 @@ fn blank() {
 
 #[test]
 fn blanks_are_refused() {
-    let no_cell = "refused 9: the number names no leaf, or no Cell where texts are blanked";
+    let no_cell = "refused 9: the number names no leaf or, where texts are blanked, no Cell";
     for node in ["0", "1", "22", "65543", "18446744073709551615"] {
         let message = format!("key.legs: {no_cell}");
         fails(&["blank", "key.legs", "7", node], &message, 1);
@@ -105,14 +105,14 @@ fn blanks_by_lines() {
     );
     misused(
         &["blank", "key.legs", "--lines", "9"],
-        "--lines are those of a typed list, and key.legs has none",
+        "--lines are lines of a typed list, and key.legs is not one",
     );
 }
 
 /// What is blanked is said, some or all.
 #[test]
 fn what_is_blanked_is_said() {
-    let which = "some of NODE.., --lines LINE,LINE.. say what is blanked; or --all";
+    let which = "say which texts to blank: by NODE.., by --lines LINE,LINE.., or --all alone";
     misused(&["blank", "key.list"], which);
     misused(&["blank", "key.list", "7", "--all"], which);
     misused(&["blank", "key.list", "--lines", "9", "--all"], which);

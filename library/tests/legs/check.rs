@@ -59,9 +59,10 @@ fn listed(list: impl AsRef<[u8]>, mistakes: &[&str], last: &str) {
 }
 
 const A: &str = "á (U+00E1) cannot be printed, only ASCII can: write a";
-const ESCAPE: &str = "after a backslash only n or a backslash may stand: type \\\\ for a backslash";
-const TAB: &str = "a tab (U+0009) cannot stand here: type two spaces for a level";
-const REST: &str = "; what stands behind the last one was not looked at";
+const ESCAPE: &str =
+    "only n or a backslash is allowed after a backslash: type \\\\ for a backslash";
+const TAB: &str = "a tab (U+0009) is not allowed here: type two spaces for a level";
+const REST: &str = "; what follows the last one was not checked";
 
 /// After a character that is not allowed it goes on, and lists those behind it.
 #[test]
@@ -122,14 +123,14 @@ fn where_the_list_of_mistakes_ends() {
         "row\n  á\nrow\n  á\n",
         &[
             &format!("2:3: {A}"),
-            "3:1: only one line may stand at the left edge, and line 1 does: put row or column above it, and two spaces more in front of all lines",
+            "3:1: only one line can be at the left edge, and line 1 is: put row or column above it, and two more spaces in front of every line",
         ],
         &format!("2 mistakes{REST}"),
     );
     listed(
         "Column\n  á\n",
         &[
-            "1:1: 'Column' is a text, and line 2 stands inside it. Did you mean the word column?",
+            "1:1: 'Column' is a text, and line 2 is inside it. Did you mean the word column?",
             &format!("2:3: {A}"),
         ],
         &format!("2 mistakes{REST}"),

@@ -60,7 +60,7 @@ fn folded_lists() {
     let (list, _, status) = said(&["fold", "-", "600", "--list"], &wide);
     assert_eq!((list.lines().count(), status), (401, Some(0)));
     let both = ["fold", "list.list", "60", "--list", "--json"];
-    misused(&both, "--list, or what was found");
+    misused(&both, "only one of --list, --tsv and --json");
 }
 
 #[test]

@@ -114,7 +114,10 @@ fn usage() {
     );
     fails(&["place", "a", "0"], "legs place FILE LINE COLUMN");
     fails(&["mark"], "legs mark FILE");
-    fails(&["mark", "-"], "standard input has the places");
+    fails(
+        &["mark", "-"],
+        "standard input has the places: - cannot be given",
+    );
     fails(&["fold", "a"], "legs fold FILE WIDTH [BUDGET]");
     fails(
         &["fold", "a", "1", "2", "3"],

@@ -91,7 +91,10 @@ fn marks_as_records() {
     assert_eq!(of("--json"), (json.into(), String::new(), Some(1)));
     let none = said(&["mark", "figure2.legs", "--json"], b"");
     assert_eq!(none, ("[]\n".into(), String::new(), Some(0)));
-    misused(&["mark", "a", "--tsv", "--json"], "--tsv or --json");
+    misused(
+        &["mark", "a", "--tsv", "--json"],
+        "only one of --tsv and --json",
+    );
 }
 
 /// Of a sheet that is refused no place is answered, even where there is none; and more than can be is not read.

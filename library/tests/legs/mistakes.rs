@@ -35,7 +35,7 @@ fn at(list: impl AsRef<[u8]>, place: &str, words: &str, line: &str) {
 fn words_that_are_texts() {
     let meant = |list: &str, place: &str, text: &str, inside: usize, word: &str| {
         let words = format!(
-            "'{text}' is a text, and line {inside} stands inside it. Did you mean the word {word}?"
+            "'{text}' is a text, and line {inside} is inside it. Did you mean the word {word}?"
         );
         let line: usize = place[..1].parse().expect("a number");
         let line = list.lines().nth(line - 1).expect("a line");
@@ -62,15 +62,13 @@ fn lines_that_are_too_deep() {
     at(
         "column\n  a\n  take off now\n    hold\n",
         "4:5",
-        &format!(
-            "line 4 stands inside the text 'take off now' (line 3): {inside}; two spaces fewer?"
-        ),
+        &format!("line 4 is inside the text 'take off now' (line 3): {inside}; two spaces fewer?"),
         "    hold",
     );
     at(
         "arrow\n    a\n",
         "2:5",
-        &format!("line 2 stands inside the text 'arrow' (line 1): {inside}; four spaces fewer?"),
+        &format!("line 2 is inside the text 'arrow' (line 1): {inside}; four spaces fewer?"),
         "    a",
     );
     let long = "x".repeat(40);
@@ -78,7 +76,7 @@ fn lines_that_are_too_deep() {
     at(
         format!("{long}\n  a"),
         "2:3",
-        &format!("line 2 stands inside the text '{shown}' (line 1): {inside}; two spaces fewer?"),
+        &format!("line 2 is inside the text '{shown}' (line 1): {inside}; two spaces fewer?"),
         "  a",
     );
     let level = "two spaces are one level";
@@ -102,7 +100,7 @@ fn lines_that_are_too_deep() {
     );
     let odd = "a level is two spaces, and this line begins with an odd number of them";
     at("row\n   a\n", "2:4", odd, "   a");
-    let edge = "only one line may stand at the left edge, and line 2 does: put row or column above it, and two spaces more in front of all lines";
+    let edge = "only one line can be at the left edge, and line 2 is: put row or column above it, and two more spaces in front of every line";
     at("\nrow\r\n  a\r\nrow\r\n", "4:1", edge, "row");
 }
 
@@ -180,13 +178,13 @@ fn characters_that_cannot_be_printed() {
     of(
         "\tHome",
         "2:1",
-        "a tab (U+0009) cannot stand here: type two spaces for a level",
+        "a tab (U+0009) is not allowed here: type two spaces for a level",
         "<tab>Home",
     );
     of(
         "  \tHome",
         "2:3",
-        "a tab (U+0009) cannot stand here: type two spaces for a level",
+        "a tab (U+0009) is not allowed here: type two spaces for a level",
         "  <tab>Home",
     );
     of(
@@ -199,9 +197,9 @@ fn characters_that_cannot_be_printed() {
     at(b"row\n  F\xFCzes\n", "2:4", &latin, "  F<FC>zes");
     let other = format!("the byte 96 {cannot}, and the file is no UTF-8");
     at(b"row\n  a\x96\n", "2:4", &other, "  a<96>");
-    let returns = "a carriage return (U+000D) stands inside a line: save the list with line feeds at the ends of its lines";
+    let returns = "a carriage return (U+000D) is not allowed inside a line: save the list with line feeds at the ends of its lines";
     at(b"column\r  a\r", "1:7", returns, "column<0D>  a");
-    let escape = "after a backslash only n or a backslash may stand: type \\\\ for a backslash";
+    let escape = "only n or a backslash is allowed after a backslash: type \\\\ for a backslash";
     at("a\\\n", "1:3", escape, "a\\");
     at("row\n  C:\\survey", "2:6", escape, "  C:\\survey");
 }
@@ -286,7 +284,7 @@ fn warnings() {
     let many = "row\n".to_string() + &"  #x\n".repeat(12);
     let (_, message, _) = said(&["check", "-"], many.as_bytes());
     assert_eq!(message.lines().count(), 11);
-    assert!(message.ends_with("standard input: warning: and of 2 lines more the same\n"));
+    assert!(message.ends_with("standard input: warning: and 2 more\n"));
     for example in ["form.list", "flight.list", "key.list"] {
         assert_eq!(said(&["check", example], b"").1, "");
     }

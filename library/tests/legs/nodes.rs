@@ -51,7 +51,10 @@ fn nodes_as_records() {
         .lines()
         .nth(2)
         .is_some_and(|line| line.ends_with("  a ..")));
-    misused(&["nodes", "a", "--tsv", "--json"], "--tsv or --json");
+    misused(
+        &["nodes", "a", "--tsv", "--json"],
+        "only one of --tsv and --json",
+    );
 }
 
 /// Every leaf starts where the sheet has its top left mark.

@@ -37,7 +37,7 @@ fn plan() {
 fn plans_are_refused() {
     let bad = [&DEFAULTS[..], b"\x04\x00\x04\x03\x02\x01\x01"].concat();
     let (_, message, status) = said(&["plan", "-"], &bad);
-    let range = "refused 17: a range has a least above its greatest, or no line";
+    let range = "refused 17: a range has a least above its greatest, or a least line count of 0";
     assert_eq!(message, format!("legs: standard input: {range}\n"));
     assert_eq!(status, Some(1));
     for words in [

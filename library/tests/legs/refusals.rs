@@ -7,7 +7,7 @@ fn refusals_are_messages() {
     let wide = "refused.legs: refused 6: the sheet would have 406 columns, 400 is the limit";
     fails(&["print", "refused.legs"], wide, 1);
     let group =
-        "figure2.legs: refused 9: the number names no leaf, or no Cell where texts are blanked";
+        "figure2.legs: refused 9: the number names no leaf or, where texts are blanked, no Cell";
     fails(&["leaf", "figure2.legs", "0"], group, 1);
     let outside = "figure2.legs: refused 12: the line or column is outside the printed sheet";
     fails(&["place", "figure2.legs", "5", "0"], outside, 1);

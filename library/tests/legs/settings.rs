@@ -34,11 +34,14 @@ fn settings_that_are_none() {
     assert_eq!((message, status), (format!("legs: {none}\n"), Some(1)));
     let missing = "none: No such file or directory (os error 2)";
     fails(&["print", "list.list", OPTION, "none"], missing, 3);
-    let once = "--settings, once";
+    let once = "--settings: given twice";
     misused(&["print", "list.list", OPTION], "--settings wants a value");
     misused(&["print", "a", OPTION, "b", OPTION, "c"], once);
-    misused(&["print", "-", OPTION, "-"], "standard input is read once");
-    let places = "standard input has the places";
+    misused(
+        &["print", "-", OPTION, "-"],
+        "standard input is read once: give - once",
+    );
+    let places = "standard input has the places: - cannot be given";
     misused(&["mark", "list.list", OPTION, "-"], places);
     misused(&["type", "a", OPTION, "b"], "legs type takes no --settings");
     let list = ["draft", "list", "a", OPTION, "b"];
@@ -246,11 +249,8 @@ fn settings_that_are_wrong() {
         &["--marks", "ascii", "--no-lines"],
         "--lines: without lines there are no marks",
     );
-    wrong(&["--margin", "1", "--margin", "2"], "--margin, once");
-    wrong(
-        &["--no-lines", "--lines", "no"],
-        "--lines: stands there twice",
-    );
+    wrong(&["--margin", "1", "--margin", "2"], "--margin: given twice");
+    wrong(&["--no-lines", "--lines", "no"], "--lines: given twice");
     wrong(&["--margin"], "--margin wants a value");
     wrong(&["--no-lines=1"], "--no-lines takes no value");
     wrong(&["--margins", "1"], "no option --margins");

@@ -55,7 +55,7 @@ fn bytes_and_a_terminal() {
     let folder = Folder::new("terminal");
     let store = folder.path("store");
     std::fs::write(&store, b"\x20\x00\x04\x01\x00\x01a").expect("a store");
-    let refused = "legs: usage: these are bytes, and standard output is a terminal: > FILE, or --force; 'legs --help' says more\n";
+    let refused = "legs: usage: these are bytes, and standard output is a terminal: add > FILE or --force; 'legs --help' says more\n";
     for words in [
         &["bytes", "figure2.list"][..],
         &["blank", "figure2.list", "--all"],

@@ -73,7 +73,7 @@ fn typed_lists_as_bytes() {
     // A list that was typed is not written over by bytes.
     let typed = folder.path("typed.list");
     std::fs::write(&typed, list).expect("a file");
-    let kept = format!("{typed}: not overwritten: it has text, and --typed writes a list");
+    let kept = format!("{typed}: not overwritten: it has text; with --typed a list is written");
     fails(&["draft", "return", &store, "A", &typed], &kept, 1);
     assert_eq!(std::fs::read(&typed).expect("a file"), list);
 }
@@ -95,7 +95,7 @@ fn drafts_come_back_typed() {
         answers(&["draft", "return", &store, "A", file, "--typed"], "");
         assert_eq!(std::fs::read_to_string(file).expect("a file"), back);
     }
-    let kept = format!("{legs}: not overwritten: it has bytes, which come without --typed");
+    let kept = format!("{legs}: not overwritten: it has bytes; without --typed bytes are written");
     fails(
         &["draft", "return", &store, "A", &legs, "--typed"],
         &kept,

@@ -124,7 +124,7 @@ fn refusals() {
     for words in [&[][..], &["a", "b"], &["a", "--paper"], &["a", "b", "c"]] {
         refuses(words, "usage", 2);
     }
-    let once = "usage: standard input is read once";
+    let once = "usage: standard input is read once: give - once";
     let both = ["-", "--paper", "-"];
     let settings = ["-", "--paper", "key.legs", "--settings", "-"];
     let paper = ["key.legs", "--paper", "-", "--settings", "-"];

@@ -53,16 +53,16 @@ fn key_and_paper() {
 #[test]
 fn other_papers() {
     let unlike = |key: &str, paper: &str, why: &str| {
-        let message = format!("{paper}: no question paper of {key}: {why}");
+        let message = format!("{paper}: not a question paper of {key}: {why}");
         fails(&[key, "--paper", paper], b"", &message, 1);
     };
-    let elsewhere = "node 3 is of another kind, or stands elsewhere";
+    let elsewhere = "node 3 is of another kind, or has another parent";
     unlike("key.legs", "flight.legs", elsewhere);
-    unlike("flight.legs", "flight.list", "its settings are others");
-    unlike("key.legs", "key.list", "its settings are others");
+    unlike("flight.legs", "flight.list", "its settings are different");
+    unlike("key.legs", "key.list", "its settings are different");
 
     let typed = |list: String, why: &str| {
-        let message = format!("standard input: no question paper of flight.list: {why}");
+        let message = format!("standard input: not a question paper of flight.list: {why}");
         fails(
             &["flight.list", "--paper", "-"],
             list.as_bytes(),

@@ -54,7 +54,7 @@ impl fmt::Display for Fault {
             }
             Fault::Mistake(shown) => f.write_str(shown),
             Fault::Unlike(paper, key, why) => {
-                write!(f, "legs: {paper}: no question paper of {key}: {why}")
+                write!(f, "legs: {paper}: not a question paper of {key}: {why}")
             }
             Fault::Usage(message) => write!(f, "legs: usage: {message}; 'legs --help' says more"),
             Fault::Failed(name, error) => write!(f, "legs: {name}: {error}"),

@@ -90,7 +90,9 @@ impl Given {
     pub fn source(&self) -> Result<Source, Fault> {
         let path = &self.operands[0];
         if path == "-" && Over::of(self)?.is_from("-") {
-            return Err(Fault::Usage("standard input is read once".into()));
+            return Err(Fault::Usage(
+                "standard input is read once: give - once".into(),
+            ));
         }
         Source::read(path)
     }

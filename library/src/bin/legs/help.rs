@@ -80,11 +80,11 @@ A typed list is plain text: a row, a column or a text to a line, two spaces deep
 In a text \n is a line feed and \\ a backslash. A quote mark in front makes a text of any line: 'row, '# 1, '  indented, and ' alone the empty text.
 # begins a comment. What is wrong is shown with its line and column, counted from 1.
 
-Settings are the default ones, over these FILE's own, over these those of --settings FILE, over these those that options name: --margin 8,0,1,0 --align center --no-lines.
+Settings are the default ones; FILE's own replace them, then those of --settings FILE, then those that options name: --margin 8,0,1,0 --align center --no-lines.
 A file of settings has bytes, or words: legs settings shows them all, and legs settings --margin 8,0,1,0 > binder.words writes a file.
 ";
 
-const REST: &str = "To plan a line like ? 2-6 x 1-3 is a placeholder for a text that is not known yet: 2 to 6 wide, 1 to 3 lines. To every other command it is a text.
+const REST: &str = "For the command plan a line like ? 2-6 x 1-3 is a placeholder for a text not known yet: 2 to 6 wide, 1 to 3 lines. For every other command it is a text.
 Nodes are numbered from 0, a parent before its children, these from left to right: legs nodes lists them with their lines in the typed list and their texts.
 Lines and columns of the sheet are counted from 0: legs print --rulers shows them. Those of a typed list are counted from 1, as editors do.
 WIDTH is of the sheet inside its edges and margin. BUDGET limits the heights that are tried.

@@ -42,8 +42,11 @@ pub const SETTINGS: Opt = Opt::with(
 pub const NO_LINES: Opt = Opt::flag("--no-lines", "the same as --lines no");
 
 /// Answers as records.
-pub const TSV: Opt = Opt::flag("--tsv", "a line for each record, its fields parted by tabs");
-pub const JSON: Opt = Opt::flag("--json", "the same as JSON");
+pub const TSV: Opt = Opt::flag(
+    "--tsv",
+    "a line for each record, its fields separated by tabs",
+);
+pub const JSON: Opt = Opt::flag("--json", "the records as JSON");
 
 pub const RULERS: Opt = Opt::flag(
     "--rulers",
@@ -58,7 +61,7 @@ pub const LINES: Opt = Opt::with(
 pub const PAPER: Opt = Opt::with(
     "--paper",
     "FILE",
-    "its question paper, to change between the two at the same places",
+    "its question paper: the page switches between the two at the same places",
 );
 pub const ALL: Opt = Opt::flag("--all", "the texts of all Cells");
 pub const TYPED: Opt = Opt::flag("--typed", "as a typed list");

@@ -19,9 +19,7 @@ pub fn warnings(name: &str, list: &[u8]) -> Vec<String> {
     let mut lines: Vec<String> = all.iter().take(MOST).map(shown).collect();
     if all.len() > MOST {
         let more = all.len() - MOST;
-        lines.push(format!(
-            "{name}: warning: and of {more} lines more the same"
-        ));
+        lines.push(format!("{name}: warning: and {more} more"));
     }
     lines
 }

@@ -24,7 +24,7 @@ fn run(given: &Given) -> Result<Answer, Fault> {
     let mut nodes = nodes.collect::<Result<Vec<usize>, Fault>>()?;
     let lines = given.value(LINES.name).map_or(Ok(Vec::new()), numbers)?;
     if given.has(ALL.name) != (nodes.is_empty() && lines.is_empty()) {
-        let which = "some of NODE.., --lines LINE,LINE.. say what is blanked; or --all";
+        let which = "say which texts to blank: by NODE.., by --lines LINE,LINE.., or --all alone";
         return Err(Fault::Usage(which.into()));
     }
     let file = given.file()?;
@@ -52,7 +52,7 @@ fn nodes_of(file: &File, lines: &[usize]) -> Result<Vec<usize>, Fault> {
     }
     let Some(list) = file.list() else {
         let words = format!(
-            "--lines are those of a typed list, and {} has none",
+            "--lines are lines of a typed list, and {} is not one",
             file.name
         );
         return Err(Fault::Usage(words));

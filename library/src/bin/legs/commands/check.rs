@@ -14,7 +14,7 @@ pub const COMMAND: Command = Command {
     operands: &["FILE"],
     options: &[],
     takes_settings: true,
-    about: "what of the settings, the tree and the sheet is refused, and why; all mistakes of a typed list",
+    about: "whether the settings, the tree and the sheet are accepted, and if not, why; all mistakes of a typed list",
     run,
 };
 
@@ -66,7 +66,7 @@ fn list(source: &Source, mistakes: &[Mistake], is_all: bool) -> String {
     let rest = if is_all {
         ""
     } else {
-        "; what stands behind the last one was not looked at"
+        "; what follows the last one was not checked"
     };
     text += &format!("{count}{rest}\n");
     text

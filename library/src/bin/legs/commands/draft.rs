@@ -127,7 +127,9 @@ fn old(path: &OsStr) -> Result<Option<Source>, Fault> {
 fn settings_of(old: Option<Source>) -> Result<Vec<u8>, Fault> {
     match old {
         None => Ok(Settings::default().to_bytes()),
-        Some(source) if source.is_text() => Err(kept(&source, "text, and --typed writes a list")),
+        Some(source) if source.is_text() => {
+            Err(kept(&source, "text; with --typed a list is written"))
+        }
         Some(source) => front(&source),
     }
 }
@@ -136,7 +138,7 @@ fn settings_of(old: Option<Source>) -> Result<Vec<u8>, Fault> {
 fn over_list(old: Option<Source>, text: String) -> Result<Vec<u8>, Fault> {
     match old {
         Some(source) if !source.is_text() => {
-            Err(kept(&source, "bytes, which come without --typed"))
+            Err(kept(&source, "bytes; without --typed bytes are written"))
         }
         _ => Ok(text.into()),
     }

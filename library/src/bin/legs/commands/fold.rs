@@ -23,7 +23,7 @@ fn run(given: &Given) -> Result<Answer, Fault> {
     let budget = budget.map_or(Ok(usize::MAX), |word| number(word))?;
     let is_found = Format::of(given) != Format::People;
     if is_found && given.has(LIST.name) {
-        return Err(Fault::Usage("--list, or what was found".into()));
+        return Err(Fault::Usage("only one of --list, --tsv and --json".into()));
     }
     let file = given.file()?;
     let folded = file.call(|input| input.fold(width, budget))?;

@@ -12,14 +12,16 @@ pub const COMMAND: Command = Command {
     operands: &["FILE"],
     options: &[TSV, JSON],
     takes_settings: true,
-    about: "the same for each line of standard input: LINE COLUMN, or with a comma; comments and blank lines are skipped",
+    about: "as legs place, for each line of standard input: LINE COLUMN, or LINE,COLUMN; comments and blank lines are skipped",
     run,
 };
 
 /// Every place is answered: a place without a leaf has its number, and a line that is no place is reported on standard error.
 fn run(given: &Given) -> Result<Answer, Fault> {
     if given.operands[0] == "-" || Over::of(given)?.is_from("-") {
-        return Err(Fault::Usage("standard input has the places".into()));
+        return Err(Fault::Usage(
+            "standard input has the places: - cannot be given".into(),
+        ));
     }
     let file = given.file()?;
     let (places, wrong) = places()?;

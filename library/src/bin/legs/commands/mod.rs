@@ -107,12 +107,12 @@ impl Command {
                 return Err(Fault::Usage(format!("legs {} takes no {name}", self.name)));
             }
             if names.contains(&name) {
-                return Err(Fault::Usage(format!("{name}, once")));
+                return Err(Fault::Usage(format!("{name}: given twice")));
             }
             names.push(name);
         }
         if given.has(TSV.name) && given.has(JSON.name) {
-            return Err(Fault::Usage("--tsv or --json".into()));
+            return Err(Fault::Usage("only one of --tsv and --json".into()));
         }
         Ok(())
     }
@@ -181,7 +181,7 @@ impl Answer {
     /// Bytes that a command takes. They are not written to a terminal, unless that is requested.
     fn bytes(given: &Given, bytes: Vec<u8>) -> Result<Answer, Fault> {
         if io::stdout().is_terminal() && !given.has(FORCE.name) {
-            let words = "these are bytes, and standard output is a terminal: > FILE, or --force";
+            let words = "these are bytes, and standard output is a terminal: add > FILE or --force";
             return Err(Fault::Usage(words.into()));
         }
         Ok(Answer::text(bytes))

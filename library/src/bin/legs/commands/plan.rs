@@ -15,7 +15,7 @@ pub const COMMAND: Command = Command {
     operands: &["FILE"],
     options: &[TSV, JSON],
     takes_settings: true,
-    about: "the least and the greatest columns and lines of the sheets of a list in which a line like ? 2-6 x 1-3 is a text to come",
+    about: "the least and the greatest size of the sheet of a list in which a line like ? 2-6 x 1-3 is a placeholder for a text not known yet",
     run,
 };
 

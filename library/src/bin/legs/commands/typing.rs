@@ -31,7 +31,7 @@ pub fn typed(name: &str, tree: &Tree) -> Result<String, Fault> {
         .map_err(|refusal| Fault::refused(name, refusal))?;
     let mut back = vec![0; bytes.len()];
     if calls::read_typed(text.as_bytes(), &mut back) != Ok(bytes.len()) || back != bytes {
-        let error = io::Error::other("typed, it is read as another tree");
+        let error = io::Error::other("as a typed list it is read as another tree");
         return Err(Fault::Failed(name.into(), error));
     }
     Ok(text)

@@ -25,7 +25,9 @@ fn run(given: &Given) -> Result<Answer, Fault> {
     let (key_is, paper_is) = (is_input(key), paper.is_some_and(is_input));
     let settings_are = over.is_from("-");
     if key_is && paper_is || settings_are && (key_is || paper.is_some()) {
-        return Err(Fault::Usage("standard input is read once".into()));
+        return Err(Fault::Usage(
+            "standard input is read once: give - once".into(),
+        ));
     }
     // Each under the settings of the options.
     let read = |path: &OsStr| File::of(Source::read(path)?, &over);

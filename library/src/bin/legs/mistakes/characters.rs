@@ -10,10 +10,10 @@ pub fn mistake(list: &[u8], mistake: Mistake) -> Mistake {
     let before = &before[..before.len() - rest.len()];
     let words = match first_character(rest) {
         Ok('\t') if before.iter().all(|byte| b" \t".contains(byte)) => {
-            "a tab (U+0009) cannot stand here: type two spaces for a level".into()
+            "a tab (U+0009) is not allowed here: type two spaces for a level".into()
         }
         Ok('\t') => "a tab (U+0009) cannot be printed: type spaces".into(),
-        Ok('\r') => "a carriage return (U+000D) stands inside a line: save the list with line feeds at the ends of its lines".into(),
+        Ok('\r') => "a carriage return (U+000D) is not allowed inside a line: save the list with line feeds at the ends of its lines".into(),
         Ok(it) => of_character(it),
         Err(byte) => of_byte(byte),
     };

@@ -10,7 +10,7 @@ pub fn second_root(list: &[u8], mistake: Mistake) -> Mistake {
     let root = typed_lines(list).find(TypedLine::is_node);
     let root = root.map_or(1, |line| line.number);
     let words = format!(
-        "only one line may stand at the left edge, and line {root} does: put row or column above it, and two spaces more in front of all lines"
+        "only one line can be at the left edge, and line {root} is: put row or column above it, and two more spaces in front of every line"
     );
     Mistake { words, ..mistake }
 }
@@ -48,12 +48,14 @@ fn inside_text(text: TypedLine, levels: usize, mistake: Mistake) -> Mistake {
         return Mistake {
             line: number,
             column: text.spaces + 1,
-            words: format!("'{shown}' is a text, and line {line} stands inside it. Did you mean the word {word}?"),
+            words: format!(
+                "'{shown}' is a text, and line {line} is inside it. Did you mean the word {word}?"
+            ),
         };
     }
     let spaces = counted(2 * levels);
     let words = format!(
-        "line {line} stands inside the text '{shown}' (line {number}): only a row or column has lines inside; {spaces} spaces fewer?"
+        "line {line} is inside the text '{shown}' (line {number}): only a row or column has lines inside; {spaces} spaces fewer?"
     );
     Mistake { words, ..mistake }
 }

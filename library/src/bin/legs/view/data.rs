@@ -78,10 +78,10 @@ impl Layout {
         let text = first(|(one, two)| one.leaf.is_some() && natural(one) != natural(two));
         let (count, others) = (self.nodes.len(), other.nodes.len());
         Some(match (kind, text) {
-            (Some(node), _) => format!("node {node} is of another kind, or stands elsewhere"),
+            (Some(node), _) => format!("node {node} is of another kind, or has another parent"),
             _ if count != others => format!("it has {others} nodes, and not {count}"),
             (_, Some(node)) if has_same_settings => format!("node {node} is of another size"),
-            _ => "its settings are others".into(),
+            _ => "its settings are different".into(),
         })
     }
 }

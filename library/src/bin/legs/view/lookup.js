@@ -28,7 +28,7 @@ function label(node) {
   return flags ? `(empty ${kind})` : `${kind}, ${below} below`;
 }
 
-/** Whether the node is that branch or stands in it: a branch is its node and as many as are below. */
+/** Whether the node is that branch or is in it: a branch is its node and as many as are below. */
 function isWithin(node, branch) {
   return branch <= node && node <= branch + data.nodes[branch].below;
 }

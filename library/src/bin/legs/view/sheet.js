@@ -24,8 +24,8 @@ function put(it, [top, left, lines, columns]) {
 function crossings(node) {
   const { above, beside } = data.nodes[node];
   return [
-    ...(above ? [[...above, "its right side, at", "stands under"]] : []),
-    ...(beside ? [[...beside, "its lower side, at", "stands right of"]] : []),
+    ...(above ? [[...above, "its right side, at", "is under"]] : []),
+    ...(beside ? [[...beside, "its lower side, at", "is right of"]] : []),
   ];
 }
 
@@ -53,8 +53,8 @@ function about(node) {
   const lines = [`node ${node}: ${label(node)}`, area ? size : `${size}; has no place in the sheet`];
   if (!flags) return lines;
   lines[1] += `; flags: ${flags.join(" ") || "none"}; cut: ${pair[0]} taken, ${pair[1]} left of the next`;
-  for (const [top, left, other, side, stands] of crossings(node))
-    lines.push(`${side} line ${top}, column ${left}, ${stands} node ${other}: ${label(other)}`);
+  for (const [top, left, other, side, where] of crossings(node))
+    lines.push(`${side} line ${top}, column ${left}, ${where} node ${other}: ${label(other)}`);
   return lines;
 }
 
