@@ -1,4 +1,6 @@
 // The texts of a tree's Cells blanked by dots (document 02, 14: the question paper).
+#![tactic(auto)]
+
 ghost use Rattle.std.specs.Prelude.{◌≡◌};
 ghost use Rattle.blank.specs.Blank.{blank_of};
 ghost use Rattle.blank.specs.Paper.{PaperOf};

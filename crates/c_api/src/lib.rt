@@ -1,5 +1,7 @@
 // The public calls as C functions on bytes and numbers; include/leg_sheet.h says what each takes and gives.
 // None of them requires anything of the caller beyond what a C slice is: a pointer to as many items as its length says.
+#![tactic(auto)]
+
 pub mod papers;
 pub mod stores;
 pub mod typed_lists;

@@ -1,4 +1,6 @@
 // What the calls answer, as C gets it: numbers in lent lists, and one word (include/leg_sheet.h).
+#![tactic(auto)]
+
 pub mod cuts;
 pub mod fields;
 pub mod lists;

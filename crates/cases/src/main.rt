@@ -6,6 +6,8 @@
 //   paper       question papers and keys, printed (document 02, 14)
 //   places, splits, sizes, feeds, typed, requests, drafts, programs      the lines of one library each
 // The last three arguments give FAILED: a file that names no library, one that does not exist, and one that does not end.
+#![tactic(auto)]
+
 fn main() {
     test_cases::run();
 }

@@ -1,4 +1,6 @@
 // Small functions that every layer uses.
+#![tactic(auto)]
+
 ghost use Rattle.std.specs.Prelude.{◌≡◌, ◌-◌, ◌≤◌, ◌<◌, max, min};
 ghost use Rattle.common.specs.Choice as choice;
 

@@ -1,4 +1,6 @@
 // Drafts of trees in one lent store: fields of hex tag 20 to 27 for the names A to H, two-byte length and the tree's bytes, then zero bytes.
+#![tactic(auto)]
+
 ghost use Rattle.std.specs.Prelude.{◌≡◌};
 ghost use Rattle.drafts.specs.Store.{is_name, tag_for, fields_of, save_of, forget_of, return_of};
 ghost use Rattle.drafts.specs.Clauses.{refused_open, opened_of};

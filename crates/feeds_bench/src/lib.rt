@@ -1,4 +1,6 @@
 // Ways to measure a text, as C functions for `bench/run feeds` alone. Each but the first answers the longest line times 65,536 and the line count.
+#![tactic(auto)]
+
 ghost use Rattle.std.specs.Prelude.{◌+◌, ◌<◌, ◌≤◌, length};
 
 fn answer(longest: usize, lines: usize) -> u64 {

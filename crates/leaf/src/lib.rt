@@ -1,4 +1,6 @@
 // The leaf record and the leaf printer.
+#![tactic(auto)]
+
 ghost use Rattle.std.specs.Prelude.{◌≡◌, ◌≤◌, length};
 ghost use Rattle.sizes.specs.Input.{input_of};
 ghost use Rattle.text.specs.Text.{join_lines};

@@ -1,6 +1,8 @@
 // Standard input: the settings (the first 31 bytes, with a hex 11 behind them 42, or all if there are fewer), then the tree.
 // Standard output: what `program::leg_sheet::answer` says, the sheet and 0A, or `refused `, the number and 0A.
 // Where reading or writing fails, a line on standard error reports it: a Rattle program has no exit status.
+#![tactic(auto)]
+
 use standard_streams::input::StandardInput;
 
 fn print(input: &[u8]) {

@@ -1,4 +1,6 @@
 // The painter of one leaf's block: its marks, padding and text.
+#![tactic(auto)]
+
 mod body;
 mod borders;
 pub mod bytes;

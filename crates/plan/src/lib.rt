@@ -1,4 +1,6 @@
 // Sheets planned before the flight: the least and the greatest W and H of a planning tree.
+#![tactic(auto)]
+
 mod ends;
 
 ghost use Rattle.std.specs.Prelude.{◌≡◌};

@@ -1,4 +1,6 @@
 // The programs without their reading and writing: what each prints of what it was given.
+#![tactic(auto)]
+
 ghost use Rattle.std.specs.Prelude.{◌≤◌, length};
 ghost use Rattle.sizes.specs.Input.{input_of};
 ghost use Rattle.program.specs.Clauses.{Ended};

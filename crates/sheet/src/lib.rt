@@ -1,4 +1,6 @@
 // The sheet printer: one walk that pastes every leaf's block at its start.
+#![tactic(auto)]
+
 ghost use Rattle.std.specs.Prelude.{◌≡◌, length};
 ghost use Rattle.common.specs.Writing.{Wrote};
 ghost use Rattle.sizes.specs.Input.{input_of};

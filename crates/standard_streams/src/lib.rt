@@ -1,4 +1,6 @@
 // Standard input and standard output of a program, each whole.
+#![tactic(auto)]
+
 pub mod input;
 pub mod output;
 

@@ -4,6 +4,8 @@
 //   s the node's natural and allotted size, and the number of nodes below it
 //   r the settings reader's number      f its 28 fields as bytes    d the default settings' 28 fields as bytes
 //   t the tree reader's number, and the node count
+#![tactic(auto)]
+
 mod fields;
 mod leaves;
 mod measures;

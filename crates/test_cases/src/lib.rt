@@ -4,6 +4,8 @@
 //   = the settings' bytes     : the tree's bytes     + N, bytes: appended to the tree N times
 //   @ the node                & N, bytes: what the next line expects begins with these, N times
 // # is a title, which is printed. A line of any other letter makes a call and has the answer expected; its library says which.
+#![tactic(auto)]
+
 mod libraries;
 
 use libraries::Library;

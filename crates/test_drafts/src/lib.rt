@@ -1,5 +1,7 @@
 // Drafts and blanked texts (document 02, 12 and 14); the lines set a store of drafts as settings:
 //   s a draft saved     f forgotten     r returned (stores.rt)     b the tree with texts blanked (papers.rt)
+#![tactic(auto)]
+
 mod papers;
 mod stores;
 

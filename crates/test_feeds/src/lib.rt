@@ -2,6 +2,8 @@
 //   c FEEDS LONGEST: the slice's line feeds and its longest line
 //   e FIRST LAST: slices of the lengths FIRST to LAST, without a line feed and with one at each place, against a count byte by byte
 //   v AT: each of the 256 byte values at each of the eight places of the slice from AT on, against a count byte by byte
+#![tactic(auto)]
+
 mod slices;
 
 use test_lines::{contents, tell};

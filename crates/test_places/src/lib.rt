@@ -1,6 +1,8 @@
 // Places of the printed sheet and their leaves (document 02, 5 and 6):
 //   p LINE COLUMN, then the number, the leaf's node, the line and the column inside its block, for that place
 //   m many places and their answers together (marks.rt)
+#![tactic(auto)]
+
 mod marks;
 
 use test_lines::compare::is_nth;

@@ -1,6 +1,8 @@
 // Whole outputs of both programs against document 01: of `program::leg_sheet::answer`, and of `program::typed_sheet::answer_typed` for a typed list. The lines
 // set the input as a tree:
 //   a the whole output     y the whole output for a typed list
+#![tactic(auto)]
+
 use test_lines::{compare, tell};
 
 // The longest output that is printed.

@@ -1,5 +1,7 @@
 // A leaf's record, and a node's sizes, as the test lines write them, in a lent buffer. Each call writes from `at` or `from` on, and answers where the next byte
 // goes.
+#![tactic(auto)]
+
 use block::Flags;
 use collector::SizeRecord;
 use leaf::LeafRecord;

@@ -1,5 +1,7 @@
 // Document 02's folds, plans and letters (9 to 11):
 //   c a list folded into Columns (folds.rt)     e the ends of a planning tree (plans.rt)     n the Cells nearest to widening the sheet (nearest.rt)
+#![tactic(auto)]
+
 mod folds;
 mod nearest;
 mod plans;

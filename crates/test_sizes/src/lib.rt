@@ -3,6 +3,8 @@
 //   - a comment: how the numbers follow
 //   l N: the collector is called with the first N entries of a list lent
 //   s SPARE N: the sharing helper is called for the indices 0 to N, with the width priority of the settings given
+#![tactic(auto)]
+
 mod lists;
 mod shares;
 

@@ -3,6 +3,8 @@
 //   v .., l ..                                      the same by value alone, in place alone, with `refused N` for yes or no
 //   s LIST, at W, positions LIST, left LIST         `short_splits`; after a refusal with `refused N`
 //   j PIECE, and LIST, gives LIST                   pieces copied behind one in lent memory
+#![tactic(auto)]
+
 mod cases;
 mod fields;
 mod lists;

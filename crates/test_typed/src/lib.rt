@@ -2,6 +2,8 @@
 //   t N: `read_typed` is called with N bytes lent
 // For each call: the answer; `ok` where the lent bytes past those written are unchanged; and what was written, up to 120 bytes, with the node count that
 // `read_tree` gives it, `\` and two hex digits encoding a byte.
+#![tactic(auto)]
+
 use test_lines::{compare, contents, tell};
 use typed::Typed;
 

@@ -1,5 +1,7 @@
 // The line feeds of a text counted, and its longest line measured, in one pass from its beginning: eight bytes as one 64-bit word where eight
 // remain, the tail byte by byte.
+#![tactic(auto)]
+
 pub mod measure;
 mod seen;
 mod words;

@@ -1,6 +1,8 @@
 // Standard input: a typed list.
 // Standard output: what `program::typed_sheet::answer_typed` says, the sheet under the default settings and 0A, or what is wrong and 0A.
 // Where reading or writing fails, a line on standard error reports it: a Rattle program has no exit status.
+#![tactic(auto)]
+
 use standard_streams::input::StandardInput;
 
 fn print(text: &[u8]) {

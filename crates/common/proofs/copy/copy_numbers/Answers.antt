@@ -1,0 +1,13 @@
+use Prim.Native.Nat.{◌-◌}
+use mathlib.Core.Path.{refl}
+use Rattle.common.proofs.Copies.{copied_none, copied_more, copied_wrote}
+use Rattle.common.proofs.copy.copy_numbers.Goals as goal
+
+pub loop-i-init : goal.loop-i-init
+loop-i-init c = copied_none _ _ _ c.requires
+
+pub loop-i-preserved : goal.loop-i-preserved
+loop-i-preserved c = copied_more _ _ _ _ _ c.loop-i.invariant c.loop-i-test.true _ refl
+
+pub returns : goal.returns
+returns c = copied_wrote _ _ _ _ _ c.loop-i.invariant c.loop-i-test.false
