@@ -9,7 +9,7 @@ pub mod elements;
 pub mod names;
 
 // The number, and the bytes written.
-#[derive(Drop)]
+#[derive(Clone, Copy)]
 pub struct Blanked {
     pub number: u8,
     pub count: usize,

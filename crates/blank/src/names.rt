@@ -4,7 +4,7 @@ ghost use Rattle.blank.specs.Blank.{all_cells};
 ghost use Rattle.blank.specs.Clauses.{DotsAre};
 
 // Whether each number is that of a Cell, and for each node 1 if it is blanked.
-#[derive(Drop)]
+#[derive(Clone, Copy)]
 pub struct Named {
     pub ok: bool,
     pub dots: [u8; 512],

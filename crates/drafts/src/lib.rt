@@ -11,7 +11,7 @@ pub mod moves;
 pub mod scan;
 
 // A store of the right form, opened for a name: the bytes that its fields take, and where the field of that name is; or 18 or 19.
-#[derive(Drop)]
+#[derive(Clone, Copy)]
 pub struct Opened {
     pub number: u8,
     pub used: usize,
@@ -19,7 +19,7 @@ pub struct Opened {
 }
 
 // The number, and the tree's length.
-#[derive(Drop)]
+#[derive(Clone, Copy)]
 pub struct Returned {
     pub number: u8,
     pub count: usize,

@@ -4,14 +4,14 @@ ghost use Rattle.drafts.specs.Store.{is_tag, all_zero, fields_of};
 ghost use Rattle.drafts.specs.Clauses.{field_size, next_field, end_scan, scan_of};
 
 // Where the field of the tag is, its tag and length included.
-#[derive(Drop)]
+#[derive(Clone, Copy)]
 pub struct FieldAt {
     pub found: bool,
     pub at: usize,
     pub size: usize,
 }
 
-#[derive(Drop)]
+#[derive(Clone, Copy)]
 pub struct Scan {
     pub ok: bool,
     pub used: usize,

@@ -24,7 +24,7 @@ use splits::lent::list_at;
 
 // A leaf's record: node, allotted size, both split lists as the leaf gets them, eight flags, the pair of the cut that its parent made for it; or a refusal with
 // 0 or no elsewhere.
-#[derive(Drop)]
+#[derive(Clone, Copy)]
 pub struct LeafRecord {
     pub number: u8,
     pub node: usize,
@@ -80,7 +80,7 @@ fn record_at(tree: &[u8], list: &[u16], leaf: &[u16], s: Settings) -> LeafRecord
 }
 
 // A leaf that was sought: number 0, the settings, and where its entry begins; or a refusal.
-#[derive(Drop)]
+#[derive(Clone, Copy)]
 pub struct Sought {
     pub number: u8,
     pub settings: Settings,

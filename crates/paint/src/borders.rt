@@ -11,7 +11,7 @@ use block::Flags;
 use settings::{Settings, marks};
 
 // The fifteen marks with the leaf's own corners, and whether its right and bottom sides print.
-#[derive(Drop)]
+#[derive(Clone, Copy)]
 pub struct Borders {
     pub marks: [u8; 15],
     pub right: bool,

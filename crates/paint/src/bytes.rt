@@ -78,7 +78,7 @@ pub fn fill(out: &mut [u8], at: usize, n: usize, byte: u8) -> usize
 }
 
 // Four bytes: where all are read before one is written, they are taken together.
-#[derive(Drop)]
+#[derive(Clone, Copy)]
 struct Four {
     a: u8,
     b: u8,

@@ -16,7 +16,7 @@ use settings::Settings;
 use sizes::Size;
 
 // A leaf's sizes, natural and allotted, and its flags.
-#[derive(Drop)]
+#[derive(Clone, Copy)]
 pub struct Shape {
     pub natural: Size,
     pub size: Size,
@@ -24,7 +24,7 @@ pub struct Shape {
 }
 
 // Where a body begins, the columns of spaces that are there, and the line below it where there are lines.
-#[derive(Drop)]
+#[derive(Clone, Copy)]
 struct Begun {
     at: usize,
     under: usize,

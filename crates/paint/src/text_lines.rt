@@ -11,7 +11,7 @@ use settings::{Alignment, Settings};
 
 // Where a text is in its allotted size: the lines of spaces above it and its padding, its own lines, the lines of spaces below, the columns between the
 // paddings, the longest line.
-#[derive(Drop)]
+#[derive(Clone, Copy)]
 pub struct BodyRows {
     pub above: usize,
     pub rows: usize,

@@ -11,7 +11,7 @@ use ends::sheet_end;
 use sizes::Size;
 
 // Number 0, and the least and greatest W and H; or a refusal.
-#[derive(Drop)]
+#[derive(Clone, Copy)]
 pub struct Planned {
     pub number: u8,
     pub least_width: u32,

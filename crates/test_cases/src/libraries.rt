@@ -2,7 +2,7 @@
 use test_lines::{compare, tell};
 
 // The library of a file's lines.
-#[derive(Drop)]
+#[derive(Clone, Copy)]
 pub enum Library {
     Calls,
     Places,

@@ -2,7 +2,7 @@
 use crate::contents;
 
 // The inputs that the lines so far have set: how many bytes of settings, tree and wanted bytes there are, and the node.
-#[derive(Drop)]
+#[derive(Clone, Copy)]
 pub struct Given {
     pub settings: usize,
     pub tree: usize,

@@ -6,7 +6,7 @@ use splits::lent::list_at;
 use splits::{Positions, SplitList};
 
 // What a call answers: its number, yes or no, its pair, the pieces taken or the positions, the list left.
-#[derive(Drop)]
+#[derive(Clone, Copy)]
 struct Answer {
     number: usize,
     yes: bool,

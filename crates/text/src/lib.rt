@@ -13,7 +13,7 @@ ghost use Rattle.text.specs.Clauses.{first_feed, Whole, Passed};
 use words::hint_at;
 
 // The line feeds of a text, and the letters of its longest line.
-#[derive(Drop)]
+#[derive(Clone, Copy)]
 pub struct Counted {
     pub feeds: usize,
     pub longest: usize,

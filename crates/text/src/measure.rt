@@ -5,7 +5,7 @@ ghost use Rattle.text.specs.Promises.{text_size};
 use super::{count_feeds, next_feed_bytewise};
 
 // The letters of a text's longest line, and its line count.
-#[derive(Drop)]
+#[derive(Clone, Copy)]
 pub struct TextSize {
     pub width: usize,
     pub height: usize,

@@ -7,7 +7,7 @@ ghost use Rattle.text.specs.Clauses.{none_seen, Fine, AtFeed, after_feed, after,
 
 use super::words::{feeds_at, hint_at};
 
-#[derive(Drop)]
+#[derive(Clone, Copy)]
 pub struct Seen {
     pub feeds: usize,
     pub longest: usize,

@@ -7,7 +7,7 @@ use super::typed_text::check_text;
 
 // A line as it was read. A fault: its number and column. Number 0 and kind 0: nothing to read. Number 0 and kind 1 to 3, the tree's tags: a node, with its
 // level, the column where it begins, where its text is in the line, and how many bytes the text has.
-#[derive(Drop)]
+#[derive(Clone, Copy)]
 pub struct Line {
     pub number: u8,
     pub column: usize,

@@ -8,7 +8,7 @@ use super::line::{Line, read_line};
 use text::next_feed;
 
 // A node: its tag and level, where its text is, and how many bytes the text has.
-#[derive(Drop)]
+#[derive(Clone, Copy)]
 pub struct NodeSpot {
     pub kind: u8,
     pub level: usize,
@@ -18,7 +18,7 @@ pub struct NodeSpot {
 }
 
 // Totals of the nodes so far: their number, the deepest level that the next may have, the bytes of their tree.
-#[derive(Drop)]
+#[derive(Clone, Copy)]
 pub struct ScanState {
     pub count: usize,
     pub may: usize,
@@ -26,7 +26,7 @@ pub struct ScanState {
 }
 
 // Number 0 and the nodes with the bytes of their tree; or the fault, its line and its column.
-#[derive(Drop)]
+#[derive(Clone, Copy)]
 pub struct Scanned {
     pub number: u8,
     pub line: usize,

@@ -5,7 +5,7 @@ ghost use Rattle.typed.specs.Text.{byte_of, typed_text};
 ghost use Rattle.typed.specs.Clauses.{counted_byte, Good, checked_text, Writes, written_of};
 
 // What one byte does: it puts a byte into the text, or starts an escape, or is not allowed there.
-#[derive(Drop)]
+#[derive(Clone, Copy)]
 pub enum Byte {
     Put(u8),
     Escape,
@@ -13,7 +13,7 @@ pub enum Byte {
 }
 
 // What is known after some bytes: the first fault, whether an escape was started, the length of the text so far.
-#[derive(Drop)]
+#[derive(Clone, Copy)]
 pub struct Count {
     pub number: u8,
     pub escaped: bool,
@@ -21,14 +21,14 @@ pub struct Count {
 }
 
 // Number 0 and the length of the text, or the fault and its place.
-#[derive(Drop)]
+#[derive(Clone, Copy)]
 pub struct TextCheck {
     pub number: u8,
     pub count: usize,
 }
 
 // Where the next byte goes, and whether an escape was started.
-#[derive(Drop)]
+#[derive(Clone, Copy)]
 pub struct WriteCursor {
     pub escaped: bool,
     pub at: usize,
