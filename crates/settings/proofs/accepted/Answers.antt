@@ -1,0 +1,4 @@
+use Rattle.settings.proofs.accepted.Goals as goal
+
+pub returns : goal.returns
+returns c = rw c.settings_of-settings.ensures
