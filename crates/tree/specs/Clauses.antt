@@ -8,9 +8,8 @@ use Rattle.tree.specs.declared.ElementBegun.{ElementBegun}
 use Rattle.tree.specs.declared.Step.{Step}
 use Rattle.tree.specs.declared.Sequence.{Sequence}
 use Rattle.tree.specs.declared.ReadTree.{ReadTree}
-use Rattle.tree.specs.Tree.{across}
 use Rattle.tree.specs.Bytes.{length_at}
-use Rattle.tree.specs.Planning.{header_in, PlanOne, refused, one, PlanAll, all, element_in, whole_in}
+use Rattle.tree.specs.Planning.{header_in, PlanOne, PlanAll, element_in, whole_in}
 
 -- what the front of an element shows: a Cell, or a Row or a Column without children, is a leaf
 abbrev pub front_of : List ℕ → Front

@@ -3,7 +3,7 @@ use Rattle.std.specs.Prelude.{◌≡◌, ℕ, ◌+◌, ◌≤◌, suc, max, true
 use Rattle.tree.specs.Tree.{Tree, Trees, cell, group, none, more, nodes}
 use Rattle.tree.specs.Bytes.{length_at, tag_of}
 use Rattle.tree.specs.Reading.{is_text, ReadOne}
-use Rattle.tree.specs.Planning.{Plan, range, Plans, PlanOne}
+use Rattle.tree.specs.Planning.{Plan, Plans, PlanOne}
 use Rattle.tree.specs.Tree as tree
 
 -- every text has allowed bytes only

@@ -1,5 +1,4 @@
 use borrow.Author.Rules.{rules}
--- The loop's invariant: the bytes are allowed where those tested are and those left are.
 use mathlib.Core.Path.{◌≡◌, refl, sym, ◌∙◌}
 use Prim.Native.Nat.{ℕ, suc, ◌+◌, ◌<◌, ◌≤◌, ◌-◌}
 use mathlib.Core.List.{List}
@@ -10,9 +9,9 @@ use lib.ListN.{length, get_or, take, drop}
 use lib.Seq.{drop-cons}
 use Rattle.common.specs.Choice.{pick, both}
 use Rattle.tree.specs.Reading.{is_text, is_text_byte}
-use Rattle.tree.proofs.are_text.Statement.{statement}
-use Rattle.tree.proofs.are_text.Tie as tie
+use Rattle.tree.proofs.are_text.Goals as goal
 
+-- The loop's invariant: the bytes are allowed where those tested are and those left are.
 one_more : (g b r : Bool) → pick g (pick b r false) false ≡ pick (both g b) r false
 one_more true true r = refl
 one_more true false r = refl
@@ -36,38 +35,15 @@ text_end_lem : (s : List ℕ) (at n i : ℕ) (g : Bool) → n ≤ i → pick g (
 unfolding is_text
 text_end_lem s at n i g h = let e : n - i ≡ 0 = omega arith in rw e (all-met g)
 
-abbrev invariant-loop : tie.invariant-loop
-invariant-loop s at n good₀ i₀ good i = (i ≤ n) × (is_text (take n (drop at s)) ≡ pick good (is_text (take (n - i) (drop (at + i) s))) false)
+pub loop-i-init : goal.loop-i-init
+loop-i-init c = (omega arith, rw (sub-zero, add-zero))
 
-abbrev decreases-loop : tie.decreases-loop
-decreases-loop s at n good₀ i₀ good i = n - i
+pub loop-i-preserved : goal.loop-i-preserved
+loop-i-preserved c = let l = c.loop-i in (
+  search rules,
+  l.invariant.1 ∙ text-more _ _ _ l.i l.good (omega arith) c.loop-i-test.true
+      ∙ rw (c.both-good.ensures, c.is_text_byte.ensures),
+)
 
-loop-holds : tie.Need-loop-init invariant-loop decreases-loop
-loop-holds c = (omega arith, rw (sub-zero, add-zero))
-
-loop-again : tie.Need-loop-preserved invariant-loop decreases-loop
-loop-again c =
-    let l = c.before.before.before.before.loop in (
-      search rules,
-      l.invariant.1 ∙ text-more _ _ _ l.i l.good (omega arith) c.before.before.before.loop-test.true
-          ∙ rw (c.both.ensures, c.before.is-text-byte.ensures),
-    )
-
-returns : tie.Need-returns invariant-loop decreases-loop
-returns c = let l = c.before.loop in sym (l.invariant.1 ∙ text_end_lem _ _ _ l.i l.good c.loop-test.false)
-
-pub are-text-spec : {M : Type 1} → statement M
-are-text-spec =
-    tie.close
-    (tie.spec
-    invariant-loop
-    decreases-loop
-    loop-holds
-    (λ c. search rules)
-    (λ c. search rules)
-    (λ c κs. search rules)
-    (λ c κs. search rules)
-    (λ c. search rules)
-    (λ c. search rules)
-    loop-again
-    returns)
+pub returns : goal.returns
+returns c = let l = c.loop-i in sym (l.invariant.1 ∙ text_end_lem _ _ _ l.i l.good c.loop-i-test.false)
