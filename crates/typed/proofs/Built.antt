@@ -73,7 +73,8 @@ pub suits : (d : ℕ) (item : Item) (ns : List TypedNode) → Chained ns → Sta
 suits d (cell t) ns c s = none_below ns d c s (suc d) (omega arith)
 suits d (group a) ns c s = tt
 
-pub far_none : (d : ℕ) (item : Item) (ns : List TypedNode) → Chained ns → Starts (level_under d item) ns → (e : ℕ) → suc d < e → get_or (trees_at ns) e none ≡ none
+pub far_none : (d : ℕ) (item : Item) (ns : List TypedNode) → Chained ns → Starts (level_under d item) ns → (e : ℕ) → suc d < e
+    → get_or (trees_at ns) e none ≡ none
 far_none d item ns c s e h = none_below ns (level_under d item) c s e (omega (arith, under_low d item))
 
 pub levels_17 : (ns : List TypedNode) → Chained ns → length (trees_at ns) ≡ 17

@@ -192,7 +192,8 @@ module _ (x : List ℕ) (n : ℕ) (e : n ≡ spaces x) (r : Line) where
       unfolding plain_line word_kind
       plain_group z q = plain_there (go (is_row (get_or x n 0 ∷ drop (suc n) x)) (is_column (get_or x n 0 ∷ drop (suc n) x)) refl refl)
         where
-          go : (p s : Bool) → is_row (get_or x n 0 ∷ drop (suc n) x) ≡ p → is_column (get_or x n 0 ∷ drop (suc n) x) ≡ s → PlainThere (get_or x n 0 ∷ drop (suc n) x)
+          go : (p s : Bool) → is_row (get_or x n 0 ∷ drop (suc n) x) ≡ p → is_column (get_or x n 0 ∷ drop (suc n) x) ≡ s
+              → PlainThere (get_or x n 0 ∷ drop (suc n) x)
           go true s i j =
               let v : w ≡ 2 = word_is ∙ (rw i) in
               rw (ne_eqb _ 35 c, i)

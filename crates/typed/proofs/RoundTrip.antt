@@ -440,7 +440,8 @@ module _ (t : Tree) (short : length (bytes_of t) ≤ 32768) (few : nodes t ≤ 5
   pub scan_typed : scan_lines (type_of t) ≡ found (typed_nodes 0 t)
   unfolding type_of
   scan_typed =
-      ap (scan_from 0 none_yet) (lines_typed (typed_nodes 0 t) (omega (arith, nodes_listed t 0, tree_some)) (placed_free (typed_nodes 0 t) none_yet nodes_placed))
+      ap (scan_from 0 none_yet) (lines_typed (typed_nodes 0 t) (omega (arith, nodes_listed t 0, tree_some))
+      (placed_free (typed_nodes 0 t) none_yet nodes_placed))
       ∙ scan_placed (typed_nodes 0 t) 0 none_yet nodes_placed
 
   text_fits : length (type_of t) ≤ 131072

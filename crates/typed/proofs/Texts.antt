@@ -187,7 +187,8 @@ module _ (s o₀ o : List ℕ) (at : ℕ) (e : Bool) (p i : ℕ) (k : TextLeft s
       go Escape b = tt
       go (Wrong j) b = tt
 
-  pen_step : (x : Byte) → byte_of e (get_or s i 0) ≡ x → TextLeft s o₀ (written_of x p o).out at (written_of x p o).pen.escaped (written_of x p o).pen.at (i + 1)
+  pen_step : (x : Byte) → byte_of e (get_or s i 0) ≡ x
+      → TextLeft s o₀ (written_of x p o).out at (written_of x p o).pen.escaped (written_of x p o).pen.at (i + 1)
   pen_step (Put c) b =
       let f = text_front c (text_from false (drop (i + 1) s)) k.left (sym (text_put e (get_or s i 0) c (drop (i + 1) s) b) ∙ here) in
       record {
@@ -253,7 +254,8 @@ unfolding text_from
 each_text_in e [] = in_ended e
 each_text_in e (b ∷ s) = go (byte_of e b) refl (each_text_in true s) (each_text_in false s)
   where
-    go : (x : Byte) → byte_of e b ≡ x → TextIn (length s) (text_from true s) → TextIn (length s) (text_from false s) → TextIn (suc (length s)) (text_from e (b ∷ s))
+    go : (x : Byte) → byte_of e b ≡ x → TextIn (length s) (text_from true s) → TextIn (length s) (text_from false s)
+        → TextIn (suc (length s)) (text_from e (b ∷ s))
     go (Put c) h p q = rw (text_put e b c s h) (in_putting c (length s) (text_from false s) q)
     go Escape h p q = rw (text_escape e b s h) (in_later (length s) (text_from true s) p)
     go (Wrong k) h p q =
