@@ -33,8 +33,8 @@ pub fn holds(out: &[u8], want: &[u8]) -> bool {
 }
 
 // Prints a number of the answer: whether it is number `k` of the line.
-pub fn is_nth(name: &[u8], found: usize, want: &[u8], k: usize) -> bool {
-    tell::text(name);
-    tell::number(found);
+pub fn is_nth(rt: &impl Print, name: &[u8], found: usize, want: &[u8], k: usize) -> bool {
+    tell::text(rt, name);
+    tell::number(rt, found);
     found == contents::nth(want, k)
 }

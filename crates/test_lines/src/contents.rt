@@ -4,12 +4,12 @@ ghost use Rattle.std.specs.Prelude.{◌≤◌, length};
 use crate::tell;
 
 // Writes a byte, as far as there is room; answers where the next one goes.
-pub fn byte(out: &mut [u8], at: usize, b: u8) -> usize {
+pub fn byte(rt: &impl Print, out: &mut [u8], at: usize, b: u8) -> usize {
     if at < out.len() {
         out[at] = b;
         return at + 1;
     }
-    tell::too_long();
+    tell::too_long(rt);
     at
 }
 
@@ -47,20 +47,20 @@ fn skip(before: usize, b: u8) -> usize {
 }
 
 // The byte that begins at place `i`, unless that place is skipped.
-fn put(out: &mut [u8], at: usize, s: &[u8], i: usize, over: usize) -> usize {
+fn put(rt: &impl Print, out: &mut [u8], at: usize, s: &[u8], i: usize, over: usize) -> usize {
     if 0 < over {
         return at;
     }
-    byte(out, at, value(s, i))
+    byte(rt, out, at, value(s, i))
 }
 
 // Writes the bytes that `s` encodes, from `from` on; answers where they end.
-pub fn bytes(out: &mut [u8], from: usize, s: &[u8]) -> usize {
+pub fn bytes(rt: &impl Print, out: &mut [u8], from: usize, s: &[u8]) -> usize {
     let mut at = from;
     let mut over: usize = 0;
     let mut i: usize = 0;
     while i < s.len() {
-        at = put(out, at, s, i, over);
+        at = put(rt, out, at, s, i, over);
         over = skip(over, s[i]);
         i = i + 1;
     }
@@ -68,11 +68,11 @@ pub fn bytes(out: &mut [u8], from: usize, s: &[u8]) -> usize {
 }
 
 // The same `n` times.
-fn times(out: &mut [u8], from: usize, n: usize, s: &[u8]) -> usize {
+fn times(rt: &impl Print, out: &mut [u8], from: usize, n: usize, s: &[u8]) -> usize {
     let mut at = from;
     let mut i: usize = 0;
     while i < n {
-        at = bytes(out, at, s);
+        at = bytes(rt, out, at, s);
         i = i + 1;
     }
     at
@@ -127,18 +127,26 @@ fn after_space(s: &[u8]) -> usize
 }
 
 // A number, a space, and the bytes to write that many times.
-fn repeated(out: &mut [u8], from: usize, s: &[u8]) -> usize {
+fn repeated(rt: &impl Print, out: &mut [u8], from: usize, s: &[u8]) -> usize {
     let start = after_space(s);
-    times(out, from, number(s), &s[start..])
+    times(rt, out, from, number(s), &s[start..])
 }
 
 // The bytes of `s` once, from `from` on; or repeated, after the `n` bytes that are there; or nothing.
-pub fn written(out: &mut [u8], n: usize, s: &[u8], once: bool, from: usize, more: bool) -> usize {
+pub fn written(
+    rt: &impl Print,
+    out: &mut [u8],
+    n: usize,
+    s: &[u8],
+    once: bool,
+    from: usize,
+    more: bool,
+) -> usize {
     if once {
-        return bytes(out, from, s);
+        return bytes(rt, out, from, s);
     }
     if more {
-        return repeated(out, n, s);
+        return repeated(rt, out, n, s);
     }
     n
 }

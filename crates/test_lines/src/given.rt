@@ -29,6 +29,7 @@ pub fn gives(kind: u8) -> bool {
 
 // Sets the input of a line.
 pub fn give(
+    rt: &impl Print,
     kind: u8,
     rest: &[u8],
     settings: &mut [u8],
@@ -37,9 +38,9 @@ pub fn give(
     before: Given,
 ) -> Given {
     let mut g = before;
-    g.settings = contents::written(settings, g.settings, rest, kind == b'=', 0, false);
-    g.tree = contents::written(tree, g.tree, rest, kind == b':', 0, kind == b'+');
-    g.want = contents::written(want, g.want, rest, !gives(kind), g.want, kind == b'&');
+    g.settings = contents::written(rt, settings, g.settings, rest, kind == b'=', 0, false);
+    g.tree = contents::written(rt, tree, g.tree, rest, kind == b':', 0, kind == b'+');
+    g.want = contents::written(rt, want, g.want, rest, !gives(kind), g.want, kind == b'&');
     if kind == b'@' {
         g.node = contents::number(rest);
     }
