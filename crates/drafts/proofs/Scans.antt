@@ -3,7 +3,7 @@ use mathlib.Core.Path.{◌≡◌, refl, sym, ap, ap₂, ◌∙◌}
 use Prim.Native.Nat.{ℕ, zero, suc, ◌+◌, ◌-◌, ◌≤◌, ◌<◌}
 use native.Mathlib.Omega.{arith}
 use native.Mathlib.Numerals.{add-one}
-use mathlib.Core.Bool.{Bool, true, false, not}
+use mathlib.Core.Bool.{Bool, true, false}
 use mathlib.Core.List.{List, [], ◌∷◌, ◌++◌}
 use mathlib.Core.Option.{Option, some, none}
 use lib.ListN.{length, get_or, set, take, drop, replicate, length-append, length-drop, length-set, drop_of_length-le, get_or-replicate}
@@ -116,7 +116,8 @@ unfolding has_tag all_then
 onto_again [] g x h = let z : ◌≡◌ {A = ℕ} 0 1 = cc in absurd (omega arith)
 onto_again (f ∷ fs) g x h = go (eqb (tag_in f) (tag_in g)) refl h (onto_again fs g x)
   where
-    go : (c : Bool) → eqb (tag_in f) (tag_in g) ≡ c → pick c true (has_tag (tag_in g) fs) ≡ true → (has_tag (tag_in g) fs ≡ true → all_then fs (field_then g x) ≡ none)
+    go : (c : Bool) → eqb (tag_in f) (tag_in g) ≡ c → pick c true (has_tag (tag_in g) fs) ≡ true
+        → (has_tag (tag_in g) fs ≡ true → all_then fs (field_then g x) ≡ none)
         → field_then f (all_then fs (field_then g x)) ≡ none
     go true e q r =
         let i : tag_in f ≡ tag_in g = eqb-true (tag_in f) (tag_in g) e in
@@ -186,14 +187,6 @@ module _ (s : List ℕ) where
   pub size_past : (n : ℕ) → 3 ≤ length s → is_tag (tag_in s) ≡ true → n ≡ length_at s → length s < 3 + n → 0 ≡ field_size s
   unfolding whole_field
   size_past n h e q l = let m : length s < 3 + length_at s = omega arith in rw (le-ltb (length s) 3 h, e, lt-leb (3 + length_at s) (length s) m)
-
-pub no : (b : Bool) → not b ≡ true → b ≡ false
-no true e = let z : ◌≡◌ {A = ℕ} 0 1 = cc in absurd (omega arith)
-no false e = refl
-
-pub yes : (b : Bool) → not b ≡ false → b ≡ true
-yes true e = refl
-yes false e = let z : ◌≡◌ {A = ℕ} 0 1 = cc in absurd (omega arith)
 
 pub not_whole : (s : List ℕ) → field_size s ≡ 0 → whole_field s ≡ false
 not_whole s e = go (whole_field s) e
