@@ -6,8 +6,9 @@ use mathlib.Core.Bool.{Bool}
 use mathlib.Core.List.{List, [], ◌∷◌}
 use lib.ListN.{length, replicate, length-append, length-replicate}
 use Rattle.common.specs.Choice.{pick}
+use Rattle.splits.specs.Splits.{named}
 use Rattle.settings.specs.declared.Settings.{Settings}
-use Rattle.text.specs.Text.{lines, text_height}
+use Rattle.text.specs.Text.{text_height}
 use Rattle.sizes.specs.declared.Size.{Size}
 use Rattle.sizes.specs.Sizes.{sep, leaf_size}
 use Rattle.sizes.specs.Clauses.{Fits}
@@ -60,7 +61,7 @@ pub middle_dims : (s : Settings) (l : Leaf) → Fits (leaf_size s l.text) l.size
 unfolding middle block_width
 middle_dims s l fits =
     dims_move
-    (dims_paired (left_dims (sep s) _ _ _ l.size.height)
+    (dims_paired (left_dims (sep s) (named l.size.height l.vertical) (mark s 13) (mark s 2) l.size.height)
     (dims_paired (body_dims s l.text l.size fits) (edges_dims l.size.height (sep s) l.flags.last_col (mark s 3))))
     refl (omega arith)
 
