@@ -7,7 +7,7 @@ ROOT = pathlib.Path(__file__).resolve().parent.parent
 CRATES = ROOT / "crates"
 NAME = r"[^\s(){}\[\];,.:]+"
 TOKEN = re.compile(r"(?<![^\s(\[{;,])\.?[^\s(){}\[\];,]+")
-IMPORT = re.compile(r"^(?:ghost )?use Rattle·(\w+)(?:·\w+)?\.(specs|proofs)\.([\w./-]+?)(?:\.\{([^}\n]*)\}| as ([^\s;]+));?$", re.M)
+IMPORT = re.compile(r"^(?:ghost )?(?:pub )?use Rattle\.(\w+)\.(specs|proofs)\.([\w./'-]+?)(?:\.\{([^}]*)\}| as ([^\s;]+));?$", re.M)
 DECLARED = re.compile(rf"^\s*(?:pub |abbrev |unfoldable )*(?:(?:record|data) )?({NAME})(?: [^:]*)? :(?: |$)")
 
 
@@ -122,9 +122,9 @@ def contracts(path):
         for name in filter(None, (part.strip() for part in names.split(","))):
             first, _, last = name.partition(" as ")
             source.imports[last or first] = (where, first)
-    for name, contract in re.findall(r'^pub (?:extern "C" )?fn (\w+)\((.*?)^\{', text, re.S | re.M):
+    for name, contract in re.findall(r'^pub (?:extern "C" )?fn (\w+)(?:<[^(]*>)?\((.*?)^\{', text, re.S | re.M):
         clauses = re.sub(r"^.*?(?=\n    (?:requires|ensures))", "", contract, count=1, flags=re.S)
-        yield name, list(source.reached(words(re.sub("[⌜⌝]", " ", clauses).split("\n"))))
+        yield name, list(source.reached(words(re.sub(r"\b(?:requires|ensures)(?: \w+)? \{", " ", clauses).split("\n"))))
 
 
 def calls(files):
@@ -153,4 +153,9 @@ def theorems(files, wanted=""):
 
 def all_files():
     """Every file of definitions and laws; not those of a function's proof, and not the lists of modules."""
-    return {path: File(path) for path in sorted(CRATES.glob("*/*/**/*.antt")) if path.name not in ("Proof.antt", "Lib.antt")}
+    found = {}
+    for path in sorted(path for kind in ("specs", "proofs") for path in CRATES.glob(f"*/{kind}/**/*.antt")):
+        of_function = path.parent.name != "proofs" and "proofs" in path.parts and path.name in ("Proof.antt", "Invariants.antt", "Answers.antt")
+        if path.name != "Lib.antt" and not of_function:
+            found[path] = File(path)
+    return found
