@@ -4,7 +4,7 @@ use Rattle.std.proofs.Math.Option.{Option, some}
 use Rattle.common.specs.Choice.{pick}
 use Rattle.common.specs.Outcome.{Outcome}
 use Rattle.settings.specs.declared.Settings.{Settings}
-use Rattle.tree.specs.Tree.{none, Tree, count, nodes}
+use Rattle.tree.specs.Tree.{Tree, nodes}
 use Rattle.sizes.specs.Sizes.{Sizes, tree_sizes}
 use Rattle.sizes.specs.Input.{given, input_of}
 use Rattle.collector.specs.declared.Collected.{Collected}
