@@ -8,7 +8,7 @@ pub overflow_sub-steps : goal.overflow_sub-steps
 overflow_sub-steps c = range_low _ _ _ 0 0 _ _ c.requires
 
 pub loop-i-init : goal.loop-i-init
-loop-i-init c = (omega arith, refl, c.min-limit.ensures, λ q. begin_down _ _ _ _ _ _ _ q _ refl)
+loop-i-init c = (omega arith, refl, omega (arith, c.min-limit.ensures), λ q. begin_down _ _ _ _ _ _ _ q _ refl)
 
 pub overflow_sub-one : goal.overflow_sub-one
 overflow_sub-one c = let l = c.loop-i in omega (arith, l.invariant.2, c.loop-i-test.true)
