@@ -1,0 +1,23 @@
+use mathlib.Core.Path.{◌≡◌, refl, sym}
+use Prim.Native.Nat.{ℕ, zero, suc, ◌+◌}
+use mathlib.Core.List.{List, []}
+use lib.ListN.{replicate}
+use Rattle.block.specs.Block.{edge}
+use Rattle.paint.specs.Clauses.{pasted, right_of}
+use Rattle.paint.proofs.borders.print_right.Goals as goal
+
+pasted-empty : (n : ℕ) (o : List ℕ) (at stride : ℕ) → pasted o at stride (replicate n []) ≡ o
+unfolding pasted
+pasted-empty zero o at stride = refl
+pasted-empty (suc n) o at stride = pasted-empty n o (at + stride) stride
+
+pub stack-requires : goal.stack-requires
+stack-requires c = rw c.if-b.true at c.requires
+
+pub returns-then-b : goal.returns-then-b
+unfolding right_of edge
+returns-then-b c = rw c.if-b.true c.stack.ensures.out_is
+
+pub returns-else-b : goal.returns-else-b
+unfolding right_of edge
+returns-else-b c = rw c.if-b.false (sym (pasted-empty c.args.n _ _ _))
