@@ -89,7 +89,7 @@ count_node-overflow_sub-below t c =
     let q = c.requires in
     let e = c.read_front-t.ensures in
     let h = c.if-t.false in
-    (count_in _ _ _ q _ e h _ _ _ (c.count_group-next.ensures (group_ready _ _ _ q _ e h))).0
+    omega (arith, (count_in _ _ _ q _ e h _ _ _ (c.count_group-next.ensures (group_ready _ _ _ q _ e h))).0)
 
 pub count_node-overflow_cast-below : goal.count_node-overflow_cast-below
 count_node-overflow_cast-below t c =
