@@ -61,8 +61,8 @@ between s p t c =
     }
 
 module _ (bs ts : List ℕ) (o : Planned) where
-  case : (x : Parsed) (y : PlanOne) → read_settings bs ≡ x → read_plan ts ≡ y → plan_input bs ts ≡ plan_settings_input x y → o ≡ planned_of (plan_settings_input x y)
-      → o.number ≡ 0 → PlanHolds bs ts o
+  case : (x : Parsed) (y : PlanOne) → read_settings bs ≡ x → read_plan ts ≡ y → plan_input bs ts ≡ plan_settings_input x y
+      → o ≡ planned_of (plan_settings_input x y) → o.number ≡ 0 → PlanHolds bs ts o
   case Parsed.refused y f g i e h = let z : o.number ≡ 1 = ap (λ (u : Planned). u.number) e in absurd (omega arith)
   case (Parsed.read s) (PlanOne.refused k) f g i e h = let z : o.number ≡ k = ap (λ (u : Planned). u.number) e in
       absurd (omega (arith, refusal_low true k (plan_refusal true ts k g)))

@@ -11,7 +11,7 @@ use lib.Dec.{eqb}
 use borrow.Author.Tests.{eqb-true, eqb-false}
 use Rattle.settings.specs.declared.Settings.{Settings}
 use Rattle.tree.specs.declared.front.Front.{Front}
-use Rattle.tree.specs.Tree.{Axis, across}
+use Rattle.tree.specs.Tree.{Axis}
 use Rattle.tree.specs.Bytes.{length_at, axis_of}
 use Rattle.tree.specs.Promises.{contents, PlanEncodes, PlanEncodesAll}
 use Rattle.tree.specs.Clauses.{front_of}
@@ -36,7 +36,8 @@ range_is S most (Plan.group x ps) s k h = absurd (omega (arith, k.1, tag_high x)
 
 -- ---- a leaf: a Cell, or a Row or Column without children, whose text is empty
 
-empty_group : (S : Settings) (most : Bool) (x : Axis) (ps : Plans) (s : List ℕ) → PlanEncodesAll ps s → s ≡ [] → end_size S most (Plan.group x ps) ≡ leaf_size S s
+empty_group : (S : Settings) (most : Bool) (x : Axis) (ps : Plans) (s : List ℕ) → PlanEncodesAll ps s → s ≡ []
+    → end_size S most (Plan.group x ps) ≡ leaf_size S s
 unfolding PlanEncodes end_size no_plans?
 empty_group S most x Plans.none s k e = rw e
 empty_group S most x (Plans.more p ps) s k e = absurd (omega (arith, plan_whole p s k.0, ap length e))
