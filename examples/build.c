@@ -1,7 +1,7 @@
 /* A tree built element by element, and its sheet by the C library (docs/FORMS.md):
  *
- *     rt staticlib c_api
- *     cc -Iinclude examples/build.c target/staticlib/libc_api.a -o target/build && target/build
+ *     library/archive
+ *     mkdir -p target && cc -Iinclude examples/build.c crates/c_api/out/libc_api.a -o target/build && target/build
  */
 #include <stdio.h>
 

@@ -1,7 +1,7 @@
 /* Drafts of a sheet kept in a store, the first of them changed, and each returned to, with the C library:
  *
- *     rt staticlib c_api
- *     cc -Iinclude examples/drafts.c target/staticlib/libc_api.a -o target/drafts && target/drafts
+ *     library/archive
+ *     mkdir -p target && cc -Iinclude examples/drafts.c crates/c_api/out/libc_api.a -o target/drafts && target/drafts
  */
 #include <stdio.h>
 

@@ -1,7 +1,7 @@
 /* A list of legs folded into Columns of one Row that fit a width, and the sheet of that Row, with the C library:
  *
- *     rt staticlib c_api
- *     cc -Iinclude examples/fold.c target/staticlib/libc_api.a -o target/fold && target/fold
+ *     library/archive
+ *     mkdir -p target && cc -Iinclude examples/fold.c crates/c_api/out/libc_api.a -o target/fold && target/fold
  */
 #include <stdio.h>
 #include <string.h>

@@ -1,7 +1,7 @@
 /* Places of the sheet of sheet.c and the leaves that have them, in one call of the C library:
  *
- *     rt staticlib c_api
- *     cc -Iinclude examples/mark.c target/staticlib/libc_api.a -o target/mark && target/mark
+ *     library/archive
+ *     mkdir -p target && cc -Iinclude examples/mark.c crates/c_api/out/libc_api.a -o target/mark && target/mark
  */
 #include <stdio.h>
 

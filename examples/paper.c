@@ -1,7 +1,7 @@
 /* A key and its question paper from one layout, with the C library:
  *
- *     rt staticlib c_api
- *     cc -Iinclude examples/paper.c target/staticlib/libc_api.a -o target/paper && target/paper
+ *     library/archive
+ *     mkdir -p target && cc -Iinclude examples/paper.c crates/c_api/out/libc_api.a -o target/paper && target/paper
  */
 #include <stdio.h>
 

@@ -1,7 +1,7 @@
 /* How large a sheet will be whose last Cell has no text yet, with the C library:
  *
- *     rt staticlib c_api
- *     cc -Iinclude examples/plan.c target/staticlib/libc_api.a -o target/plan && target/plan
+ *     library/archive
+ *     mkdir -p target && cc -Iinclude examples/plan.c crates/c_api/out/libc_api.a -o target/plan && target/plan
  */
 #include <stdio.h>
 

@@ -1,7 +1,7 @@
 /* The sheet of Column[`abcdef`, Row[`a`, `b`]] by the C library, with spare width shared by all (List):
  *
- *     rt staticlib c_api
- *     cc -Iinclude examples/sheet.c target/staticlib/libc_api.a -o target/sheet && target/sheet
+ *     library/archive
+ *     mkdir -p target && cc -Iinclude examples/sheet.c crates/c_api/out/libc_api.a -o target/sheet && target/sheet
  */
 #include <stdio.h>
 

@@ -1,7 +1,7 @@
 /* The sheet of a typed list, or where it has a fault, with the C library:
  *
- *     rt staticlib c_api
- *     cc -Iinclude examples/typed.c target/staticlib/libc_api.a -o target/typed && target/typed
+ *     library/archive
+ *     mkdir -p target && cc -Iinclude examples/typed.c crates/c_api/out/libc_api.a -o target/typed && target/typed
  */
 #include <stdio.h>
 #include <string.h>

@@ -1,4 +1,4 @@
-//! Links the archive of the proved functions: libleg_sheet.a in the folder that LEG_SHEET_LIB_DIR names; or target/staticlib/libc_api.a of the project, which `rt staticlib c_api` writes; or
+//! Links the archive of the proved functions: libleg_sheet.a in the folder that LEG_SHEET_LIB_DIR names; or crates/c_api/out/libc_api.a of the project, which `library/archive` writes; or
 //! lib/libleg_sheet.a under the prefix where `./install` has put it, and this crate as share/leg_sheet/rust.
 
 use std::env;
@@ -12,7 +12,7 @@ fn main() {
     let places = match env::var_os(ASKED) {
         Some(folder) => vec![(PathBuf::from(folder), "leg_sheet")],
         None => vec![
-            (here.join("../target/staticlib"), "c_api"),
+            (here.join("../crates/c_api/out"), "c_api"),
             (here.join("../../../lib"), "leg_sheet"),
         ],
     };
@@ -21,7 +21,7 @@ fn main() {
         .map(|(folder, name)| folder.join(format!("lib{name}.a")));
     let archives: Vec<PathBuf> = archives.collect();
     let Some(at) = archives.iter().position(|archive| archive.is_file()) else {
-        panic!("there is none of {archives:?}: run `rt staticlib c_api` in the project, or set {ASKED} to the folder of libleg_sheet.a");
+        panic!("there is none of {archives:?}: run `library/archive` in the project, or set {ASKED} to the folder of libleg_sheet.a");
     };
     let (folder, name) = &places[at];
     println!("cargo:rerun-if-changed={}", archives[at].display());
