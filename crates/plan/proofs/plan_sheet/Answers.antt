@@ -1,6 +1,5 @@
 use mathlib.Core.Path.{◌∙◌}
 use native.Mathlib.Omega.{arith}
-use mathlib.Core.Bool.{true, false}
 use Rattle.plan.proofs.Large.{LowBytes}
 use Rattle.plan.proofs.Inputs.{refused_settings, refused_plan, root_ready, planned_is}
 use Rattle.plan.proofs.plan_sheet.Goals as goal
@@ -15,12 +14,12 @@ returns-then-t-ne0 c = c.refused-then-t-ne0.ensures
 pub sheet_end-least-requires : goal.sheet_end-least-requires
 sheet_end-least-requires c =
     let low : LowBytes c.args.tree.now = λ i. omega (arith, c.type_inv.tree i) in
-    root_ready _ _ _ c.read_settings-read.ensures c.if-read-ne0.false _ c.read_plan-t.ensures c.if-t-ne0.false low false
+    root_ready _ _ _ c.read_settings-read.ensures c.if-read-ne0.false _ c.read_plan-t.ensures c.if-t-ne0.false low _
 
 pub sheet_end-most-requires : goal.sheet_end-most-requires
 sheet_end-most-requires c =
     let low : LowBytes c.args.tree.now = λ i. omega (arith, c.type_inv.tree i) in
-    root_ready _ _ _ c.read_settings-read.ensures c.if-read-ne0.false _ c.read_plan-t.ensures c.if-t-ne0.false low true
+    root_ready _ _ _ c.read_settings-read.ensures c.if-read-ne0.false _ c.read_plan-t.ensures c.if-t-ne0.false low _
 
 pub returns : goal.returns
 returns c =
@@ -29,6 +28,6 @@ returns c =
     let y = c.read_plan-t.ensures in
     let n = c.if-t-ne0.false in
     let low : LowBytes c.args.tree.now = λ i. omega (arith, c.type_inv.tree i) in
-    let least = c.sheet_end-least.ensures.value (root_ready _ _ _ x h _ y n low false) in
-    let most = c.sheet_end-most.ensures.value (root_ready _ _ _ x h _ y n low true) in
+    let least = c.sheet_end-least.ensures.value (root_ready _ _ _ x h _ y n low _) in
+    let most = c.sheet_end-most.ensures.value (root_ready _ _ _ x h _ y n low _) in
     c.answer.ensures ∙ planned_is _ _ _ x h _ y n low _ _ least most
