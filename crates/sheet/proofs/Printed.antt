@@ -28,7 +28,7 @@ use Rattle.frame.specs.Clauses.{frame_of, large_of}
 use Rattle.frame.specs.Printer.{no_print}
 use Rattle.frame.proofs.Printers.{PrinterAnswers}
 use Rattle.frame.proofs.Sheets.{sheet_frame, large_no}
-use Rattle.entries.specs.Clauses.{Listing, Asks, PaintsAll, paint_all}
+use Rattle.entries.specs.Clauses.{Listing, Asks, PaintsAll, paint_all, painted}
 use Rattle.layout.proofs.Laid.{root_laid}
 use Rattle.layout.specs.Promises.{height_at, width_at}
 use Rattle.layout.proofs.Fit.{LeafFits, leaves_fit}
@@ -48,7 +48,7 @@ use Rattle.sheet.proofs.Refusals.{planned_no, planned_yes}
 paint_painted : (s : Settings) (stride : ℕ) (o : List ℕ) (ls : List Placed) → paint_all s stride o ls ≡ painted_all s stride ls o
 unfolding painted_all
 paint_painted s stride o [] = refl
-paint_painted s stride o (l ∷ ls) = paint_painted s stride _ ls
+paint_painted s stride o (l ∷ ls) = paint_painted s stride (painted s stride o l) ls
 
 -- ---- each block is within the sheet's bytes
 
