@@ -1,6 +1,6 @@
 // An input read whole, as far as a buffer holds it.
 ghost use Rattle.std.specs.Prelude.{length};
-ghost use Rattle.standard_streams.specs.Input.{ends_within};
+ghost use Rattle.standard_streams.specs.Input.{ends_within, took_bytes};
 
 use crate::TRIES;
 use std::io;
@@ -14,7 +14,8 @@ pub enum StandardInput {
 }
 
 pub fn read_input<R: Read>(input: &mut R, buffer: &mut [u8]) -> StandardInput
-    ensures { ends_within result (length buffer.new) }
+    ensures within { ends_within result (length buffer.new) }
+    ensures bytes { took_bytes result (R.remaining input.old) (R.remaining input.new) buffer.new }
 {
     let mut done: usize = 0;
     let mut tries: usize = TRIES;

@@ -1,4 +1,8 @@
 // A program's answer written to an output whole.
+ghost use Rattle.std.specs.Prelude.{◌≡◌, IsTrue};
+ghost use Rattle.std.specs.Io.KnownBytes.{Appends};
+ghost use Rattle.standard_streams.specs.declared.output.Output.TheVariants.{Whole};
+
 use crate::TRIES;
 use std::io::{ErrorKind, Write};
 use std::{fmt, io};
@@ -11,7 +15,9 @@ enum Output {
     Stuck,
 }
 
-fn write_output<W: Write>(output: &mut W, bytes: &[u8]) -> Output {
+fn write_output<W: Write>(output: &mut W, bytes: &[u8]) -> Output
+    ensures { result ≡ Whole → Appends (W.contents output.old) (W.contents output.new) bytes.now }
+{
     let mut done: usize = 0;
     let mut tries: usize = TRIES;
     while done < bytes.len() {
@@ -79,16 +85,19 @@ pub fn fail<W: Write>(errors: &mut W, program: &[u8], e: io::Error) {
     tell(errors, program, before_number(&said.bytes[..count]));
 }
 
-// The whole answer in one go; where that fails, a line on standard error with the program's name reports it.
+// The whole answer in one go; where that fails, a line on standard error with the program's name reports it, and the result is false.
 pub fn write_answer<W: Write, E: Write>(
     output: &mut W,
     errors: &mut E,
     program: &[u8],
     bytes: &[u8],
-) {
+) -> bool
+    ensures { IsTrue result → Appends (W.contents output.old) (W.contents output.new) bytes.now }
+{
     match write_output(output, bytes) {
-        Output::Whole => {}
+        Output::Whole => return true,
         Output::Failed(e) => fail(errors, program, e),
         Output::Stuck => tell(errors, program, b"nothing more can be written"),
     }
+    false
 }
