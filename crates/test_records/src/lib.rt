@@ -10,10 +10,18 @@ use splits::SplitList;
 use splits::cut::CutPair;
 use test_lines::contents::{byte, bytes};
 
-fn decimal(out: &mut [u8], at: usize, n: usize) -> usize {
-    let mut digits = [0u8; 20];
-    let k = io::decimal(n as u64, &mut digits);
-    bytes(out, at, &digits[..k])
+// A number's digits, from the first.
+fn decimal(rt: &impl Print, out: &mut [u8], from: usize, n: usize) -> usize {
+    let mut place: usize = 1;
+    while place <= n / 10 {
+        place = place * 10;
+    }
+    let mut at = from;
+    while 0 < place {
+        at = byte(rt, out, at, b'0' + (n / place % 10) as u8);
+        place = place / 10;
+    }
+    at
 }
 
 // Whether the entries past the count are 0.
@@ -32,7 +40,7 @@ fn rest_is_zero(list: SplitList) -> bool {
 }
 
 // A list; one with too many pieces, or with entries past them, is left out.
-fn list(out: &mut [u8], from: usize, list: SplitList) -> usize {
+fn list(rt: &impl Print, out: &mut [u8], from: usize, list: SplitList) -> usize {
     let pieces = list.pieces;
     let n = list.count;
     if 512 < n {
@@ -42,13 +50,13 @@ fn list(out: &mut [u8], from: usize, list: SplitList) -> usize {
         return from;
     }
     if n == 0 {
-        return bytes(out, from, b" none");
+        return bytes(rt, out, from, b" none");
     }
     let mut at = from;
     let mut i: usize = 0;
     while i < n {
-        at = byte(out, at, 32);
-        at = decimal(out, at, common::wide16(pieces[i]));
+        at = byte(rt, out, at, 32);
+        at = decimal(rt, out, at, common::wide16(pieces[i]));
         i = i + 1;
     }
     at
@@ -72,50 +80,56 @@ fn letters(f: Flags) -> [u8; 8] {
     ]
 }
 
-fn size(out: &mut [u8], from: usize, s: Size) -> usize {
-    let mut at = decimal(out, from, s.width);
-    at = bytes(out, at, b" by ");
-    decimal(out, at, s.height)
+fn size(rt: &impl Print, out: &mut [u8], from: usize, s: Size) -> usize {
+    let mut at = decimal(rt, out, from, s.width);
+    at = bytes(rt, out, at, b" by ");
+    decimal(rt, out, at, s.height)
 }
 
-fn lists(out: &mut [u8], from: usize, across: SplitList, down: SplitList) -> usize {
-    let mut at = bytes(out, from, b", across");
-    at = list(out, at, across);
-    at = bytes(out, at, b", down");
-    list(out, at, down)
+fn lists(
+    rt: &impl Print,
+    out: &mut [u8],
+    from: usize,
+    across: SplitList,
+    down: SplitList,
+) -> usize {
+    let mut at = bytes(rt, out, from, b", across");
+    at = list(rt, out, at, across);
+    at = bytes(rt, out, at, b", down");
+    list(rt, out, at, down)
 }
 
-fn pair(out: &mut [u8], from: usize, p: CutPair) -> usize {
-    let mut at = bytes(out, from, b", pair ");
-    at = decimal(out, at, p.taken);
-    at = byte(out, at, 32);
-    decimal(out, at, common::wide16(p.rest))
+fn pair(rt: &impl Print, out: &mut [u8], from: usize, p: CutPair) -> usize {
+    let mut at = bytes(rt, out, from, b", pair ");
+    at = decimal(rt, out, at, p.taken);
+    at = byte(rt, out, at, 32);
+    decimal(rt, out, at, common::wide16(p.rest))
 }
 
 // A leaf's record: its size, the two lists, the flags, the pair of its cut.
-pub fn record(out: &mut [u8], r: LeafRecord) -> usize {
+pub fn record(rt: &impl Print, out: &mut [u8], r: LeafRecord) -> usize {
     let allotted = r.size;
     let across = r.horizontal;
     let down = r.vertical;
     let f = r.flags;
-    let mut at = size(out, 0, allotted);
-    at = lists(out, at, across, down);
-    at = bytes(out, at, b", ");
-    at = bytes(out, at, &letters(f));
-    pair(out, at, r.pair)
+    let mut at = size(rt, out, 0, allotted);
+    at = lists(rt, out, at, across, down);
+    at = bytes(rt, out, at, b", ");
+    at = bytes(rt, out, at, &letters(f));
+    pair(rt, out, at, r.pair)
 }
 
-fn extent(out: &mut [u8], from: usize, width: u16, height: u16) -> usize {
-    let mut at = decimal(out, from, common::wide16(width));
-    at = bytes(out, at, b" by ");
-    decimal(out, at, common::wide16(height))
+fn extent(rt: &impl Print, out: &mut [u8], from: usize, width: u16, height: u16) -> usize {
+    let mut at = decimal(rt, out, from, common::wide16(width));
+    at = bytes(rt, out, at, b" by ");
+    decimal(rt, out, at, common::wide16(height))
 }
 
 // A node's sizes, the natural one and the allotted one, and the number of nodes below it.
-pub fn measured(out: &mut [u8], z: SizeRecord) -> usize {
-    let mut at = extent(out, 0, z.natural_width, z.natural_height);
-    at = bytes(out, at, b", ");
-    at = extent(out, at, z.width, z.height);
-    at = bytes(out, at, b", below ");
-    decimal(out, at, common::wide16(z.below))
+pub fn measured(rt: &impl Print, out: &mut [u8], z: SizeRecord) -> usize {
+    let mut at = extent(rt, out, 0, z.natural_width, z.natural_height);
+    at = bytes(rt, out, at, b", ");
+    at = extent(rt, out, at, z.width, z.height);
+    at = bytes(rt, out, at, b", below ");
+    decimal(rt, out, at, common::wide16(z.below))
 }
