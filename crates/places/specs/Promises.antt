@@ -50,7 +50,8 @@ unpacked w = record { number = 0; node = w / 4294967296; line = w / 65536 % 6553
 -- the i-th answer written, decoded to its node, line and column, is the one of `leaf_at` for the line and the column of the i-th place
 pub record EachAsAlone (bs ts ps : List ℕ) (r : Outcome FoundPlaces (List ℕ)) : Type 0 where
   pub count : r.answer.count ≡ length ps
-  pub alone : (i : ℕ) → i < r.answer.count → unpacked (get_or r.memory i 0) ≡ leaf_place_of (input_of bs ts) (line_of (get_or ps i 0)) (column_of (get_or ps i 0))
+  pub alone : (i : ℕ) → i < r.answer.count
+      → unpacked (get_or r.memory i 0) ≡ leaf_place_of (input_of bs ts) (line_of (get_or ps i 0)) (column_of (get_or ps i 0))
 
 -- the answer names a leaf, and a place of its block, which is printed there
 pub record Forward (s : Settings) (t : Tree) (l k : ℕ) (r : LeafPlace) : Type 0 where

@@ -1,0 +1,60 @@
+use mathlib.Core.Path.{◌≡◌, refl, sym, ◌∙◌}
+use native.Mathlib.Omega.{arith}
+use Prim.Native.Nat.{ℕ, ◌<◌}
+use lib.ListN.{length, length-replicate}
+use Rattle.sizes.specs.Input.{input_of}
+use Rattle.sizes.proofs.MeasuredInput.{size_list_length}
+use Rattle.places.proofs.Checked.{Checked, checked}
+use Rattle.places.proofs.Calls.{place_refused, tree_asks, tree_walked, owners_answer, place_fault, place_low, place_owners, place_found}
+use Rattle.places.proofs.leaf_at.Goals as goal
+use Rattle.places.proofs.leaf_at.Goals.{After-check_sheet-m, After-fault_of-n, Else-n-ne0}
+
+-- the list that was lent
+long : (c : After-check_sheet-m) → length c.check_sheet-m.new.list ≡ 2048
+long c = let a = c.args in size_list_length (input_of a.settings.now a.tree.now) _ _ c.check_sheet-m.ensures.list
+    ∙ length-replicate {A = ℕ} 2048 0
+
+-- what is known of the sheet once the place was tested
+sheet-at : (c : After-fault_of-n) → let a = c.args in let d = c.check_sheet-m in Checked a.settings.now a.tree.now d.result d.new.list
+sheet-at c =
+    let d = c.check_sheet-m in
+    checked _ _ _ _ _ (length-replicate {A = ℕ} 2048 0) d.ensures.value d.ensures.list c.if-m-ne0.false
+
+low-at : (c : Else-n-ne0) → let a = c.args in (a.line < 160) × (a.column < 400)
+low-at c =
+    let d = c.check_sheet-m in
+    place_low (checked _ _ _ _ _ (length-replicate {A = ℕ} 2048 0) d.ensures.value d.ensures.list c.if-m-ne0.false) _ c.natural_at-root.ensures.value _
+    c.frame_of-f.ensures _ _ _ c.fault_of-n.ensures c.if-n-ne0.false
+
+pub returns-then-m-ne0 : goal.returns-then-m-ne0
+returns-then-m-ne0 c = c.no_leaf_place.ensures ∙ sym (place_refused _ _ _ _ _ c.check_sheet-m.ensures.value c.if-m-ne0.true)
+
+pub slice_bounds-natural_at-end : goal.slice_bounds-natural_at-end
+slice_bounds-natural_at-end c = sym (long (goal.at.slice_bounds-natural_at-end c).After-check_sheet-m)
+
+pub natural_at-root-requires : goal.natural_at-root-requires
+natural_at-root-requires c = omega (arith, long (goal.at.natural_at-root-requires c).After-check_sheet-m)
+
+pub returns-then-n-ne0 : goal.returns-then-n-ne0
+returns-then-n-ne0 c = c.no_leaf_place-then-n-ne0.ensures
+    ∙ sym
+    (place_fault (sheet-at (goal.at.returns-then-n-ne0 c).After-fault_of-n) _ c.natural_at-root.ensures.value _ c.frame_of-f.ensures _ _ _
+    c.fault_of-n.ensures c.if-n-ne0.true)
+
+pub overflow_mul-places : goal.overflow_mul-places
+overflow_mul-places c = omega (arith, low-at (goal.at.overflow_mul-places c).Else-n-ne0)
+
+pub overflow_add-places : goal.overflow_add-places
+overflow_add-places c = omega (arith, low-at (goal.at.overflow_add-places c).Else-n-ne0)
+
+pub locate_tree-requires : goal.locate_tree-requires
+locate_tree-requires c = tree_asks (sheet-at (goal.at.locate_tree-requires c).After-fault_of-n) _ _ refl
+
+pub returns : goal.returns
+returns c = let q = sheet-at (goal.at.returns c).After-fault_of-n in
+    let h = c.if-n-ne0.false in
+    let ze = c.natural_at-root.ensures.value in
+    c.unpack.ensures
+    ∙ place_found q _ ze _ c.frame_of-f.ensures _ _ _ c.fault_of-n.ensures h _ refl _
+    (owners_answer q _ _ _ _ refl (place_owners q _ ze _ c.frame_of-f.ensures _ _ _ c.fault_of-n.ensures h _ refl)
+    (tree_walked q refl (c.locate_tree.ensures (tree_asks q _ _ refl))))
