@@ -73,5 +73,6 @@ typed_word_lem t o =
     (λ k l c e h. let f = fault_at t k l c e in
     tells_refusal k l c (omega (arith, f.number_low)) (omega (arith, f.number_high)) (omega (arith, h.0)) (omega (arith, h.1)))
     (λ h. tells_refusal 8 0 0 (omega arith) (omega arith) (omega arith) (omega arith))
-    (λ ns e h. tells_count (length (bytes_of (root_of ns))) (omega (arith, (tree_sound (bytes_of (root_of ns)) (root_of ns) _ _ (typed_meant t ns e).read).short)))
+    (λ ns e h. tells_count (length (bytes_of (root_of ns)))
+    (omega (arith, (tree_sound (bytes_of (root_of ns)) (root_of ns) _ _ (typed_meant t ns e).read).short)))
     (fault_small t o)
