@@ -47,7 +47,8 @@ module _ (o : List ℕ) (fs : List (List ℕ)) (e : fields_of o ≡ some fs) whe
   call_form c = of_form (call_next (length o) 65 is_name_lem o (draft_of (tag_for 65) fs) (start 65 is_name_lem) c).state
 
   -- "other drafts keep their bytes": a call under another name does not change what the name gives back
-  pub others_stay : (k : ℕ) → is_name k ≡ true → (c : DraftCall) → (name_in c ≡ k → ⊥) → (out : List ℕ) → return_of (answer_to o c).memory k out ≡ return_of o k out
+  pub others_stay : (k : ℕ) → is_name k ≡ true → (c : DraftCall) → (name_in c ≡ k → ⊥) → (out : List ℕ)
+      → return_of (answer_to o c).memory k out ≡ return_of o k out
   unfolding return_of
   others_stay k name c d out =
       let f = call_next (length o) k name o (draft_of (tag_for k) fs) (start k name) c in

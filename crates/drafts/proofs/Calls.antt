@@ -11,7 +11,8 @@ use Rattle.common.specs.Choice.{pick}
 use Rattle.common.specs.Outcome.{Outcome}
 use Rattle.tree.specs.Reading.{ReadOne, read_tree, tree_answer}
 use Rattle.drafts.specs.declared.Returned.{Returned}
-use Rattle.drafts.specs.Store.{is_name, tag_for, has_tag, fields_of, field_bytes, without_tag, draft_of, save_tree, save_in, save_of, forget_in, forget_of, no_return}
+use Rattle.drafts.specs.Store.{is_name, tag_for, has_tag, fields_of, field_bytes, without_tag, draft_of, save_tree, save_in, save_of, forget_in, forget_of}
+use Rattle.drafts.specs.Store.{no_return}
 use Rattle.drafts.specs.Store.{return_found, return_in, return_of}
 use Rattle.drafts.specs.Promises.{TreeRead, DraftCall, save, forget, return, answer_to}
 use Rattle.drafts.proofs.OpenedStore.{tree_read}

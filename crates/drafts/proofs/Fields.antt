@@ -68,7 +68,8 @@ field_read fuel (b ∷ f) r k =
     rw (ne_eqb b 0 (tag_some b k.tag), whole_front (b ∷ f) r k, read_fields)
     (ap₂ (λ (x y : List ℕ). field_then x (read_fields fuel y)) (taken_front (b ∷ f) r k) (dropped_front (b ∷ f) r k))
 
-read_joined : (fs : List (List ℕ)) → Fields fs → (fuel z : ℕ) → length (field_bytes fs) + z < fuel → read_fields fuel (field_bytes fs ++ replicate z 0) ≡ some fs
+read_joined : (fs : List (List ℕ)) → Fields fs → (fuel z : ℕ) → length (field_bytes fs) + z < fuel
+    → read_fields fuel (field_bytes fs ++ replicate z 0) ≡ some fs
 unfolding field_bytes
 read_joined [] k fuel z h = read_zeros fuel z (omega arith)
 read_joined (f ∷ fs) k zero z h = absurd (omega arith)
@@ -82,7 +83,8 @@ read_joined (f ∷ fs) k (suc fuel) z h =
 pub read_store : (n : ℕ) (fs : List (List ℕ)) → Fields fs → length (field_bytes fs) ≤ n → fields_of (store_of n fs) ≡ some fs
 unfolding fields_of store_of
 read_store n fs k h =
-    let l : length (field_bytes fs ++ replicate (n - length (field_bytes fs)) 0) ≡ n = length-append (field_bytes fs) (replicate (n - length (field_bytes fs)) 0)
+    let l : length (field_bytes fs ++ replicate (n - length (field_bytes fs)) 0) ≡ n = length-append (field_bytes fs)
+    (replicate (n - length (field_bytes fs)) 0)
     ∙ ap (λ (m : ℕ). length (field_bytes fs) + m) (length-replicate (n - length (field_bytes fs)) 0) ∙ omega arith in
     read_joined fs k (length (field_bytes fs ++ replicate (n - length (field_bytes fs)) 0) + 1) (n - length (field_bytes fs)) (omega arith)
 

@@ -109,7 +109,8 @@ front_put d at a b c h =
     rw f₁ (set_at (take at d ++ (a ∷ [])) (get_or d (at + 1) 0) (drop (at + 2) d) b (at + 1) l₁) in
     let f₃ : set (set d at a) (at + 1) b ≡ (take at d ++ (a ∷ b ∷ [])) ++ (get_or d (at + 2) 0 ∷ drop (at + 3) d) = f₂ ∙ rw (e₃, append_assoc, append_assoc) in
     let l₂ : length (take at d ++ (a ∷ b ∷ [])) ≡ at + 2 = length-append (take at d) (a ∷ b ∷ []) ∙ ap (λ (n : ℕ). n + 2) l in
-    rw f₃ (set_at (take at d ++ (a ∷ b ∷ [])) (get_or d (at + 2) 0) (drop (at + 3) d) c (at + 2) l₂ ∙ append_assoc (take at d) (a ∷ b ∷ []) (c ∷ drop (at + 3) d))
+    rw f₃ (set_at (take at d ++ (a ∷ b ∷ [])) (get_or d (at + 2) 0) (drop (at + 3) d) c (at + 2) l₂
+    ∙ append_assoc (take at d) (a ∷ b ∷ []) (c ∷ drop (at + 3) d))
   where
     drop_next : (d : List ℕ) (at k : ℕ) → at + k < length d → drop (at + k) d ≡ get_or d (at + k) 0 ∷ drop (at + suc k) d
     drop_next d at k h = rw (add-suc at k) (drop-cons d (at + k) 0 h)

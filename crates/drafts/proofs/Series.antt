@@ -14,7 +14,8 @@ use Rattle.tree.specs.Tree.{Tree}
 use Rattle.tree.specs.Reading.{ReadOne, read_tree}
 use Rattle.tree.specs.Accepted.{element}
 use Rattle.tree.proofs.Sound.{tree_refusal}
-use Rattle.drafts.specs.Store.{is_name, tag_for, is_tag, has_tag, fields_of, field_bytes, store_of, without_tag, draft_of, save_tree, save_of, forget_of, return_found}
+use Rattle.drafts.specs.Store.{is_name, tag_for, is_tag, has_tag, fields_of, field_bytes, store_of, without_tag, draft_of, save_tree, save_of, forget_of}
+use Rattle.drafts.specs.Store.{return_found}
 use Rattle.drafts.specs.Store.{return_of}
 use Rattle.drafts.specs.Promises.{name_in, DraftCall, save, forget, return, answer_to, store_after, noted, last_saved, Fields}
 use Rattle.drafts.proofs.Fields.{read_store, store_of_length, fields_without, without_gone, without_shorter, joined_last, fields_last, found_other}
@@ -125,7 +126,8 @@ module _ (n k : ℕ) (name : is_name k ≡ true) where
             found_last (tag_for k) (without_tag (tag_for j) fs) (element (tag_for j) tree) (rw i (without_gone (tag_for k) fs x.state.good)) (ap tag_for i)
         go false e =
             let d : tag_for j ≡ tag_for k → ⊥ = λ z. eqb-false j k e (tag_name j k p name z) in
-            found_before (tag_for k) (without_tag (tag_for j) fs) (element (tag_for j) tree) d ∙ found_other (tag_for k) (tag_for j) fs (λ z. d (sym z)) ∙ x.holds
+            found_before (tag_for k) (without_tag (tag_for j) fs) (element (tag_for j) tree) d ∙ found_other (tag_for k) (tag_for j) fs (λ z. d (sym z))
+            ∙ x.holds
 
     save_next : (j : ℕ) (tree : List ℕ) → CallNext (save_of o j tree) (save j tree) m
     unfolding save_of
@@ -178,7 +180,8 @@ module _ (n k : ℕ) (name : is_name k ≡ true) where
         there false p = stay o m x 19 (λ z. omega arith) (forget j)
 
         named : (c : Bool) → is_name j ≡ c → CallNext (pick c
-            (pick (has_tag (tag_for j) fs) (record { answer = 0; memory = store_of (length o) (without_tag (tag_for j) fs) }) (record { answer = 19; memory = o }))
+            (pick (has_tag (tag_for j) fs) (record { answer = 0; memory = store_of (length o) (without_tag (tag_for j) fs) })
+            (record { answer = 19; memory = o }))
             (record { answer = 19; memory = o })) (forget j) m
         named true p = there (has_tag (tag_for j) fs) p
         named false p = stay o m x 19 (λ z. omega arith) (forget j)

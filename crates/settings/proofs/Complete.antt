@@ -207,7 +207,8 @@ module _ (s : Settings) (r : Ranges s) where
   pub plain_read : s.margin ≡ no_margin → read_settings (settings_bytes s) ≡ read s
   plain_read e =
       read_either s.lines (settings_bytes s) (rw (append-nil (settings_bytes s)) at (first_mark []))
-      ∙ read_front_lem s.lines _ (settings_bytes s) [] (take_all 31 (settings_bytes s) (omega (arith, record_long))) (drop_of_length-le (settings_bytes s) {i = 31}
+      ∙ read_front_lem s.lines _ (settings_bytes s) [] (take_all 31 (settings_bytes s) (omega (arith, record_long)))
+      (drop_of_length-le (settings_bytes s) {i = 31}
       (omega (arith, record_long))) (record_within s r)
       ∙ read_none s.lines (settings_bytes s)
       ∙ ap read (ap (λ (m : Margin). settings_of s.lines m (settings_bytes s)) (sym e) ∙ fields_read)

@@ -16,7 +16,8 @@ use Rattle.settings.specs.Reading.{low, high, within, Parsed, refused, read, rea
 -- a byte is tested, then those after it
 pub within_next : (ls hs bs : List ℕ) (i : ℕ) → i < length ls → i < length hs → i < length bs
     → within (drop i ls) (drop i hs) (drop i bs)
-    ≡ pick (ltb (get_or bs i 0) (get_or ls i 0)) false (pick (ltb (get_or hs i 0) (get_or bs i 0)) false (within (drop (i + 1) ls) (drop (i + 1) hs) (drop (i + 1) bs)))
+    ≡ pick (ltb (get_or bs i 0) (get_or ls i 0)) false
+    (pick (ltb (get_or hs i 0) (get_or bs i 0)) false (within (drop (i + 1) ls) (drop (i + 1) hs) (drop (i + 1) bs)))
 unfolding within
 within_next ls hs bs i p q r = rw (drop-cons ls i 0 p, drop-cons hs i 0 q, drop-cons bs i 0 r, add-one)
 

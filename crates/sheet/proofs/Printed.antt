@@ -112,7 +112,8 @@ module _ (s : Settings) (t : Tree) (len : ℕ) (large : too_large s t ≡ false)
 
 -- ---- in the printer's terms: m is what was measured, f the frame
 
-pub sheet_refused : (bs ts o : List ℕ) (m : Measured) → m ≡ measured_of (input_of bs ts) → (m.number ≡ 0 → ⊥) → sheet_of (input_of bs ts) o ≡ no_print m.number o
+pub sheet_refused : (bs ts o : List ℕ) (m : Measured) → m ≡ measured_of (input_of bs ts) → (m.number ≡ 0 → ⊥)
+    → sheet_of (input_of bs ts) o ≡ no_print m.number o
 unfolding sheet_of
 sheet_refused bs ts o m e h = rw (refuses bs ts m e h)
 

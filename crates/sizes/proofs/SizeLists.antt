@@ -69,7 +69,8 @@ stored_holds (x ∷ xs) l node h =
         put_first l (4 * node) x (omega arith),
         put_second l (4 * node) x (omega arith),
       ),
-      subst (λ (k : ℕ). Holds xs (suc node) (put_sizes (put_size l (4 * node) x) k xs)) (sym e) (stored_holds xs (put_size l (4 * node) x) (suc node) (omega arith)),
+      subst (λ (k : ℕ). Holds xs (suc node) (put_sizes (put_size l (4 * node) x) k xs)) (sym e)
+          (stored_holds xs (put_size l (4 * node) x) (suc node) (omega arith)),
     )
 
 -- the number at 4 n + r, r 0 or 1, is no allotted one

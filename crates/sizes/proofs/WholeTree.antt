@@ -97,7 +97,8 @@ module _ (S : Settings) (l : List ℕ) where
 -- after `measure_tree` the list holds the sizes of the tree's nodes
 pub sizes_listed : (s : Settings) (t : Tree) (l : List ℕ) → 4 * nodes t ≤ length l → Allotted s t (natural s t) 0 (sets l 0 (flat (tree_sizes s t)))
 unfolding tree_sizes
-sizes_listed s t l h = allotted_in s (sets l 0 (flat (tree_sizes s t))) t (natural s t) 0 (stored_all (tree_sizes s t) l 0 (omega (arith, tree_sizes_length s t)))
+sizes_listed s t l h = allotted_in s (sets l 0 (flat (tree_sizes s t))) t (natural s t) 0
+    (stored_all (tree_sizes s t) l 0 (omega (arith, tree_sizes_length s t)))
 
 -- and so does the list of the numbers alone
 pub flat_listed : (s : Settings) (t : Tree) → Allotted s t (natural s t) 0 (flat (tree_sizes s t))

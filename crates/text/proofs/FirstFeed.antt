@@ -1,5 +1,6 @@
 -- The first line feed from a place on.
-use Rattle.std.proofs.Common.{◌≡◌, ℕ, zero, suc, ◌+◌, ◌-◌, ◌*◌, ◌/◌, ◌<◌, ◌≤◌, Bool, true, false, List, [], ◌∷◌, map, length, get_or, take, drop, sym, refl, ap, ◌∙◌, add-one, arith, length-drop, drop_of_length-le, length-take-le, drop-cons, drop-drop, eq-eqb, ne_eqb}
+use Rattle.std.proofs.Common.{◌≡◌, ℕ, zero, suc, ◌+◌, ◌-◌, ◌*◌, ◌/◌, ◌<◌, ◌≤◌, Bool, true, false, List, [], ◌∷◌, map, length, get_or, take, drop, sym, refl}
+use Rattle.std.proofs.Common.{ap, ◌∙◌, add-one, arith, length-drop, drop_of_length-le, length-take-le, drop-cons, drop-drop, eq-eqb, ne_eqb}
 use lib.ListN.{length-map}
 use lib.Count.{count_trailing_zeros}
 use Rattle.common.specs.Choice.{pick}
@@ -26,7 +27,8 @@ word_some zero t h = absurd (omega arith)
 word_some (suc n) [] h = absurd (omega arith)
 word_some (suc n) (b ∷ t) h = go (is_feed b) h (λ k. word_some n t k)
   where
-    go : (c : Bool) → 0 < flags (map is_feed (take n t)) * 256 + pick c 128 0 → (0 < flags (map is_feed (take n t)) → first_feed t ≡ first (map is_feed (take n t)))
+    go : (c : Bool) → 0 < flags (map is_feed (take n t)) * 256 + pick c 128 0
+        → (0 < flags (map is_feed (take n t)) → first_feed t ≡ first (map is_feed (take n t)))
         → pick c 0 (suc (first_feed t)) ≡ first (c ∷ map is_feed (take n t))
     go true h ih = refl
     go false h ih = ap suc (ih (omega arith))

@@ -1,5 +1,6 @@
 -- Word operations act on each byte of a word apart, as long as no sum of two bytes passes 255.
-use Rattle.std.proofs.Common.{◌≡◌, ℕ, zero, suc, ◌+◌, ◌*◌, ◌/◌, ◌%◌, ◌<◌, ◌≤◌, Bool, true, false, T, eqb, sym, refl, ap, ◌∙◌, ap₂, mod-lt, mod-eq_of_lt, arith, lit<, eqb→eq, ne_eqb}
+use Rattle.std.proofs.Common.{◌≡◌, ℕ, zero, suc, ◌+◌, ◌*◌, ◌/◌, ◌%◌, ◌<◌, ◌≤◌, Bool, true, false, T, eqb, sym, refl, ap, ◌∙◌, ap₂, mod-lt, mod-eq_of_lt}
+use Rattle.std.proofs.Common.{arith, lit<, eqb→eq, ne_eqb}
 use borrow.Author.Tests.{eqb-false}
 use lib.Bits.{bit_and, bit_or, bit_xor, and_block, or_block, xor_block, or_lt, xor_lt, and_le_r, and_zero_r, xor_zero_r, and_high}
 use Rattle.common.specs.Choice.{pick, both}

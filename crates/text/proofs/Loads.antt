@@ -1,5 +1,6 @@
 -- Words of bytes, and the line feeds marked in them.
-use Rattle.std.proofs.Common.{◌≡◌, ℕ, zero, suc, ◌+◌, ◌*◌, ◌/◌, ◌%◌, ◌<◌, ◌≤◌, Bool, true, false, List, [], ◌∷◌, ◌++◌, map, length, get_or, take, drop, sym, refl, ◌∙◌, add-suc, add-one, arith, length-drop, length-take-le, drop-cons, drop-drop, take-add}
+use Rattle.std.proofs.Common.{◌≡◌, ℕ, zero, suc, ◌+◌, ◌*◌, ◌/◌, ◌%◌, ◌<◌, ◌≤◌, Bool, true, false, List, [], ◌∷◌, ◌++◌, map, length, get_or, take, drop, sym}
+use Rattle.std.proofs.Common.{refl, ◌∙◌, add-suc, add-one, arith, length-drop, length-take-le, drop-cons, drop-drop, take-add}
 use Rattle.common.specs.Choice.{pick}
 use Rattle.text.specs.Feeds.{is_feed, feed_count}
 use Rattle.text.specs.Clauses.{word, Loaded, marked, flags}
@@ -14,7 +15,8 @@ four s at h =
     let e₀ : drop at s ≡ get_or s at 0 ∷ drop (at + 1) s = rw (add-one at) (drop-cons s at 0 (omega arith)) in
     rw (e₀, on s at 1 (omega arith), on s at 2 (omega arith), on s at 3 (omega arith))
 
-pub load_four : (s : List ℕ) (at r : ℕ) → at + 4 ≤ length s → get_or s at 0 ≤ 255 → get_or s (at + 1) 0 ≤ 255 → get_or s (at + 2) 0 ≤ 255 → get_or s (at + 3) 0 ≤ 255
+pub load_four : (s : List ℕ) (at r : ℕ) → at + 4 ≤ length s → get_or s at 0 ≤ 255 → get_or s (at + 1) 0 ≤ 255 → get_or s (at + 2) 0 ≤ 255
+    → get_or s (at + 3) 0 ≤ 255
     → r ≡ get_or s at 0 + get_or s (at + 1) 0 * 256 + get_or s (at + 2) 0 * 65536 + get_or s (at + 3) 0 * 16777216 → Loaded (take 4 (drop at s)) r
 unfolding word
 load_four s at r h b₀ b₁ b₂ b₃ e = rw (four s at h) (record { is = omega arith; small = small })

@@ -1,5 +1,7 @@
 -- What is seen of a text: part after part, and in the end.
-use Rattle.std.proofs.Common.{◌≡◌, ℕ, suc, ◌+◌, ◌-◌, ◌<◌, ◌≤◌, max, Bool, true, false, eqb, List, [], ◌∷◌, ◌++◌, length, get_or, take, drop, sym, refl, ap, ◌∙◌, ap₂, add-one, arith, length-drop, take-append-drop, drop_of_length-le, length-take-le, drop-cons, drop-drop, take-add, eqb-true}
+use Rattle.std.proofs.Common.{◌≡◌, ℕ, suc, ◌+◌, ◌-◌, ◌<◌, ◌≤◌, max, Bool, true, false, eqb, List, [], ◌∷◌, ◌++◌, length, get_or, take, drop, sym, refl, ap}
+use Rattle.std.proofs.Common.{◌∙◌, ap₂, add-one, arith, length-drop, take-append-drop, drop_of_length-le, length-take-le, drop-cons, drop-drop, take-add}
+use Rattle.std.proofs.Common.{eqb-true}
 use lib.Bits.{bit_or, or_add_and, and_le_l, and_le_r}
 use Rattle.common.specs.Choice.{pick}
 use Rattle.text.specs.declared.seen.Seen.{Seen}
@@ -22,7 +24,8 @@ unfolding feed_count
 count_append [] b = omega arith
 count_append (x ∷ a) b = omega (arith, count_append a b)
 
-plain_on : (s : List ℕ) (at m n : ℕ) → feed_count (take m (drop at s)) ≡ 0 → feed_count (take n (drop (at + m) s)) ≡ 0 → feed_count (take (m + n) (drop at s)) ≡ 0
+plain_on : (s : List ℕ) (at m n : ℕ) → feed_count (take m (drop at s)) ≡ 0 → feed_count (take n (drop (at + m) s)) ≡ 0
+    → feed_count (take (m + n) (drop at s)) ≡ 0
 plain_on s at m n p q = rw (take-add m n (drop at s), count_append, drop-drop m at s, p, q)
 
 or_none : (a b : ℕ) → bit_or a b ≡ 0 → (a ≡ 0) × (b ≡ 0)
@@ -65,7 +68,8 @@ fine_on i j r false e f = record { few = f.few; before = omega (arith, f.before)
 after_fine : (t : List ℕ) (i : ℕ) (r : Seen) → Fine i r → Fine (i + length t) (after t i r)
 unfolding after
 after_fine [] i r f = let e : i + 0 ≡ i = omega arith in rw e f
-after_fine (b ∷ t) i r f = rw (along i (length t)) (after_fine t (suc i) (pick (is_feed b) (after_feed i r) r) (fine_on i (suc i) r (is_feed b) (omega arith) f))
+after_fine (b ∷ t) i r f = rw (along i (length t))
+    (after_fine t (suc i) (pick (is_feed b) (after_feed i r) r) (fine_on i (suc i) r (is_feed b) (omega arith) f))
 
 module _ (s : List ℕ) (i n : ℕ) (h : i + n ≤ length s) where
   part_long : length (take n (drop i s)) ≡ n

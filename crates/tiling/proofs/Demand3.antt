@@ -311,7 +311,8 @@ module _ (bs ts : List ℕ) (s : Settings) (t : Tree) (c : Outcome Collected (Li
   columns n us e h = subst (λ (w : ℕ → ℕ). total (map w (child_nodes (suc n) us)) + (count us - 1) * sep s ≡ w n) (sym heights_are) (column_filled s t n us e h)
 
   children : (n : ℕ) (a : Axis) (us : Trees) → get_elem? (subtrees t) n ≡ some (group a us) → (i m : ℕ) → get_elem? (child_nodes (suc n) us) i ≡ some m
-      → (m < c.answer.count) × ((sizes_written c m).natural_width ≤ (sizes_written c m).width) × ((sizes_written c m).natural_height ≤ (sizes_written c m).height)
+      → (m < c.answer.count) × ((sizes_written c m).natural_width ≤ (sizes_written c m).width)
+      × ((sizes_written c m).natural_height ≤ (sizes_written c m).height)
   unfolding child_nodes count
   children n a Trees.none e i m d = elem_none i m d
   children n a (more u us) e i m d =

@@ -137,9 +137,11 @@ module _ (bs ts : List ℕ) (s : Settings) (t : Tree) (c : Outcome Collected (Li
     pub none_shared : (n m i k : ℕ) → BlockCovers n i k → BlockCovers m i k → n ≡ m
     -- "The sheet's byte at each place equals the byte that the leaf printer, with the same settings and tree, writes there in that block"
     pub same_byte : (n i k : ℕ) → BlockCovers n i k → (o₁ : List ℕ) → (leaf_print n o₁).answer.number ≡ 0
-        → byte_in (sheet_of (input_of bs ts) o) (s.margin.top + i) (s.margin.left + k) ≡ byte_in (leaf_print n o₁) (i - (start_in n).line) (k - (start_in n).column)
+        → byte_in (sheet_of (input_of bs ts) o) (s.margin.top + i) (s.margin.left + k) ≡ byte_in (leaf_print n o₁) (i - (start_in n).line)
+        (k - (start_in n).column)
     -- "which is the byte that document 01 defines there"
-    pub defined : (n : ℕ) → (leaf_answer n).number ≡ 0 → (o₁ : List ℕ) → (leaf_print n o₁).answer.number ≡ 0 → lines_in (leaf_print n o₁) ≡ block s (leaf_seen n)
+    pub defined : (n : ℕ) → (leaf_answer n).number ≡ 0 → (o₁ : List ℕ) → (leaf_print n o₁).answer.number ≡ 0
+        → lines_in (leaf_print n o₁) ≡ block s (leaf_seen n)
     -- "its H lines of W columns" (01), with the margin around them (02, 1)
     pub sheet_is : Rectangle (sheet_of (input_of bs ts) o) (s.margin.top + inside_lines + s.margin.bottom) (s.margin.left + inside_columns + s.margin.right)
     -- what the leaf printer writes has the lines and columns that the block covers

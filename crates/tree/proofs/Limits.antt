@@ -159,7 +159,8 @@ module _ (P : Bool) where
       (rw (ne_eqb (get_or s 0 0) 1 (λ z. omega (arith, k.1)), eq-eqb _ _ k.1, k.2, opened)
       (range_out a b c e (3 + length_at s) n (is_range (a ∷ b ∷ c ∷ e ∷ []))))
 
-  group_out : (a : Axis) (ps : Plans) (tag z : ℕ) (v : Verdict) → axis_of (eqb tag 2) ≡ a → group_in tag z (outcomes ps v) ≡ plan_by_verdict (Plan.group a ps) z v
+  group_out : (a : Axis) (ps : Plans) (tag z : ℕ) (v : Verdict) → axis_of (eqb tag 2) ≡ a
+      → group_in tag z (outcomes ps v) ≡ plan_by_verdict (Plan.group a ps) z v
   group_out a ps tag z (bad k) e = refl
   group_out a ps tag z (good m) e = ap (λ (b : Axis). PlanOne.one (Plan.group b ps) z m) e
 

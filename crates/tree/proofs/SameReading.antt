@@ -59,7 +59,8 @@ low_tag s d n =
 -- ---- elements and sequences
 
 cell_same : (text : List ℕ) (size n : ℕ) (b : Bool)
-    → tree_read (pick b (PlanOne.one (Plan.cell text) size (n + 1)) (PlanOne.refused 3)) ≡ pick b (ReadOne.one (tree.cell text) size (n + 1)) (ReadOne.refused 3)
+    → tree_read (pick b (PlanOne.one (Plan.cell text) size (n + 1)) (PlanOne.refused 3)) ≡ pick b (ReadOne.one (tree.cell text) size (n + 1))
+    (ReadOne.refused 3)
 unfolding tree_of
 cell_same text size n true = refl
 cell_same text size n false = refl

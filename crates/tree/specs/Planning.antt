@@ -57,7 +57,8 @@ abbrev pub is_range : List ℕ → Bool
 is_range r = pick (ltb (get_or r 1 0) (get_or r 0 0)) false (pick (ltb (get_or r 3 0) (get_or r 2 0)) false (pick (ltb (get_or r 2 0) 1) false true))
 
 abbrev pub range_in : List ℕ → ℕ → ℕ → PlanOne
-range_in r size count = pick (is_range r) (PlanOne.one (Plan.range (get_or r 0 0) (get_or r 1 0) (get_or r 2 0) (get_or r 3 0)) size (count + 1)) (PlanOne.refused 17)
+range_in r size count = pick (is_range r) (PlanOne.one (Plan.range (get_or r 0 0) (get_or r 1 0) (get_or r 2 0) (get_or r 3 0)) size (count + 1))
+    (PlanOne.refused 17)
 
 abbrev pub group_in : ℕ → ℕ → PlanAll → PlanOne
 group_in tag size (PlanAll.refused k) = PlanOne.refused k

@@ -6,10 +6,10 @@ use Rattle.fold.proofs.Lists.{look_begin, look_whole, look_other, look_next, loo
 use Rattle.fold.proofs.are_cells.Goals as goal
 use Rattle.fold.proofs.are_cells.Goals.{After-length_at-used}
 
-used-at : (c : After-length_at-used)
+used_at : (c : After-length_at-used)
     → c.loop-at.at + (3 + c.length_at-used.result)
     ≤ length c.args.s.now
-used-at c =
+used_at c =
     let m = c.loop-at in
     rw c.length_at-used.ensures.value
     (look_whole _ _ _ (m.invariant c.requires) c.loop-at-test.true _ (part_to_end c.args.s.now m.at)).1
@@ -30,10 +30,10 @@ length_at-used-requires c = let m = c.loop-at in
     omega (arith, (look_whole _ _ _ (m.invariant c.requires) c.loop-at-test.true _ (part_to_end c.args.s.now m.at)).0)
 
 pub overflow_add-at : goal.overflow_add-at
-overflow_add-at c = omega (arith, used-at (goal.at.overflow_add-at c).After-length_at-used)
+overflow_add-at c = omega (arith, used_at (goal.at.overflow_add-at c).After-length_at-used)
 
 pub loop-at-smaller : goal.loop-at-smaller
-loop-at-smaller c = omega (arith, used-at (goal.at.loop-at-smaller c).After-length_at-used)
+loop-at-smaller c = omega (arith, used_at (goal.at.loop-at-smaller c).After-length_at-used)
 
 pub loop-at-preserved : goal.loop-at-preserved
 loop-at-preserved c = let m = c.loop-at in λ q.

@@ -49,5 +49,6 @@ loop-i-preserved c = let l = c.loop-i in
 
 pub returns : goal.returns
 returns c = let l = c.loop-i in
-    sym (l.invariant.4 ∙ within_end _ _ _ l.i (omega (arith, c.loop-i-test.false, l.invariant.1)) (omega (arith, c.loop-i-test.false, l.invariant.1, l.invariant.3)) (omega
+    sym (l.invariant.4 ∙ within_end _ _ _ l.i (omega (arith, c.loop-i-test.false, l.invariant.1))
+    (omega (arith, c.loop-i-test.false, l.invariant.1, l.invariant.3)) (omega
     (arith, c.loop-i-test.false, l.invariant.1, l.invariant.2)))

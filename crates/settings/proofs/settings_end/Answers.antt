@@ -22,7 +22,10 @@ pub returns-then-n-lt32 : goal.returns-then-n-lt32
 returns-then-n-lt32 c = record { value = c.least_of.ensures ∙ rw (few _ c.if-n-lt32.true); within = rw c.least_of.ensures (omega arith) }
 
 pub returns-then-input-eq17 : goal.returns-then-input-eq17
-returns-then-input-eq17 c = record { value = c.least_of-then-input-eq17.ensures ∙ rw (with _ c.if-input-eq17.true); within = rw c.least_of-then-input-eq17.ensures (omega arith) }
+returns-then-input-eq17 c = record {
+  value = c.least_of-then-input-eq17.ensures ∙ rw (with _ c.if-input-eq17.true);
+  within = rw c.least_of-then-input-eq17.ensures (omega arith);
+}
 
 pub returns : goal.returns
 returns c = record { value = rw (without _ c.if-input-eq17.false) (omega arith); within = omega arith }

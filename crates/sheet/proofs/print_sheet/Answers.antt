@@ -49,7 +49,8 @@ front c =
 
 pub returns-then-m-ne0 : goal.returns-then-m-ne0
 returns-then-m-ne0 c =
-    let both = print_refused c.refused.ensures (sheet_refused _ _ _ _ c.measure_tree-m.ensures.value c.if-m-ne0.true) in record { value = both.0; shown = both.1 }
+    let both = print_refused c.refused.ensures (sheet_refused _ _ _ _ c.measure_tree-m.ensures.value c.if-m-ne0.true) in
+    record { value = both.0; shown = both.1 }
 
 pub slice_bounds-natural_at-end : goal.slice_bounds-natural_at-end
 slice_bounds-natural_at-end c = sym (long _ _ _ c.measure_tree-m.ensures.list)
@@ -128,7 +129,8 @@ paint_leaves-requires c = let k = took (goal.at.paint_leaves-requires c).After-n
 
 pub margin_after-requires : goal.margin_after-requires
 margin_after-requires c = (
-  framed (took (goal.at.margin_after-requires c).After-natural_at) c.natural_at.ensures.value c.frame_of-f.ensures c.args.out.now (none (goal.at.margin_after-requires c).Else-number-ne0)
+  framed (took (goal.at.margin_after-requires c).After-natural_at) c.natural_at.ensures.value c.frame_of-f.ensures c.args.out.now
+      (none (goal.at.margin_after-requires c).Else-number-ne0)
       (search rules),
   c.margin_before-base.ensures.end_is,
 )

@@ -44,7 +44,8 @@ pub read_sequence-loop-at-preserved-in-Cell : goal.read_sequence-loop-at-preserv
 read_sequence-loop-at-preserved-in-Cell t c =
     let l = c.loop-at in
     let a = c.args in
-    let cell : begun_fits a.planning a.depth l.n (take (length a.s.now - l.at) (drop l.at a.s.now)) (ElementBegun.Cell c.in-Cell.used) = rw c.in-Cell.is at c.read_cell-c.ensures in
+    let cell : begun_fits a.planning a.depth l.n (take (length a.s.now - l.at) (drop l.at a.s.now)) (ElementBegun.Cell c.in-Cell.used) = rw c.in-Cell.is
+    at c.read_cell-c.ensures in
     let e = ends_in a.s.now l.at c.in-Cell.used c.loop-at-test.true cell.1 in (
       e.1,
       λ f h. element_read _ _ _ _ f l.at l.n (l.invariant.1 f h) (Step.Whole c.in-Cell.used (l.n + 1)) c.loop-at-test.true cell.0 _ _ refl e.0 e.1,

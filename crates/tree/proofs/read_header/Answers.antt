@@ -20,7 +20,8 @@ abbrev rest : List ℕ → ℕ → ℕ → ℕ → Header
 rest s d n len = pick (ltb (length s) (3 + len)) (Fault 2) (pick (both (not (eqb len 4)) (eqb (get_or s 0 0) 4)) (Fault 2)
     (pick (ltb 16 d) (Fault 5) (pick (leb 512 n) (Fault 4) (Element (get_or s 0 0) len))))
 
-front : (p : Bool) (s : List ℕ) (d n len : ℕ) → 3 ≤ length s → 1 ≤ get_or s 0 0 → get_or s 0 0 ≤ last_tag p → len ≡ length_at s → header_in p s d n ≡ rest s d n len
+front : (p : Bool) (s : List ℕ) (d n len : ℕ) → 3 ≤ length s → 1 ≤ get_or s 0 0 → get_or s 0 0 ≤ last_tag p → len ≡ length_at s
+    → header_in p s d n ≡ rest s d n len
 unfolding header_in
 front p s d n len h₁ h₂ h₃ e = simp (le-ltb _ _ h₁, le-ltb _ _ h₂, le-ltb _ _ h₃, e)
 
@@ -44,19 +45,57 @@ returns-then-tag-lt1 c = record { value = simp (le-ltb _ _ c.if-s-lt3.false, lt-
 
 pub returns-then-pick_byte-tag : goal.returns-then-pick_byte-tag
 unfolding header_in
-returns-then-pick_byte-tag c = record { value = simp (le-ltb _ _ c.if-s-lt3.false, le-ltb _ _ c.if-tag-lt1.false, lt-ltb _ _ (rw c.pick_byte.ensures at c.if-pick_byte-tag.true)); fits = tt; four = tt }
+returns-then-pick_byte-tag c = record {
+  value = simp (
+    le-ltb _ _ c.if-s-lt3.false,
+    le-ltb _ _ c.if-tag-lt1.false,
+    lt-ltb _ _ (rw c.pick_byte.ensures at c.if-pick_byte-tag.true),
+  );
+  fits = tt;
+  four = tt;
+}
 
 pub returns-then-s-len : goal.returns-then-s-len
-returns-then-s-len c = record { value = rw (front_at (goal.at.returns-then-s-len c).After-length_at-len) (simp (lt-ltb _ _ c.if-s-len.true)); fits = tt; four = tt }
+returns-then-s-len c = record {
+  value = rw (front_at (goal.at.returns-then-s-len c).After-length_at-len) (simp (lt-ltb _ _ c.if-s-len.true));
+  fits = tt;
+  four = tt;
+}
 
 pub returns-then-both : goal.returns-then-both
-returns-then-both c = record { value = rw (front_at (goal.at.returns-then-both c).After-length_at-len) (simp (le-ltb _ _ c.if-s-len.false, sym c.both.ensures ∙ c.if-both.true)); fits = tt; four = tt }
+returns-then-both c = record {
+  value = rw (front_at (goal.at.returns-then-both c).After-length_at-len)
+      (simp (le-ltb _ _ c.if-s-len.false, sym c.both.ensures ∙ c.if-both.true));
+  fits = tt;
+  four = tt;
+}
 
 pub returns-then-depth-gt16 : goal.returns-then-depth-gt16
-returns-then-depth-gt16 c = record { value = rw (front_at (goal.at.returns-then-depth-gt16 c).After-length_at-len) (simp (le-ltb _ _ c.if-s-len.false, sym c.both.ensures ∙ c.if-both.false, lt-ltb _ _ c.if-depth-gt16.true)); fits = tt; four = tt }
+returns-then-depth-gt16 c
+    = record {
+      value = rw (front_at (goal.at.returns-then-depth-gt16 c).After-length_at-len)
+          (simp (le-ltb _ _ c.if-s-len.false, sym c.both.ensures ∙ c.if-both.false, lt-ltb _ _ c.if-depth-gt16.true));
+      fits = tt;
+      four = tt;
+    }
 
 pub returns-then-count-ge512 : goal.returns-then-count-ge512
-returns-then-count-ge512 c = record { value = rw (front_at (goal.at.returns-then-count-ge512 c).After-length_at-len) (simp (le-ltb _ _ c.if-s-len.false, sym c.both.ensures ∙ c.if-both.false, le-ltb _ _ c.if-depth-gt16.false, le-leb _ _ c.if-count-ge512.true)); fits = tt; four = tt }
+returns-then-count-ge512 c
+    = record {
+      value = rw (front_at (goal.at.returns-then-count-ge512 c).After-length_at-len)
+          (simp (le-ltb _ _ c.if-s-len.false, sym c.both.ensures ∙ c.if-both.false, le-ltb _ _ c.if-depth-gt16.false, le-leb _ _ c.if-count-ge512.true));
+      fits = tt;
+      four = tt;
+    }
 
 pub returns : goal.returns
-returns c = record { value = rw (front_at (goal.at.returns c).After-length_at-len) (simp (le-ltb _ _ c.if-s-len.false, sym c.both.ensures ∙ c.if-both.false, le-ltb _ _ c.if-depth-gt16.false, lt-leb _ _ c.if-count-ge512.false)); fits = search rules; four = four_case _ _ _ _ refl refl (sym c.both.ensures ∙ c.if-both.false) }
+returns c = record {
+  value = rw (front_at (goal.at.returns c).After-length_at-len) (simp (
+    le-ltb _ _ c.if-s-len.false,
+    sym c.both.ensures ∙ c.if-both.false,
+    le-ltb _ _ c.if-depth-gt16.false,
+    lt-leb _ _ c.if-count-ge512.false,
+  ));
+  fits = search rules;
+  four = four_case _ _ _ _ refl refl (sym c.both.ensures ∙ c.if-both.false);
+}

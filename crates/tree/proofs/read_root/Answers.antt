@@ -30,10 +30,19 @@ slice_bounds-is_range-end c = omega (arith, (fits (goal.at.slice_bounds-is_range
 
 pub is_range-requires : goal.is_range-requires
 is_range-requires c = let l = c.in-Element.len in
-    part_length c.args.s.now 3 (3 + l) (omega arith) (fits (goal.at.is_range-requires c).In-Element).0 ∙ omega (arith, four (goal.at.is_range-requires c).In-Element c.if-tag-eq4.true)
+    part_length c.args.s.now 3 (3 + l) (omega arith) (fits (goal.at.is_range-requires c).In-Element).0
+    ∙ omega (arith, four (goal.at.is_range-requires c).In-Element c.if-tag-eq4.true)
 
 pub read_group-requires : goal.read_group-requires
-read_group-requires c = record { tag = _; len = _; header = front (goal.at.read_group-requires c).In-Element; no_cell = c.if-tag-eq1.false; no_range = c.if-tag-eq4.false; end_is = refl; fits = fits (goal.at.read_group-requires c).In-Element }
+read_group-requires c = record {
+  tag = _;
+  len = _;
+  header = front (goal.at.read_group-requires c).In-Element;
+  no_cell = c.if-tag-eq1.false;
+  no_range = c.if-tag-eq4.false;
+  end_is = refl;
+  fits = fits (goal.at.read_group-requires c).In-Element;
+}
 
 pub returns-in-Fault : goal.returns-in-Fault
 returns-in-Fault c = fuelled _ _ (λ g h. sym (element_fault _ g _ _ _ _ (sym c.read_header-h.ensures.value ∙ c.in-Fault.is)))
@@ -43,7 +52,9 @@ returns-then-is_text c = fuelled _ _ (λ g h. sym
     (element_cell _ g _ _ _ _ _ _ (front (goal.at.returns-then-is_text c).In-Element) c.if-tag-eq1.true (sym c.if-is_text.true ∙ c.is_text.ensures)))
 
 pub returns-else-is_text : goal.returns-else-is_text
-returns-else-is_text c = fuelled _ _ (λ g h. sym (element_cell _ g _ _ _ _ _ _ (front (goal.at.returns-else-is_text c).In-Element) c.if-tag-eq1.true (sym c.if-is_text.false ∙ c.is_text.ensures)))
+returns-else-is_text c = fuelled _ _
+    (λ g h. sym (element_cell _ g _ _ _ _ _ _ (front (goal.at.returns-else-is_text c).In-Element) c.if-tag-eq1.true (sym c.if-is_text.false
+    ∙ c.is_text.ensures)))
 
 pub returns-then-is_range : goal.returns-then-is_range
 returns-then-is_range c = fuelled _ _ (λ g h. sym

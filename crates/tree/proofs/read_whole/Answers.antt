@@ -11,7 +11,8 @@ pub returns-then-tree-lt3 : goal.returns-then-tree-lt3
 returns-then-tree-lt3 c = sym (tree_ends _ _ c.if-tree-gt32768.false (λ e. omega arith))
 
 pub returns-then-length_at-tree : goal.returns-then-length_at-tree
-returns-then-length_at-tree c = sym (tree_ends _ _ c.if-tree-gt32768.false (λ e. c.if-length_at-tree.true (ap (λ (n : ℕ). 3 + n) c.length_at.ensures.value ∙ e)))
+returns-then-length_at-tree c = sym
+    (tree_ends _ _ c.if-tree-gt32768.false (λ e. c.if-length_at-tree.true (ap (λ (n : ℕ). 3 + n) c.length_at.ensures.value ∙ e)))
 
 pub returns-in-Fault : goal.returns-in-Fault
 returns-in-Fault c = sym (tree_root _ _ _ c.if-tree-gt32768.false (ap (λ (n : ℕ). 3 + n) (sym c.length_at.ensures.value) ∙ c.if-length_at-tree.false)

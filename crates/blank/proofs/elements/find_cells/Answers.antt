@@ -6,35 +6,35 @@ use Rattle.blank.proofs.ElementPass.{part, find_begins, find_in, find_more, find
 use Rattle.blank.proofs.elements.find_cells.Goals as goal
 use Rattle.blank.proofs.elements.find_cells.Goals.{In-loop-at}
 
-in-at : (c : In-loop-at) → let s = c.args.tree.now in let m = c.loop-at in
+in_at : (c : In-loop-at) → let s = c.args.tree.now in let m = c.loop-at in
     (3 + text_at (part s m.at) ≤ length (part s m.at)) × (m.at + (3 + text_at (part s m.at)) ≤ length s) × (m.node < 512)
-in-at c = find_in _ c.requires _ _ _ (c.loop-at.invariant c.requires) c.loop-at-test.true
+in_at c = find_in _ c.requires _ _ _ (c.loop-at.invariant c.requires) c.loop-at-test.true
 
 pub loop-at-init : goal.loop-at-init
 loop-at-init c = λ q. find_begins _ q
 
 pub bounds-rest-0 : goal.bounds-rest-0
-bounds-rest-0 c = omega (arith, (in-at (goal.at.bounds-rest-0 c).In-loop-at).0)
+bounds-rest-0 c = omega (arith, (in_at (goal.at.bounds-rest-0 c).In-loop-at).0)
 
 pub bounds-cells-node : goal.bounds-cells-node
-bounds-cells-node c = (in-at (goal.at.bounds-cells-node c).In-loop-at).2
+bounds-cells-node c = (in_at (goal.at.bounds-cells-node c).In-loop-at).2
 
 pub overflow_add-at : goal.overflow_add-at
-overflow_add-at c = omega (arith, (in-at (goal.at.overflow_add-at c).In-loop-at).1, c.requires.short)
+overflow_add-at c = omega (arith, (in_at (goal.at.overflow_add-at c).In-loop-at).1, c.requires.short)
 
 pub text_length-requires : goal.text_length-requires
-text_length-requires c = omega (arith, (in-at (goal.at.text_length-requires c).In-loop-at).0)
+text_length-requires c = omega (arith, (in_at (goal.at.text_length-requires c).In-loop-at).0)
 
 pub overflow_add-at-in-loop-at : goal.overflow_add-at-in-loop-at
 overflow_add-at-in-loop-at c = omega (
   arith,
-  (in-at (goal.at.overflow_add-at-in-loop-at c).In-loop-at).1,
+  (in_at (goal.at.overflow_add-at-in-loop-at c).In-loop-at).1,
   c.requires.short,
   c.text_length.ensures,
 )
 
 pub overflow_add-node : goal.overflow_add-node
-overflow_add-node c = omega (arith, (in-at (goal.at.overflow_add-node c).In-loop-at).2)
+overflow_add-node c = omega (arith, (in_at (goal.at.overflow_add-node c).In-loop-at).2)
 
 pub loop-at-smaller : goal.loop-at-smaller
 loop-at-smaller c = omega (arith, c.loop-at-test.true)

@@ -15,16 +15,17 @@ use Rattle.paint.proofs.Ground.{body_whole, body_over}
 use Rattle.paint.proofs.body.paint_body.Goals as goal
 
 -- what the body requires, and its plan
-module _ (s : Settings) (t : List ℕ) (n z : Size) (k : BodyRows) (small : length t < 65536) (is : n ≡ leaf_size s t) (fits : Fits n z) (e : k ≡ body_rows_of s n z)
+module _ (s : Settings) (t : List ℕ) (n z : Size) (k : BodyRows) (small : length t < 65536) (is : n ≡ leaf_size s t) (fits : Fits n z)
+    (e : k ≡ body_rows_of s n z)
     (at stride len : ℕ) (room : Room at stride z.height z.width len) where
   fitting : BodyFits s t z k
   fitting = body_fits s t n z k small is fits e
 
-  above-small : at + (k.above + s.top) * stride < 18446744073709551616
-  above-small = omega (arith, (above_room s t z k fitting at stride len room).small)
+  above_small : at + (k.above + s.top) * stride < 18446744073709551616
+  above_small = omega (arith, (above_room s t z k fitting at stride len room).small)
 
-  text-there : {len' : ℕ} → len' ≡ len → Room (at + (k.above + s.top) * stride) stride k.rows (s.left + k.inner + s.right) len'
-  text-there = text_room s t z k fitting at stride len room _ refl
+  text_there : {len' : ℕ} → len' ≡ len → Room (at + (k.above + s.top) * stride) stride k.rows (s.left + k.inner + s.right) len'
+  text_there = text_room s t z k fitting at stride len room _ refl
 
 pub plan_body-plan-requires : goal.plan_body-plan-requires
 plan_body-plan-requires c = let t = c.args.text.now in
@@ -42,17 +43,21 @@ overflow_add-p c = let a = c.args in
 pub overflow_mul-p : goal.overflow_mul-p
 overflow_mul-p c = let a = c.args in
     let pre = c.requires.text_len_bound in
-    omega (arith, above-small a.s a.text.now a.natural a.size _ pre.0 pre.1 pre.2 c.plan_body-plan.ensures _ _ _ c.requires.room.0)
+    omega (arith, above_small a.s a.text.now a.natural a.size _ pre.0 pre.1 pre.2 c.plan_body-plan.ensures _ _ _ c.requires.room.0)
 
 pub overflow_add-p-then-size-under : goal.overflow_add-p-then-size-under
 overflow_add-p-then-size-under c = let a = c.args in
     let pre = c.requires.text_len_bound in
-    omega (arith, above-small a.s a.text.now a.natural a.size _ pre.0 pre.1 pre.2 c.plan_body-plan.ensures _ _ _ c.requires.room.0)
+    omega (arith, above_small a.s a.text.now a.natural a.size _ pre.0 pre.1 pre.2 c.plan_body-plan.ensures _ _ _ c.requires.room.0)
 
 pub text_lines-requires : goal.text_lines-requires
 text_lines-requires c = let a = c.args in
     let pre = c.requires.text_len_bound in
-    let f = fitting a.s a.text.now a.natural a.size _ pre.0 pre.1 pre.2 c.plan_body-plan.ensures _ _ _ c.requires.room.0 in record { text_rows = (f.text, rw f.wide pre.3); room = text-there a.s a.text.now a.natural a.size _ pre.0 pre.1 pre.2 c.plan_body-plan.ensures _ _ _ c.requires.room.0 (search rules) }
+    let f = fitting a.s a.text.now a.natural a.size _ pre.0 pre.1 pre.2 c.plan_body-plan.ensures _ _ _ c.requires.room.0 in
+    record {
+      text_rows = (f.text, rw f.wide pre.3);
+      room = text_there a.s a.text.now a.natural a.size _ pre.0 pre.1 pre.2 c.plan_body-plan.ensures _ _ _ c.requires.room.0 (search rules);
+    }
 
 pub returns-then-size-under : goal.returns-then-size-under
 returns-then-size-under c = let a = c.args in
@@ -68,7 +73,8 @@ returns-then-size-under c = let a = c.args in
 pub paint_padded-requires : goal.paint_padded-requires
 paint_padded-requires c = let a = c.args in
     let pre = c.requires.text_len_bound in
-    let f = fitting a.s a.text.now a.natural a.size _ pre.0 pre.1 pre.2 c.plan_body-plan.ensures _ _ _ c.requires.room.0 in record { text_rows = (f.text, f.wide, f.tall); room = c.requires.room.0 }
+    let f = fitting a.s a.text.now a.natural a.size _ pre.0 pre.1 pre.2 c.plan_body-plan.ensures _ _ _ c.requires.room.0 in
+    record { text_rows = (f.text, f.wide, f.tall); room = c.requires.room.0 }
 
 pub returns : goal.returns
 returns c = let a = c.args in

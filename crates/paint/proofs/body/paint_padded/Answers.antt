@@ -58,7 +58,14 @@ pub overflow_add-p : goal.overflow_add-p
 overflow_add-p c = omega (arith, (room_first _ _ (rw c.requires.text_rows.2 at c.requires.room)).small)
 
 pub padded_lines-requires : goal.padded_lines-requires
-padded_lines-requires c = record { text_rows = c.requires.text_rows.0; room = rw c.requires.text_rows.1 (room_first _ _ (room_then _ _ (rw c.requires.text_rows.2 at c.requires.room) refl (rw (above_is (goal.at.padded_lines-requires c).Joined-above-gt0, length_pasted)))) }
+padded_lines-requires c = record {
+  text_rows = c.requires.text_rows.0;
+  room = rw c.requires.text_rows.1
+      (room_first _ _ (room_then _ _ (rw c.requires.text_rows.2 at c.requires.room) refl (rw (
+        above_is (goal.at.padded_lines-requires c).Joined-above-gt0,
+        length_pasted,
+      ))));
+}
 
 pub overflow_add-s : goal.overflow_add-s
 overflow_add-s c = omega (arith, c.requires.text_rows.2, c.well_formed)
@@ -70,10 +77,18 @@ pub overflow_add-q : goal.overflow_add-q
 overflow_add-q c = omega (arith, (room_first _ _ (room_then _ _ (rw c.requires.text_rows.2 at c.requires.room) refl refl)).small)
 
 pub rows_twice-requires-then-s-plan-gt0 : goal.rows_twice-requires-then-s-plan-gt0
-rows_twice-requires-then-s-plan-gt0 c = room_then _ _ (room_then _ _ (rw c.requires.text_rows.2 at c.requires.room) refl refl) refl (rw (c.padded_lines.ensures, length_pasted, above_is (goal.at.rows_twice-requires-then-s-plan-gt0 c).Joined-above-gt0, length_pasted))
+rows_twice-requires-then-s-plan-gt0 c = room_then _ _ (room_then _ _ (rw c.requires.text_rows.2 at c.requires.room) refl refl) refl
+    (rw (c.padded_lines.ensures, length_pasted, above_is (goal.at.rows_twice-requires-then-s-plan-gt0 c).Joined-above-gt0, length_pasted))
 
 pub shape_of-out-then-s-plan-gt0 : goal.shape_of-out-then-s-plan-gt0
-shape_of-out-then-s-plan-gt0 c = rw (c.rows_twice-then-s-plan-gt0.ensures.out_is, length_pasted, c.padded_lines.ensures, length_pasted, above_is (goal.at.shape_of-out-then-s-plan-gt0 c).Joined-above-gt0, length_pasted)
+shape_of-out-then-s-plan-gt0 c = rw (
+  c.rows_twice-then-s-plan-gt0.ensures.out_is,
+  length_pasted,
+  c.padded_lines.ensures,
+  length_pasted,
+  above_is (goal.at.shape_of-out-then-s-plan-gt0 c).Joined-above-gt0,
+  length_pasted,
+)
 
 pub returns-then-s-plan-gt0 : goal.returns-then-s-plan-gt0
 unfolding body_of
@@ -93,4 +108,5 @@ returns-else-s-plan-gt0 c = let a = c.args in
     let t = map (text_line a.s a.plan.inner a.plan.widest) (lines a.text.now) in
     let n = none_below a.s a.plan a.size.width t (omega (arith, c.if-s-plan-gt0.false)) in
     then_pasted (rows_above a.s a.plan a.size.width) _ a.out.now _ _ a.at _ a.stride (a.plan.above + a.s.top)
-    (simp (length-append, length-replicate)) (record { end_is = refl; out_is = above_is (goal.at.returns-else-s-plan-gt0 c).Joined-above-gt0 }) (c.padded_lines.ensures ∙ rw n)
+    (simp (length-append, length-replicate)) (record { end_is = refl; out_is = above_is (goal.at.returns-else-s-plan-gt0 c).Joined-above-gt0 })
+    (c.padded_lines.ensures ∙ rw n)

@@ -6,8 +6,8 @@ use Rattle.paint.specs.Clauses.{Blank, SpacesUnder}
 use Rattle.paint.proofs.body.spaces_under.Goals as goal
 
 -- none, also where the body has no columns
-none-under : (s : Settings) (w : ℕ) → s.left + s.right ≤ w → SpacesUnder s w 0
-none-under s w h = record {
+none_under : (s : Settings) (w : ℕ) → s.left + s.right ≤ w → SpacesUnder s w 0
+none_under s w h = record {
   within = omega arith;
   none = λ j. refl;
   all = λ j.
@@ -28,7 +28,7 @@ pub returns-then-width-le-NARROW : goal.returns-then-width-le-NARROW
 returns-then-width-le-NARROW c = all_under _ _ (c.is_blank.ensures c.if-is_blank.true)
 
 pub returns-else-width-le-NARROW : goal.returns-else-width-le-NARROW
-returns-else-width-le-NARROW c = none-under _ _ c.requires
+returns-else-width-le-NARROW c = none_under _ _ c.requires
 
 pub returns-else-is_blank : goal.returns-else-is_blank
-returns-else-is_blank c = none-under _ _ c.requires
+returns-else-is_blank c = none_under _ _ c.requires

@@ -6,10 +6,10 @@ use Rattle.block.specs.Block.{edge}
 use Rattle.paint.specs.Clauses.{pasted, right_of}
 use Rattle.paint.proofs.borders.print_right.Goals as goal
 
-pasted-empty : (n : ℕ) (o : List ℕ) (at stride : ℕ) → pasted o at stride (replicate n []) ≡ o
+pasted_empty : (n : ℕ) (o : List ℕ) (at stride : ℕ) → pasted o at stride (replicate n []) ≡ o
 unfolding pasted
-pasted-empty zero o at stride = refl
-pasted-empty (suc n) o at stride = pasted-empty n o (at + stride) stride
+pasted_empty zero o at stride = refl
+pasted_empty (suc n) o at stride = pasted_empty n o (at + stride) stride
 
 pub stack-requires : goal.stack-requires
 stack-requires c = rw c.if-b.true at c.requires
@@ -20,4 +20,4 @@ returns-then-b c = rw c.if-b.true c.stack.ensures.out_is
 
 pub returns-else-b : goal.returns-else-b
 unfolding right_of edge
-returns-else-b c = rw c.if-b.false (sym (pasted-empty c.args.n _ _ _))
+returns-else-b c = rw c.if-b.false (sym (pasted_empty c.args.n _ _ _))

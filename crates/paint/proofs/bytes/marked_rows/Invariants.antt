@@ -10,7 +10,8 @@ use Rattle.paint.proofs.bytes.marked_rows.Given as goal
 abbrev pub invariant-loop-p : goal.invariant-loop-p
 invariant-loop-p l =
     (l.end ≡ l.at + l.n * l.stride)
-    × RowsLeft (pasted l.initial.out l.at l.stride (replicate l.n (l.mark ∷ replicate l.w 32))) (length l.initial.out) (l.at + l.n * l.stride) l.out l.p l.stride (1 + l.w) (l.mark ∷ replicate l.w 32)
+    × RowsLeft (pasted l.initial.out l.at l.stride (replicate l.n (l.mark ∷ replicate l.w 32))) (length l.initial.out) (l.at + l.n * l.stride) l.out l.p
+    l.stride (1 + l.w) (l.mark ∷ replicate l.w 32)
 
 abbrev pub decreases-loop-p : goal.decreases-loop-p
 decreases-loop-p l = l.end - l.p

@@ -7,8 +7,8 @@ use lib.Seq.{sets}
 use Rattle.paint.specs.Clauses.{four_bytes}
 use Rattle.paint.proofs.bytes.put_four.Goals as goal
 
-four-stores : (o : List ℕ) (at a b c d : ℕ) → set (set (set (set o at a) (at + 1) b) (at + 2) c) (at + 3) d ≡ sets o at (a ∷ b ∷ c ∷ d ∷ [])
-four-stores o at a b c d =
+four_stores : (o : List ℕ) (at a b c d : ℕ) → set (set (set (set o at a) (at + 1) b) (at + 2) c) (at + 3) d ≡ sets o at (a ∷ b ∷ c ∷ d ∷ [])
+four_stores o at a b c d =
     let e₁ : at + 1 ≡ suc at = omega arith in
     let e₂ : at + 2 ≡ suc (suc at) = omega arith in
     let e₃ : at + 3 ≡ suc (suc (suc at)) = omega arith in
@@ -25,4 +25,4 @@ bounds-out-at-4 c = simp length-set (omega arith)
 
 pub returns : goal.returns
 unfolding four_bytes
-returns c = let a = c.args in four-stores a.out.now a.at a.x.a a.x.b a.x.c a.x.d
+returns c = let a = c.args in four_stores a.out.now a.at a.x.a a.x.b a.x.c a.x.d

@@ -8,7 +8,8 @@ use Rattle.paint.proofs.bytes.stack.Given as goal
 -- the lines still to come make the whole
 abbrev pub invariant-loop-i : goal.invariant-loop-i
 invariant-loop-i l =
-    (l.i ≤ l.n) × LinesLeft (pasted l.initial.out l.at l.stride (replicate l.n (l.byte ∷ []))) (length l.initial.out) (l.at + l.n * l.stride) l.out l.p l.stride 1 (replicate (l.n - l.i) (l.byte ∷ []))
+    (l.i ≤ l.n) × LinesLeft (pasted l.initial.out l.at l.stride (replicate l.n (l.byte ∷ []))) (length l.initial.out) (l.at + l.n * l.stride) l.out l.p
+    l.stride 1 (replicate (l.n - l.i) (l.byte ∷ []))
 
 abbrev pub decreases-loop-i : goal.decreases-loop-i
 decreases-loop-i l = l.n - l.i

@@ -10,4 +10,8 @@ indent_start-requires c = let a = c.args in
 
 pub returns : goal.returns
 unfolding indent
-returns c = let a = c.args in record { value = rw (c.indent_start.ensures.value, c.pick_number-w.ensures); within = omega (arith, c.indent_start.ensures.within, c.pick_number-w.ensures, mode_le a.s.line_mode (length a.line.now) a.widest (omega arith)) }
+returns c = let a = c.args in
+    record {
+      value = rw (c.indent_start.ensures.value, c.pick_number-w.ensures);
+      within = omega (arith, c.indent_start.ensures.within, c.pick_number-w.ensures, mode_le a.s.line_mode (length a.line.now) a.widest (omega arith));
+    }

@@ -22,7 +22,8 @@ unfolding lines_from
 loop-more-init c = let a = c.args in
     let t = a.text.now in (
       all_to_come _ t c.requires.text_rows,
-      left_start _ _ _ _ _ _ (length-map (lines t) (text_line a.s a.plan.inner a.plan.widest) ∙ lines_height t ∙ sym c.requires.text_rows.rows_is) c.requires.room,
+      left_start _ _ _ _ _ _ (length-map (lines t) (text_line a.s a.plan.inner a.plan.widest) ∙ lines_height t ∙ sym c.requires.text_rows.rows_is)
+          c.requires.room,
     )
 
 pub end_of_long-end-requires : goal.end_of_long-end-requires

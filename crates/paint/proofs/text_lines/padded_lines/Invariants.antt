@@ -13,7 +13,8 @@ use Rattle.paint.proofs.text_lines.padded_lines.Given as goal
 abbrev pub invariant-loop-more : goal.invariant-loop-more
 invariant-loop-more l =
     ToCome l.text l.from l.more l.plan.widest
-    × LinesLeft (pasted l.initial.out l.at l.stride (map (text_line l.s l.plan.inner l.plan.widest) (lines l.text))) (length l.initial.out) (l.at + l.plan.rows * l.stride) l.out l.p l.stride
+    × LinesLeft (pasted l.initial.out l.at l.stride (map (text_line l.s l.plan.inner l.plan.widest) (lines l.text))) (length l.initial.out)
+    (l.at + l.plan.rows * l.stride) l.out l.p l.stride
     (l.s.left + l.plan.inner + l.s.right) (map (text_line l.s l.plan.inner l.plan.widest) (lines_from l.from l.text))
 
 abbrev pub decreases-loop-more : goal.decreases-loop-more

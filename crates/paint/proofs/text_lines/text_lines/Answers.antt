@@ -59,7 +59,12 @@ loop-more-preserved c = let a = c.args in
     let q : k.p + a.stride - a.s.left ≡ k.p - a.s.left + a.stride = omega (arith, k.invariant.1) in (
       after_next k.invariant.0 (omega arith) _ c.end_of_line-end.ensures,
       omega (arith, k.invariant.1),
-      rw (c.text_line.ensures.out_after, p, q) (still_step (rw (next_is k.invariant.0 (omega arith) _ c.end_of_line-end.ensures) at k.invariant.2) (k.p - a.s.left + (a.s.left + i)) (omega (arith, c.text_line.ensures.within))
+      rw (
+        c.text_line.ensures.out_after,
+        p,
+        q,
+      ) (still_step (rw (next_is k.invariant.0 (omega arith) _ c.end_of_line-end.ensures) at k.invariant.2) (k.p - a.s.left + (a.s.left + i))
+          (omega (arith, c.text_line.ensures.within))
           (λ b. line_over a.s a.plan.inner a.plan.widest l b (k.p - a.s.left) c.text_line.ensures.within)),
     )
 

@@ -6,7 +6,8 @@ use Rattle.tree.proofs.Fronts.{front_asks}
 use Rattle.tree.proofs.Passing.{Some, More, turn, over, InsideNext, inside_at, next_is}
 use Rattle.sizes.specs.declared.Size.{Size}
 use Rattle.sizes.specs.Clauses.{ReadyTrees, Allots, put_size, group_of, child_of, natural_at}
-use Rattle.sizes.proofs.Allotted.{Turn, Kid, room, begins, kid_ready, child_low, has_part, index_low, next, ends, text_shorter, store_asks, leaf_gives, group_ready, group_gives}
+use Rattle.sizes.proofs.Allotted.{Turn, Kid, room, begins, kid_ready, child_low, has_part, index_low, next, ends, text_shorter, store_asks, leaf_gives}
+use Rattle.sizes.proofs.Allotted.{group_ready, group_gives}
 use Rattle.sizes.proofs.allot.+allot_group.Goals as goal
 use Rattle.sizes.proofs.allot.+allot_group.Goals.{In-loop-at}
 

@@ -19,4 +19,8 @@ overflow_sub-spare c = rw (
 ) (spare_fits _ _ _ _ _ _ c.requires)
 
 pub returns : goal.returns
-returns c = record { value = λ q. group_opened _ _ _ _ _ _ q _ _ _ (rw (c.along-2.ensures, c.along.ensures, c.natural_at-natural.ensures.value)) (c.count_sharers-n.ensures (record { trees = q.trees; are = q.are })) c.priority_of-q.ensures; stored = c.store_allotted.ensures }
+returns c = record {
+  value = λ q. group_opened _ _ _ _ _ _ q _ _ _ (rw (c.along-2.ensures, c.along.ensures, c.natural_at-natural.ensures.value))
+      (c.count_sharers-n.ensures (record { trees = q.trees; are = q.are })) c.priority_of-q.ensures;
+  stored = c.store_allotted.ensures;
+}

@@ -11,4 +11,8 @@ pub share_of-requires : goal.share_of-requires
 share_of-requires c = c.requires.there c.if-g-eq0.false
 
 pub returns : goal.returns
-returns c = let g = c.args.g in record { value = c.share_of.ensures ∙ rw (ne_eqb _ _ c.if-g-eq0.false); low = rw c.share_of.ensures (share_low g.spare g.children g.priority c.args.i (c.requires.there c.if-g-eq0.false)) }
+returns c = let g = c.args.g in
+    record {
+      value = c.share_of.ensures ∙ rw (ne_eqb _ _ c.if-g-eq0.false);
+      low = rw c.share_of.ensures (share_low g.spare g.children g.priority c.args.i (c.requires.there c.if-g-eq0.false));
+    }

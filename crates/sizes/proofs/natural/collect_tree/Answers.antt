@@ -41,4 +41,5 @@ collect_group-requires c = group_ready _ _ c.around_of-a.ensures _ _ (root_kid c
 pub returns : goal.returns
 returns c = λ q.
     let h = c.if-t.false in
-    group_gives _ _ c.around_of-a.ensures _ _ (root_kid q) _ c.read_front-t.ensures _ refl h _ _ _ (c.collect_group.ensures (group_ready _ _ c.around_of-a.ensures _ _ (root_kid q) _ c.read_front-t.ensures _ refl h))
+    group_gives _ _ c.around_of-a.ensures _ _ (root_kid q) _ c.read_front-t.ensures _ refl h _ _ _
+    (c.collect_group.ensures (group_ready _ _ c.around_of-a.ensures _ _ (root_kid q) _ c.read_front-t.ensures _ refl h))
