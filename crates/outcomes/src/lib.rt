@@ -2,4 +2,3 @@
 // specs/Figures.antt.
 // This crate has no code.
 #![tactic(auto)]
-
