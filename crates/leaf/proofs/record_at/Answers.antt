@@ -9,7 +9,7 @@ entry_at-e-requires c = omega (arith, long c.requires.begins)
 pub list_at-h-requires : goal.list_at-h-requires
 list_at-h-requires c = (
   omega (arith, in_entry c.requires.begins _ c.entry_at-e.ensures),
-  few c.requires.begins _ c.entry_at-e.ensures,
+  omega (arith, few c.requires.begins _ c.entry_at-e.ensures, few_v c.requires.begins _ c.entry_at-e.ensures),
 )
 
 pub overflow_add-e : goal.overflow_add-e
