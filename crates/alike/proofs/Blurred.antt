@@ -169,10 +169,12 @@ module _ (f : ℕ) (ih : Blurs f) (p q : List ℕ) (e : blurred (suc f) p ≡ bl
               let n = clean_group f q v d t' u' in
               let g = group_tag (get_or p 0 0) u in
               pairs.group g.axis front g.is (ih (contents p) (contents q) x m.0 n.0) (ih (after_element p) (after_element q) y m.1 n.1)
-          by false false t u t' u' front x y = pairs.kept front x (ih (after_element p) (after_element q) y (clean_other f p w c t u) (clean_other f q v d t' u'))
+          by false false t u t' u' front x y = pairs.kept front x
+              (ih (after_element p) (after_element q) y (clean_other f p w c t u) (clean_other f q v d t' u'))
 
       go : (w : Bool) → whole? p ≡ w → AlikeBytes p q
-      go true w = whole_step w (sym wholes ∙ w) (eqb (get_or p 0 0) 1) (group? (get_or p 0 0)) refl refl (ap (λ (n : ℕ). eqb n 1) (sym tags)) (ap group? (sym tags))
+      go true w = whole_step w (sym wholes ∙ w) (eqb (get_or p 0 0) 1) (group? (get_or p 0 0)) refl refl (ap (λ (n : ℕ). eqb n 1) (sym tags))
+          (ap group? (sym tags))
       go false w = let k : p ≡ q = sym (stays f p w) ∙ e ∙ stays f q (sym wholes ∙ w) in rw (← k) (pairs.same p)
 
 pub blurred_alike : (f : ℕ) (p q : List ℕ) → blurred f p ≡ blurred f q → Clean f p → Clean f q → AlikeBytes p q

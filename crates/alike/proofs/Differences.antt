@@ -129,7 +129,8 @@ apart_under a {k} u v c = record {
 }
   where
     below : (z : List (List ℕ)) (i j o : ℕ) → i ≡ k + o → byte_at (a ++ z) i j ≡ byte_at z o j
-    below z i j o e = let q : i ≡ length a + o = omega arith in ap (λ m. get_or (get_or (a ++ z) m []) j 0) q ∙ ap (λ l. get_or l j 0) (get_or-append-add a z o [])
+    below z i j o e = let q : i ≡ length a + o = omega arith in ap (λ m. get_or (get_or (a ++ z) m []) j 0) q
+        ∙ ap (λ l. get_or l j 0) (get_or-append-add a z o [])
 
     above : (z : List (List ℕ)) (i j : ℕ) → i < length a → byte_at (a ++ z) i j ≡ byte_at a i j
     above z i j h = ap (λ l. get_or l j 0) (get_or-append a z [] i h)
@@ -215,7 +216,8 @@ pub record Joined (w : ℕ) (x y : List (List ℕ)) (i : ℕ) : Type 0 where
   pub is : i ≡ line * (w + 1) + column
   pub differ : Differ x y line column
 
-pub joined_shown : {x y : List (List ℕ)} {h w : ℕ} → Dims x h w → Dims y h w → (i : ℕ) → Joined w x y i → get_or (join_lines x) i 0 ≡ get_or (join_lines y) i 0 → ⊥
+pub joined_shown : {x y : List (List ℕ)} {h w : ℕ} → Dims x h w → Dims y h w → (i : ℕ) → Joined w x y i
+    → get_or (join_lines x) i 0 ≡ get_or (join_lines y) i 0 → ⊥
 joined_shown {x} {y} {h} {w} c d i p e =
     let l = differ_line c d p.line p.column p.differ in
     let k = differ_column c d p.line p.column p.differ in
@@ -226,7 +228,8 @@ joined_next : (w : ℕ) {x y : List (List ℕ)} (l m : List ℕ) (i k : ℕ) →
 unfolding byte_at
 joined_next w l m i k e r = record { line = suc r.line; column = r.column; is = omega (arith, r.is); differ = r.differ }
 
-pub joined_found : (x y : List (List ℕ)) {h w : ℕ} → Dims x h w → Dims y h w → (i : ℕ) → (get_or (join_lines x) i 0 ≡ get_or (join_lines y) i 0 → ⊥) → Joined w x y i
+pub joined_found : (x y : List (List ℕ)) {h w : ℕ} → Dims x h w → Dims y h w → (i : ℕ) → (get_or (join_lines x) i 0 ≡ get_or (join_lines y) i 0 → ⊥)
+    → Joined w x y i
 unfolding join_lines byte_at
 joined_found [] [] c d i n = absurd (n refl)
 joined_found [] (m ∷ y) c d i n = absurd (omega (arith, c.lines, d.lines))

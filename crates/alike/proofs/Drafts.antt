@@ -12,7 +12,8 @@ use Rattle.common.specs.Choice.{pick}
 use Rattle.common.specs.Outcome.{Outcome}
 use Rattle.tree.specs.Reading.{ReadOne, read_tree}
 use Rattle.tree.specs.Accepted.{element}
-use Rattle.drafts.specs.Store.{is_name, tag_for, tag_in, has_tag, fields_of, field_bytes, store_of, without_tag, draft_of, save_tree, save_in, save_of, forget_of, no_return}
+use Rattle.drafts.specs.Store.{is_name, tag_for, tag_in, has_tag, fields_of, field_bytes, store_of, without_tag, draft_of, save_tree, save_in, save_of}
+use Rattle.drafts.specs.Store.{forget_of, no_return}
 use Rattle.drafts.specs.Store.{return_found, return_in, return_of}
 use Rattle.drafts.specs.declared.Returned.{Returned}
 use Rattle.drafts.specs.Promises.{DraftCall, answer_to, store_after, Fields, Formed}
@@ -71,7 +72,8 @@ unfolding draft_of
 same_found n pairs.none = no_draft
 same_found n (pairs.more {f} {g} {fs} {gs} x k) = rw x.tag (go (eqb (tag_in g) n) (same_found n k))
   where
-    go : (c : Bool) → SameFound (draft_of n fs) (draft_of n gs) → SameFound (pick c (some (drop 3 f)) (draft_of n fs)) (pick c (some (drop 3 g)) (draft_of n gs))
+    go : (c : Bool) → SameFound (draft_of n fs) (draft_of n gs)
+        → SameFound (pick c (some (drop 3 f)) (draft_of n fs)) (pick c (some (drop 3 g)) (draft_of n gs))
     go true ih = a_draft x.draft
     go false ih = ih
 
@@ -231,4 +233,5 @@ call_alike a (pairs.both_return n out other e) = record { number = ap (λ (k : R
 pub series_alike : {o r : List ℕ} → AlikeStores o r → {cs ds : List DraftCall} → SameCalls cs ds → AlikeStores (store_after o cs) (store_after r ds)
 unfolding store_after
 series_alike a pairs.no_calls = a
-series_alike a (pairs.more_calls x k) = series_alike (call_alike a x).stores k
+series_alike {o = o} {r = r} a (pairs.more_calls {c = c} {d = d} {cs = cs} {ds = ds} x k) =
+    series_alike {o = (answer_to o c).memory} {r = (answer_to r d).memory} (call_alike a x).stores {cs = cs} {ds = ds} k

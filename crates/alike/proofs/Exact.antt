@@ -23,7 +23,8 @@ use Rattle.alike.proofs.Sheets.{sheet_recast, leaf_recast}
 
 -- ---- no mark and no fill is 1: marks are hex 20 to 7E, or all 0
 
-pub no_one : (n least greatest : ℕ) (l : List ℕ) → Bounded n least greatest l → ((b : ℕ) → least ≤ b → b ≤ greatest → b ≡ 1 → ⊥) → (i : ℕ) → get_or l i 0 ≡ 1 → ⊥
+pub no_one : (n least greatest : ℕ) (l : List ℕ) → Bounded n least greatest l → ((b : ℕ) → least ≤ b → b ≤ greatest → b ≡ 1 → ⊥) → (i : ℕ) → get_or l i 0 ≡ 1
+    → ⊥
 no_one n least greatest l b h i e = go (ltb i n) refl
   where
     go : (c : Bool) → ltb i n ≡ c → ⊥

@@ -13,7 +13,8 @@ use Rattle.tree.specs.Tree.{Axis, across, down}
 use Rattle.tree.specs.Bytes.{length_at, tag_of, axis_of}
 use Rattle.tree.specs.Promises.{contents}
 use Rattle.tree.specs.Reading.{is_text}
-use Rattle.tree.specs.Planning.{Plan, Plans, PlanOne, PlanAll, last_tag, header_in, is_range, cell_in, range_in, group_in, more_in, element_in, sequence_in, whole_in}
+use Rattle.tree.specs.Planning.{Plan, Plans, PlanOne, PlanAll, last_tag, header_in, is_range, cell_in, range_in, group_in, more_in, element_in, sequence_in}
+use Rattle.tree.specs.Planning.{whole_in}
 use Rattle.tree.proofs.Limits.{opened, by_front, followed, by_first}
 use Rattle.text.specs.Text.{line_lengths}
 use Rattle.blank.specs.Alike.{covered}
@@ -81,7 +82,8 @@ cells_same x y z n e k = rw k (go (is_text y))
 ranges_same : (r : List ℕ) (z n : ℕ) → SameOne z (range_in r z n) (range_in r z n)
 ranges_same r z n = go (is_range r)
   where
-    go : (c : Bool) → SameOne z (pick c (PlanOne.one (Plan.range (get_or r 0 0) (get_or r 1 0) (get_or r 2 0) (get_or r 3 0)) z (n + 1)) (PlanOne.refused 17)) (pick c
+    go : (c : Bool) → SameOne z (pick c (PlanOne.one (Plan.range (get_or r 0 0) (get_or r 1 0) (get_or r 2 0) (get_or r 3 0)) z (n + 1)) (PlanOne.refused 17))
+        (pick c
         (PlanOne.one (Plan.range (get_or r 0 0) (get_or r 1 0) (get_or r 2 0) (get_or r 3 0)) z (n + 1)) (PlanOne.refused 17))
     go true = both_read _ _ (n + 1) refl
     go false = both_refused 17
@@ -144,7 +146,8 @@ module _ (P : Bool) where
         (front_opens (length s) (get_or s 0 0) (length_at s) o)
 
   abbrev Elements : ℕ → Type 0
-  Elements f = (d n : ℕ) (s r : List ℕ) → length r ≡ length s → SameFront s r → Met s r → SameOne (3 + length_at s) (element_in P f d n s) (element_in P f d n r)
+  Elements f = (d n : ℕ) (s r : List ℕ) → length r ≡ length s → SameFront s r → Met s r
+      → SameOne (3 + length_at s) (element_in P f d n s) (element_in P f d n r)
 
   abbrev Sequences : ℕ → Type 0
   Sequences f = (d n : ℕ) (p q : List ℕ) → AlikeBytes p q → SameAll (sequence_in P f d n p) (sequence_in P f d n q)
@@ -191,11 +194,13 @@ module _ (P : Bool) where
       c : length_at r ≡ length_at s
       c = sym t.long
 
-      go : Met s r → SameOne (3 + length_at s) (opened P f d n s (Element (get_or s 0 0) (length_at s))) (opened P f d n r (Element (get_or s 0 0) (length_at s)))
+      go : Met s r → SameOne (3 + length_at s) (opened P f d n s (Element (get_or s 0 0) (length_at s)))
+          (opened P f d n r (Element (get_or s 0 0) (length_at s)))
       go (met_kept e) = kept_opens f d n (get_or s 0 0) (length_at s) s r (sym (rw c at e))
       go (met_cell h e x) = cell_opens f d n (get_or s 0 0) (length_at s) s r h (rw c at e) (rw c at x)
       go (met_group b h k) =
-          group_opens f d n b (get_or s 0 0) (length_at s) s r h (ih (d + 1) (n + 1) (take (length_at s) (drop 3 s)) (take (length_at s) (drop 3 r)) (rw c at k))
+          group_opens f d n b (get_or s 0 0) (length_at s) s r h
+              (ih (d + 1) (n + 1) (take (length_at s) (drop 3 s)) (take (length_at s) (drop 3 r)) (rw c at k))
 
   -- ---- a sequence
 

@@ -1,6 +1,6 @@
 -- The answers of the calls on sizes, places, folds, plans and letters for a tree whose texts are replaced byte for byte, with the same line feeds.
 use mathlib.Core.Path.{◌≡◌, refl, ap, ap₂}
-use Prim.Native.Nat.{ℕ, suc, ◌+◌}
+use Prim.Native.Nat.{ℕ, suc}
 use mathlib.Core.Bool.{Bool}
 use mathlib.Core.List.{List, ◌∷◌, ◌++◌}
 use lib.Dec.{eqb}

@@ -8,6 +8,7 @@ use lib.Seq.{get_or-append-add}
 use Rattle.common.specs.Choice.{pick}
 use Rattle.common.proofs.Every.{every_at, every_elem}
 use Rattle.common.proofs.Elems.{map_at}
+use Rattle.splits.specs.Splits.{named}
 use Rattle.settings.specs.declared.Settings.{Settings}
 use Rattle.tree.specs.Tree.{Tree}
 use Rattle.text.specs.Text.{lines, text_width, text_height}
@@ -15,7 +16,7 @@ use Rattle.text.proofs.Measured.{lines_width, lines_height}
 use Rattle.sizes.specs.declared.Size.{Size}
 use Rattle.sizes.specs.Sizes.{sep, leaf_size}
 use Rattle.sizes.specs.Clauses.{Fits}
-use Rattle.block.specs.Block.{Leaf, slack_before, indent, text_line, body, top_line, middle, block, block_height, block_width}
+use Rattle.block.specs.Block.{Leaf, mark, edge, slack_before, indent, text_line, body, top_line, middle, block, block_height, block_width}
 use Rattle.block.specs.Promises.{byte_at}
 use Rattle.block.proofs.Dimensions.{byte_left, byte_right}
 use Rattle.block.proofs.TextLine.{before_le, mode_le}
@@ -48,7 +49,8 @@ module _ (s : Settings) (l : Leaf) (fits : Fits (leaf_size s l.text) l.size) whe
   abbrev inner : ℕ
   inner = z.width - s.left - s.right
 
-  text_at : (x : List ℕ) (k c : ℕ) → k < length x → c ≡ s.left + indent s inner (text_width t) x + k → get_or (text_line s inner (text_width t) x) c 0 ≡ get_or x k 0
+  text_at : (x : List ℕ) (k c : ℕ) → k < length x → c ≡ s.left + indent s inner (text_width t) x + k
+      → get_or (text_line s inner (text_width t) x) c 0 ≡ get_or x k 0
   unfolding text_line
   text_at x k c h e =
       let i = indent s inner (text_width t) x in
@@ -69,7 +71,8 @@ module _ (s : Settings) (l : Leaf) (fits : Fits (leaf_size s l.text) l.size) whe
 
   middle_at : (i c : ℕ) → i < z.height → c < z.width → byte_at (middle s l) i (sep s + c) ≡ byte_at (body s t z) i c
   unfolding middle
-  middle_at i c p q = byte_right _ i c (left_dims (sep s) _ _ _ z.height) p ∙ byte_left _ i c (body_dims s t z fits) p q
+  middle_at i c p q = byte_right _ i c (left_dims (sep s) (named z.height l.vertical) (mark s 13) (mark s 2) z.height) p
+      ∙ byte_left (replicate z.height (edge (sep s) l.flags.last_col (mark s 3))) i c (body_dims s t z fits) p q
 
   block_at : (i c : ℕ) → i < z.height → byte_at (block s l) (sep s + i) c ≡ byte_at (middle s l) i c
   unfolding block byte_at

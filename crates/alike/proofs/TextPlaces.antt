@@ -8,6 +8,7 @@ use lib.ListN.{length, get_or, replicate, length-append, length-replicate, lengt
 use lib.Dec.{eqb}
 use Rattle.common.specs.Choice.{pick}
 use Rattle.common.proofs.Elems.{map_at}
+use Rattle.splits.specs.Splits.{named}
 use Rattle.settings.specs.declared.Settings.{Settings}
 use Rattle.text.specs.Text.{lines, text_width, text_height}
 use Rattle.text.proofs.JoinedLines.{Free, NoFeed, none, more, no_feed_lines}
@@ -61,7 +62,8 @@ module _ (s : Settings) (f g : ℕ → ℕ) (two : (b : ℕ) → b ≢ 10 → f 
       (λ e. n (ap (λ x. get_or x j 0) (line_is f l) ∙ e ∙ sym (ap (λ x. get_or x j 0) (line_is g l)))) in
       record { byte = p.at; within = omega (arith, p.within, length-map l f); is = omega (arith, p.is, ahead_length l) }
 
-  line_shown : {l : List ℕ} → Free l → (j : ℕ) → InLine l j → get_or (text_line s inner widest (map f l)) j 0 ≡ get_or (text_line s inner widest (map g l)) j 0 → ⊥
+  line_shown : {l : List ℕ} → Free l → (j : ℕ) → InLine l j
+      → get_or (text_line s inner widest (map f l)) j 0 ≡ get_or (text_line s inner widest (map g l)) j 0 → ⊥
   line_shown {l} k j p e =
       part_shown (ahead l) (map f l) (map g l) (after l) (same_length l) j
       (record {
@@ -152,10 +154,13 @@ module _ (s : Settings) (f g : ℕ → ℕ) (keep : (b : ℕ) → eqb (f b) 10 �
   unfolding middle
   middle_apart =
       let r = edges_dims z.height (sep s) l.flags.last_col (mark s 3) in
-      apart_move (apart_through (apart_right (left_dims (sep s) _ _ _ z.height) (dims_paired (body_lines f keep) r) (dims_paired (body_lines g keep') r))
+      apart_move (apart_through
+          (apart_right (left_dims (sep s) (named z.height l.vertical) (mark s 13) (mark s 2) z.height) (dims_paired (body_lines f keep) r)
+          (dims_paired (body_lines g keep') r))
       (apart_left (body_lines f keep) (body_lines g keep') r)) (omega arith) (omega arith)
 
-  block_apart : Apart (block s (with_text (map f) l)) (block s (with_text (map g) l)) (sep s) 0 (middle s (with_text (map f) l)) (middle s (with_text (map g) l))
+  block_apart : Apart (block s (with_text (map f) l)) (block s (with_text (map g) l)) (sep s) 0 (middle s (with_text (map f) l))
+      (middle s (with_text (map g) l))
   unfolding block top_line bottom_line
   block_apart =
       apart_move

@@ -49,7 +49,8 @@ module _ (p : List ℕ) (t : Tree) (z n : ℕ) (e : read_tree p ≡ ReadOne.one 
       record { is = k.is; ends = k.ends; texts = k.texts }
 
 -- two accepted trees that are alike, as they are typed
-pub read_typed_alike : (p q : List ℕ) (t u : Tree) (z n y m : ℕ) → read_tree p ≡ ReadOne.one t z n → read_tree q ≡ ReadOne.one u y m → Alike t u → (o r : List ℕ)
+pub read_typed_alike : (p q : List ℕ) (t u : Tree) (z n y m : ℕ) → read_tree p ≡ ReadOne.one t z n → read_tree q ≡ ReadOne.one u y m → Alike t u
+    → (o r : List ℕ)
     → length o ≡ length r
     → BothType AlikeBytes o r (typed_of (type_of t) o) (typed_of (type_of u) r)
 read_typed_alike p q t u z n y m e d h o r l =
@@ -79,4 +80,5 @@ module _ {x y : List ℕ} (a : PrintsTyped x) (b : PrintsTyped y) (h : Alike a.r
   typed_sheet_lent o r f g =
       let k : length (typed_program_of y) ≡ length (typed_program_of x) = sym typed_sheet_alike in
       rw (put_front (typed_program_of x) o f, put_front (typed_program_of y) r (omega arith), k)
-      (lent_front (Agree (SheetOwn (given defaults a.root))) o r (length (typed_program_of x)) (typed_program_of x) (typed_program_of y) refl k typed_sheet_agrees)
+      (lent_front (Agree (SheetOwn (given defaults a.root))) o r (length (typed_program_of x)) (typed_program_of x) (typed_program_of y) refl k
+          typed_sheet_agrees)

@@ -9,7 +9,8 @@ use Rattle.settings.specs.declared.Settings.{Settings}
 use Rattle.tree.specs.Tree.{Axis, across, down, Tree, Trees, cell, group, none, more, empty?, count, nodes}
 use Rattle.splits.specs.Splits.{short_splits3}
 use Rattle.sizes.specs.Sizes.{sep, allot, spare_of}
-use Rattle.layout.specs.Walk.{Context, Placed, leaf_of, Walked, along_list, beside_list, leaf_walked, child, lay, join_walked, none_walked, walk, children, root}
+use Rattle.layout.specs.Walk.{Context, Placed, leaf_of, Walked, along_list, beside_list, leaf_walked, child, lay, join_walked, none_walked, walk, children}
+use Rattle.layout.specs.Walk.{root}
 use Rattle.layout.specs.Walk.{leaves}
 use Rattle.blank.specs.Alike.{recast, recast*}
 use Rattle.alike.proofs.ReplacedBytes.{empty_recast, count_recast, nodes_recast, allot_recast, spare_recast, natural_recast}

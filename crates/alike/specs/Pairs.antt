@@ -38,7 +38,8 @@ pub data AlikeBytes : List ℕ → List ℕ → Type 0 where
   kept : {s r : List ℕ} → SameFront s r → contents s ≡ contents r → AlikeBytes (after_element s) (after_element r) → AlikeBytes s r
   cell : {s r : List ℕ} → SameFront s r → get_or s 0 0 ≡ 1 → line_lengths (contents s) ≡ line_lengths (contents r) → is_text (contents s) ≡ is_text (contents r)
       → AlikeBytes (after_element s) (after_element r) → AlikeBytes s r
-  group : {s r : List ℕ} (a : Axis) → SameFront s r → get_or s 0 0 ≡ tag_of a → AlikeBytes (contents s) (contents r) → AlikeBytes (after_element s) (after_element r)
+  group : {s r : List ℕ} (a : Axis) → SameFront s r → get_or s 0 0 ≡ tag_of a → AlikeBytes (contents s) (contents r)
+      → AlikeBytes (after_element s) (after_element r)
       → AlikeBytes s r
 
 -- ---- the bytes of two trees: they are alike as bytes (`trees_alike`)
