@@ -124,9 +124,11 @@ module _ {p q : List ℕ} (b : AlikeBytes p q) where
         × Lent Equal (pick (eqb (planned_of (plan_input settings p)).number 0) 4 0) old other (ends_after (planned_of (plan_input settings p)) old)
         (ends_after (planned_of (plan_input settings q)) other)
     leg_plan_alike old other h k =
-        let a : planned_of (plan_input settings p) ≡ planned_of (plan_input settings q) = plan_sheet_alike b settings in
-        (ap ends_word a, rw (← a)
-            (after_lent (eqb (planned_of (plan_input settings p)).number 0) (ends_numbers (planned_of (plan_input settings p))) old other h k))
+        let a : planned_of (plan_input settings p) ≡ planned_of (plan_input settings q) = plan_sheet_alike b settings in (
+          ap ends_word a,
+          rw (← a)
+              (after_lent (eqb (planned_of (plan_input settings p)).number 0) (ends_numbers (planned_of (plan_input settings p))) old other h k),
+        )
 
   pub leg_blank_alike : (ns o r : List ℕ) → length o ≡ length r
       → packed (blank_of p ns o).answer.number (blank_of p ns o).answer.count ≡ packed (blank_of q ns r).answer.number (blank_of q ns r).answer.count

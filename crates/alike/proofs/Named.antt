@@ -140,7 +140,7 @@ printed_at bytes r i v k n e = go (ltb (length r) (length bytes)) n (ltb i (leng
         { answer = record { number = 0; count = length bytes }; memory = bytes ++ drop (length bytes) r })).answer.number ≡ 0 → (d :
         Bool) → ltb i (length bytes) ≡ d
         → get_or (pick c (no_print 8 r) (record { answer = record { number = 0; count = length bytes }; memory = bytes ++ drop (length bytes) r })).memory i 0
-            ≡ v
+        ≡ v
     go true z d h = absurd (omega arith)
     go false z true h = get_or-append bytes (drop (length bytes) r) 0 i (ltb-true i (length bytes) h) ∙ e
     go false z false h = absurd (k (sym e ∙ get_or-eq_default bytes 0 (ltb-false i (length bytes) h)))
@@ -157,7 +157,7 @@ sheet_dots some s g t x r n i own =
 pub paper_dots : (tree ns o : List ℕ) → (blank_of tree ns o).answer.number ≡ 0 → (settings r : List ℕ)
     → (sheet_of (input_of settings (blank_written (blank_of tree ns o))) r).answer.number ≡ 0
     → (i : ℕ) → SheetOwnIn (dots_for ns) (input_of settings tree) i
-        → get_or (sheet_of (input_of settings (blank_written (blank_of tree ns o))) r).memory i 0 ≡ 46
+    → get_or (sheet_of (input_of settings (blank_written (blank_of tree ns o))) r).memory i 0 ≡ 46
 unfolding input_of
 paper_dots tree ns o h settings r =
     let k = paper_read tree ns o h in

@@ -114,7 +114,7 @@ module _ (s : Settings) (t u : Tree) (h : Alike t u) where
     where
       go : (c : Bool) → too_large s t ≡ c → (k : Bool)
           → get_or (pick c (no_print 6 o) (leaf_to k (leaf_bytes s t n) o)).memory i 0 ≡ get_or
-              (pick c (no_print 6 o) (leaf_to k (leaf_bytes s u n) o)).memory i 0
+          (pick c (no_print 6 o) (leaf_to k (leaf_bytes s u n) o)).memory i 0
       go true e k = refl
       go false e true = print_agree o (leaf_bytes s t n) (leaf_bytes s u n) (leaf_lengths s t u h n) i (d e)
       go false e false = refl

@@ -200,7 +200,7 @@ module _ (P : Bool) where
       go (met_cell h e x) = cell_opens f d n (get_or s 0 0) (length_at s) s r h (rw c at e) (rw c at x)
       go (met_group b h k) =
           group_opens f d n b (get_or s 0 0) (length_at s) s r h
-              (ih (d + 1) (n + 1) (take (length_at s) (drop 3 s)) (take (length_at s) (drop 3 r)) (rw c at k))
+          (ih (d + 1) (n + 1) (take (length_at s) (drop 3 s)) (take (length_at s) (drop 3 r)) (rw c at k))
 
   -- ---- a sequence
 

@@ -155,8 +155,8 @@ module _ (s : Settings) (f g : ℕ → ℕ) (keep : (b : ℕ) → eqb (f b) 10 �
   middle_apart =
       let r = edges_dims z.height (sep s) l.flags.last_col (mark s 3) in
       apart_move (apart_through
-          (apart_right (left_dims (sep s) (named z.height l.vertical) (mark s 13) (mark s 2) z.height) (dims_paired (body_lines f keep) r)
-          (dims_paired (body_lines g keep') r))
+      (apart_right (left_dims (sep s) (named z.height l.vertical) (mark s 13) (mark s 2) z.height) (dims_paired (body_lines f keep) r)
+      (dims_paired (body_lines g keep') r))
       (apart_left (body_lines f keep) (body_lines g keep') r)) (omega arith) (omega arith)
 
   block_apart : Apart (block s (with_text (map f) l)) (block s (with_text (map g) l)) (sep s) 0 (middle s (with_text (map f) l))

@@ -81,4 +81,4 @@ module _ {x y : List ℕ} (a : PrintsTyped x) (b : PrintsTyped y) (h : Alike a.r
       let k : length (typed_program_of y) ≡ length (typed_program_of x) = sym typed_sheet_alike in
       rw (put_front (typed_program_of x) o f, put_front (typed_program_of y) r (omega arith), k)
       (lent_front (Agree (SheetOwn (given defaults a.root))) o r (length (typed_program_of x)) (typed_program_of x) (typed_program_of y) refl k
-          typed_sheet_agrees)
+      typed_sheet_agrees)
