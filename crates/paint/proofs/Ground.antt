@@ -1,42 +1,85 @@
--- A body's text over spaces.
-use mathlib.Core.Path.{◌≡◌, refl, sym, ◌∙◌}
-use Prim.Native.Nat.{ℕ, zero, suc, ◌+◌, ◌-◌, ◌*◌, ◌≤◌, ◌<◌}
+-- A body's spaces and padding, and the text over them.
+use mathlib.Core.Path.{◌≡◌, refl, sym, ap, ◌∙◌}
+use Prim.Native.Nat.{ℕ, suc, ◌+◌, ◌-◌, ◌*◌, ◌≤◌, ◌<◌}
 use native.Mathlib.Omega.{arith}
 use mathlib.Core.List.{List, [], ◌∷◌, ◌++◌, map, append_assoc}
-use lib.ListN.{length, get_or, replicate, length-append, length-replicate, replicate-append-replicate}
+use lib.ListN.{length, drop, get_or, replicate, length-append, length-replicate, replicate-append-replicate}
 use lib.Seq.{sets, length-sets}
+use Rattle.common.proofs.Either.{either}
 use Rattle.common.proofs.Stores.{sets_within}
 use Rattle.settings.specs.declared.Settings.{Settings}
-use Rattle.text.specs.Text.{lines}
+use Rattle.text.specs.Clauses.{first_feed}
+use Rattle.text.specs.Text.{lines, text_height}
+use Rattle.text.proofs.Lines.{lines_from, rest_none, rest_next, line_in}
 use Rattle.text.proofs.Measured.{lines_height}
 use Rattle.sizes.specs.declared.Size.{Size}
 use Rattle.block.specs.Block.{indent, text_line, body}
-use Rattle.paint.specs.declared.text_lines.BodyRows.{BodyRows}
-use Rattle.paint.specs.Clauses.{pasted, Room, body_of, space_lines, clear, Spaces, LaidOver}
-use Rattle.paint.proofs.Pasted.{pasted_append, sets_pasted}
-use Rattle.paint.proofs.Room.{room_head, room_tail}
+use Rattle.block.proofs.Dimensions.{Dims, paired_same, dims_append, dims_lines, dims_replicate}
+use Rattle.paint.specs.declared.body.BodyRows.{BodyRows}
+use Rattle.paint.specs.Clauses.{pasted, Room, space_lines, clear, ground, ground_lines, Blank, Turned, LaidOver}
+use Rattle.paint.proofs.Pasted.{pasted_append, sets_pasted, pasted_beside, pasted_over}
+use Rattle.paint.proofs.Room.{room_head, room_next, room_tail}
 use Rattle.paint.proofs.BodyRows.{BodyFits}
 
--- ---- the spaces
+-- ---- the ground
 
--- lines of no columns write nothing
-pasted_none : (n : ℕ) (o : List ℕ) (at stride : ℕ) → pasted o at stride (space_lines n 0) ≡ o
-unfolding pasted
-pasted_none zero o at stride = refl
-pasted_none (suc n) o at stride = pasted_none n o (at + stride) stride
-
--- where the paddings are spaces, a body without its text is spaces
-ground_spaces : (s : Settings) (k : BodyRows) (w h : ℕ) → Spaces s w → s.left + k.inner + s.right ≡ w
-    → h ≡ k.above + s.top + (k.rows + (s.bottom + k.below))
-    → space_lines h w
-    ≡ (replicate k.above (replicate w 32) ++ replicate s.top (replicate w (get_or s.fills 2 0)))
-    ++ (replicate k.rows (clear s k.inner) ++ (replicate s.bottom (replicate w (get_or s.fills 3 0)) ++ replicate k.below (replicate w 32)))
+-- lines from their left padding, spaces and right padding
+pub sides_painted : (s : Settings) (inner n : ℕ) (o o₁ o₂ o₃ : List ℕ) (at stride : ℕ) → s.left + inner + s.right ≤ stride
+    → o₁ ≡ pasted o at stride (replicate n (replicate s.left (get_or s.fills 0 0)))
+    → o₂ ≡ pasted o₁ (at + s.left) stride (replicate n (replicate inner 32))
+    → o₃ ≡ pasted o₂ (at + s.left + inner) stride (replicate n (replicate s.right (get_or s.fills 1 0)))
+    → o₃ ≡ pasted o at stride (replicate n (clear s inner))
 unfolding clear
-ground_spaces s k w h b wide tall =
+sides_painted s inner n o o₁ o₂ o₃ at stride h e₁ e₂ e₃ =
+    let l : List ℕ = replicate s.left (get_or s.fills 0 0) in
+    let m : List ℕ = replicate inner 32 in
+    let r : List ℕ = replicate s.right (get_or s.fills 1 0) in
+    let p : at + s.left + inner ≡ at + (s.left + inner) = omega arith in
+    let both : o₂ ≡ pasted o at stride (replicate n (l ++ m)) = e₂
+    ∙ rw e₁ (pasted_beside o at stride (dims_replicate n s.left (get_or s.fills 0 0)) (dims_replicate n inner 32) (omega arith)
+    ∙ rw (paired_same n l m)) in
+    e₃ ∙ rw (both, p) (pasted_beside o at stride (dims_lines n (l ++ m) (s.left + inner) (simp (length-append, length-replicate))) (dims_replicate n s.right
+    (get_or s.fills 1 0)) h
+    ∙ rw (paired_same n (l ++ m) r, append_assoc l m r))
+
+-- where every padding is of spaces, all lines are
+ground_blank : (s : Settings) (k : BodyRows) (n w h : ℕ) → Blank s.fills → s.left + k.inner + s.right ≡ w → ground_lines s k n ≡ h
+    → replicate h (replicate w 32) ≡ ground s k n w
+unfolding ground clear
+ground_blank s k n w h b wide tall =
     let c : ◌≡◌ {A = List ℕ} (replicate s.left 32 ++ (replicate k.inner 32 ++ replicate s.right 32)) (replicate w 32)
     = rw (replicate-append-replicate {A = ℕ} k.inner s.right 32, replicate-append-replicate {A = ℕ} s.left (k.inner + s.right) 32)
     (let e : s.left + (k.inner + s.right) ≡ w = omega arith in rw e) in
-    rw (b.left_is, b.right_is, b.top_is, b.bottom_is, c, tall) (sym (simp replicate-append-replicate))
+    rw (b.left_is, b.right_is, b.top_is, b.bottom_is, c, ← tall) (sym (simp replicate-append-replicate))
+
+ground_dims : (s : Settings) (k : BodyRows) (n w : ℕ) → s.left + k.inner + s.right ≡ w → Dims (ground s k n w) (ground_lines s k n) w
+unfolding ground clear
+ground_dims s k n w e =
+    dims_append (dims_append (dims_replicate k.above w 32) (dims_replicate s.top w _))
+    (dims_append (dims_lines n _ w (simp (length-append, length-replicate) (omega arith)))
+    (dims_append (dims_replicate s.bottom w _) (dims_replicate k.below w 32)))
+
+-- over spaces the ground is already there, or it is painted
+pub turned_blank : (s : Settings) (k : BodyRows) (n w h at stride : ℕ) (o : List ℕ) → Blank s.fills → s.left + k.inner + s.right ≡ w
+    → ground_lines s k n ≡ h → Turned (space_lines h w) (ground s k n w) at stride o o
+turned_blank s k n w h at stride o blank wide tall = record { done = λ b e. e ∙ ap (pasted b at stride) (ground_blank s k n w h blank wide tall) }
+
+pub turned_padded : (s : Settings) (k : BodyRows) (n w h at stride : ℕ) (o o' : List ℕ) → s.left + k.inner + s.right ≡ w → ground_lines s k n ≡ h → w ≤ stride
+    → o' ≡ pasted o at stride (ground s k n w)
+    → Turned (space_lines h w) (ground s k n w) at stride o o'
+turned_padded s k n w h at stride o o' wide tall apart p =
+    record { done = λ b e. p ∙ rw e (pasted_over b at stride (dims_replicate h w 32) (rw tall at (ground_dims s k n w wide)) apart) }
+
+-- ---- the lines of the text still to come, from a place on
+
+pub more_from : (t : List ℕ) (from more : ℕ) → length (lines_from from t) ≡ more → 0 < more → from ≤ length t
+more_from t from more e h = either (suc (length t)) from (λ k. let z = rw (rest_none t from k) at e in absurd (omega (arith, z))) (λ k. omega arith)
+
+-- the last one ends with the text
+pub last_end : (t : List ℕ) (from : ℕ) → from ≤ length t → length (lines_from from t) ≡ 1 → (e : ℕ) → e ≡ from + first_feed (drop from t) → e ≡ length t
+last_end t from h one e is = either (length t) e
+    (λ k. omega (arith, line_in t from h e is))
+    (λ k. let z = rw (rest_next t from h e is, rest_next t (e + 1) (omega arith) _ refl) at one in absurd (omega (arith, z)))
 
 -- ---- the text over it
 
@@ -70,8 +113,8 @@ module _ {g : List ℕ} {f : List ℕ → List ℕ} {ls : List (List ℕ)} {at p
     pub still_room : p + w ≤ length o
     still_room = omega (arith, room_head k.room, k.long)
 
-    pub still_next : p + stride + w < 18446744073709551616
-    still_next = omega (arith, k.room.small)
+    pub still_next : p + stride < 18446744073709551616
+    still_next = room_next k.room
 
     pub still_step : (q : ℕ) → q + length l ≤ p + stride → ((b : List ℕ) → sets (sets b p g) q l ≡ sets b p (f l))
         → Still g f ls rs at (p + stride) stride w o₀ (sets o q l)
@@ -95,27 +138,14 @@ line_over s inner widest l b at h =
     (simp (length-append, length-replicate))
     ∙ rw (append_assoc x (replicate i 32) (l ++ (replicate n 32 ++ y)))))
 
--- the whole body over what is there, where no column of it is spaces
-pub body_whole : (s : Settings) (t : List ℕ) (z : Size) (k : BodyRows) → BodyFits s t z k → (under : ℕ) → under ≡ 0 → (o o₁ o₂ : List ℕ) (at stride : ℕ)
-    → o₁ ≡ pasted o at stride (space_lines z.height under) → o₂ ≡ pasted o₁ at stride (body_of s k t z.width) → o₂ ≡ pasted o at stride (body s t z)
-body_whole s t z k h under u o o₁ o₂ at stride e w = w ∙ rw (e, u, pasted_none z.height o at stride, h.body_is)
-
--- the text alone, where all are
-pub body_over : (s : Settings) (t : List ℕ) (z : Size) (k : BodyRows) → BodyFits s t z k → Spaces s z.width → (o o₁ o₂ : List ℕ) (at stride : ℕ)
-    → o₁ ≡ pasted o at stride (space_lines z.height z.width)
+pub body_over : (s : Settings) (t : List ℕ) (z : Size) (k : BodyRows) → BodyFits s t z k → (o o₁ o₂ : List ℕ) (at stride : ℕ)
+    → o₁ ≡ pasted o at stride (ground s k (text_height t) z.width)
     → LaidOver (clear s k.inner) (text_line s k.inner k.widest) (lines t) (at + (k.above + s.top) * stride) stride o₁ o₂
     → o₂ ≡ pasted o at stride (body s t z)
-unfolding body_of
-body_over s t z k h b o o₁ o₂ at stride e w =
+unfolding ground
+body_over s t z k h o o₁ o₂ at stride e w =
     let x = replicate k.above (replicate z.width 32) ++ replicate s.top (replicate z.width (get_or s.fills 2 0)) in
     let y = replicate s.bottom (replicate z.width (get_or s.fills 3 0)) ++ replicate k.below (replicate z.width 32) in
     let n : length x ≡ k.above + s.top = simp (length-append, length-replicate) in
     rw (h.body_is, pasted_append x (map (text_line s k.inner k.widest) (lines t) ++ y) o at stride, n)
-    (w.done (pasted o at stride x) y (e
-    ∙ rw (
-      ground_spaces s k z.width z.height b h.wide h.tall,
-      pasted_append x (replicate k.rows (clear s k.inner) ++ y) o at stride,
-      n,
-      h.text.rows_is,
-      lines_height t,
-    )))
+    (w.done (pasted o at stride x) y (e ∙ rw (pasted_append x (replicate (text_height t) (clear s k.inner) ++ y) o at stride, n, lines_height t)))

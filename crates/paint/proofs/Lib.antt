@@ -5,7 +5,6 @@ pub mod Cases
 pub mod Places
 pub mod Room
 pub mod LinesLeft
-pub mod LinesToCome
 pub mod Crossed
 pub mod BodyRows
 pub mod Ground

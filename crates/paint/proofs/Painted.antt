@@ -37,8 +37,8 @@ module _ {b : Borders} {z : Size} {h v : List ℕ} {base stride len : ℕ} (k : 
   pub body_start : base + stride + 1 < 18446744073709551616
   body_start = omega (arith, k.room.small)
 
-  pub left_room : {under : ℕ} → under ≤ z.width → {len' : ℕ} → len' ≡ len → Room (base + stride) stride z.height (1 + under) len'
-  left_room u l = record { fits = omega (arith, k.room.fits); small = omega (arith, k.room.small) }
+  pub left_room : {len' : ℕ} → len' ≡ len → Room (base + stride) stride z.height (1 + z.width) len'
+  left_room l = record { fits = omega (arith, k.room.fits); small = omega (arith, k.room.small) }
 
   -- those after it
   pub rest_room : (p : Begun) → p.at ≡ base + (stride + 1) → p.next ≡ base + stride + z.height * stride → {len' : ℕ} → len' ≡ len → Rest b z p stride len'
@@ -56,16 +56,16 @@ module _ {b : Borders} {z : Size} {h v : List ℕ} {base stride len : ℕ} (k : 
 
 -- ---- the steps' cases
 
-module _ (lines : Bool) (b : Borders) (z : Size) (h v : List ℕ) (base stride under : ℕ) where
+module _ (lines : Bool) (b : Borders) (z : Size) (h v : List ℕ) (base stride : ℕ) where
   pub begun_lined : lines ≡ true → (next : ℕ) (o o₁ o₂ : List ℕ) → o₁ ≡ sets o base (top_of b z.width h)
       → Wrote next (base + stride + z.height * stride) o₂
-      (pasted (pasted o₁ (base + stride) stride (left_of b z.height v)) (base + stride + 1) stride (space_lines z.height under))
-      → BodyBegins lines b z h v base stride (record { at = base + stride + 1; under = under; next = next }) o o₂
+      (pasted (pasted o₁ (base + stride) stride (left_of b z.height v)) (base + stride + 1) stride (space_lines z.height z.width))
+      → BodyBegins lines b z h v base stride (record { at = base + stride + 1; next = next }) o o₂
   unfolding begun_of
   begun_lined l next o o₁ o₂ e w = rw l (record { at_is = omega arith; next_is = λ y. w.end_is; out_is = w.out_is ∙ rw e })
 
-  pub begun_bare : lines ≡ false → (o o₁ : List ℕ) → o₁ ≡ pasted o base stride (space_lines z.height under)
-      → BodyBegins lines b z h v base stride (record { at = base; under = under; next = base }) o o₁
+  pub begun_bare : lines ≡ false → (o o₁ :
+      List ℕ) → o₁ ≡ pasted o base stride (space_lines z.height z.width) → BodyBegins lines b z h v base stride (record { at = base; next = base }) o o₁
   unfolding begun_of
   begun_bare l o o₁ e = rw l (record { at_is = omega arith; next_is = λ y. let w : ◌≡◌ {A = ℕ} 0 1 = cc in absurd (omega arith); out_is = e })
 

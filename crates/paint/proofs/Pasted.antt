@@ -1,11 +1,11 @@
--- Lines written over bytes: one under another, and side by side.
+-- Lines written over bytes: one under another, side by side, and what each place holds afterwards.
 use mathlib.Core.Path.{◌≡◌, refl, sym, ap, ◌∙◌}
 use Prim.Native.Nat.{ℕ, suc, ◌+◌, ◌*◌, ◌≤◌}
 use native.Mathlib.Omega.{arith}
 use mathlib.Core.List.{List, [], ◌∷◌, ◌++◌}
 use lib.ListN.{length}
-use lib.Seq.{sets, length-sets}
-use Rattle.common.proofs.Stores.{sets_append, sets_sets}
+use lib.Seq.{sets}
+use Rattle.common.proofs.Stores.{sets_append, sets_sets, sets_over}
 use Rattle.block.specs.Content.{side_by_side}
 use Rattle.paint.specs.Clauses.{pasted}
 use Rattle.common.specs.Every.{Every}
@@ -19,11 +19,6 @@ pasted_append [] y o at stride = let e : at + 0 * stride ≡ at = omega arith in
 pasted_append (l ∷ x) y o at stride =
     let e : at + suc (length x) * stride ≡ at + stride + length x * stride = omega arith in
     rw e (pasted_append x y (sets o at l) (at + stride) stride)
-
-pub length_pasted : (x : List (List ℕ)) (o : List ℕ) (at stride : ℕ) → length (pasted o at stride x) ≡ length o
-unfolding pasted
-length_pasted [] o at stride = refl
-length_pasted (l ∷ x) o at stride = length_pasted x (sets o at l) (at + stride) stride ∙ length-sets o at l
 
 -- stores before the first line may come after all of them
 pub sets_pasted : (x : List (List ℕ)) (us o : List ℕ) (i at stride : ℕ) → i + length us ≤ at
@@ -72,3 +67,20 @@ pasted_swap (l ∷ x) (m ∷ y) o at w v stride e p q h =
 pub pasted_aside : {x y : List (List ℕ)} {h w v : ℕ} (o : List ℕ) (at stride : ℕ) → Dims x h w → Dims y h v → w + v ≤ stride
     → pasted (pasted o (at + w) stride y) at stride x ≡ pasted (pasted o at stride x) (at + w) stride y
 pasted_aside {x} {y} {w = w} {v} o at stride d e h = pasted_swap x y o at w v stride (d.lines ∙ sym e.lines) d.columns e.columns h
+
+-- one over another
+lines_over : (x y : List (List ℕ)) (o : List ℕ) (at w stride : ℕ) → length x ≡ length y → Every (λ l. length l ≡ w) x → Every (λ l. length l ≡ w) y → w ≤ stride
+    → pasted (pasted o at stride x) at stride y ≡ pasted o at stride y
+unfolding pasted
+lines_over [] [] o at w stride e p q h = refl
+lines_over [] (m ∷ y) o at w stride e p q h = absurd (omega arith)
+lines_over (l ∷ x) [] o at w stride e p q h = absurd (omega arith)
+lines_over (l ∷ x) (m ∷ y) o at w stride e p q h =
+    rw (sets_pasted x m (sets o at l) at (at + stride) stride (omega (arith, q.0)), sets_over l m o at (omega (arith, p.0, q.0)))
+    (lines_over x y (sets o at m) (at + stride) w stride (omega arith) p.1 q.1 h)
+
+pub pasted_over : {x y : List (List ℕ)} {h w : ℕ} (o : List ℕ) (at stride : ℕ) → Dims x h w → Dims y h w → w ≤ stride
+    → pasted (pasted o at stride x) at stride y ≡ pasted o at stride y
+pasted_over {x} {y} {w = w} o at stride d e h = lines_over x y o at w stride (d.lines ∙ sym e.lines) d.columns e.columns h
+
+-- ---- what each place holds

@@ -25,11 +25,6 @@ module _ {at stride w len : ℕ} (a m : ℕ) (r : Room at stride (a + m) w len) 
   pub room_then : {p len' : ℕ} → p ≡ at + a * stride → len' ≡ len → Room p stride m w len'
   room_then e l = record { fits = omega (arith, r.fits); small = omega (arith, r.small) }
 
--- ---- some of the columns
-
-pub room_narrower : {at stride n w v len : ℕ} → v ≤ w → Room at stride n w len → Room at stride n v len
-room_narrower h r = record { fits = omega (arith, r.fits); small = omega (arith, r.small) }
-
 -- ---- behind each line but the last
 
 pub room_feeds : {w n len : ℕ} → w + 1 < 18446744073709551616 → Room 0 (w + 1) n w len → Room w (w + 1) (n - 1) 1 len

@@ -4,14 +4,13 @@ use Rattle.std.proofs.lemmas.List.Edits.{sets}
 use Rattle.common.specs.Choice.{pick}
 use Rattle.splits.specs.Splits.{named}
 use Rattle.settings.specs.declared.Settings.{Settings}
-use Rattle.text.specs.Text.{lines, text_width, text_height}
 use Rattle.sizes.specs.declared.Size.{Size}
 use Rattle.sizes.specs.Sizes.{leaf_size}
 use Rattle.sizes.specs.Clauses.{Fits}
 use Rattle.block.specs.declared.Flags.{Flags}
-use Rattle.block.specs.Block.{Leaf, block_height, block_width, top_left, top_right, bottom_left, edge, slack_before, text_line, body}
+use Rattle.block.specs.Block.{Leaf, block_height, block_width, top_left, top_right, bottom_left, edge, slack_before, body}
 use Rattle.block.specs.Content.{ruled, column, side_by_side}
-use Rattle.paint.specs.declared.text_lines.BodyRows.{BodyRows}
+use Rattle.paint.specs.declared.body.BodyRows.{BodyRows}
 use Rattle.paint.specs.declared.borders.Borders.{Borders}
 use Rattle.paint.specs.declared.Begun.{Begun}
 use Rattle.paint.specs.declared.bytes.Four.{Four}
@@ -61,18 +60,10 @@ unfoldable pub body_rows_of : Settings → Size → Size → BodyRows
 unfolding slack_before
 body_rows_of s n z = record {
   above = slack_before s.vertical (z.height - n.height);
-  rows = n.height - s.top - s.bottom;
   below = z.height - n.height - slack_before s.vertical (z.height - n.height);
   inner = z.width - s.left - s.right;
   widest = n.width - s.left - s.right;
 }
-
--- the lines of the plan k are those of the text t, and have room in its columns
-pub record TextRows (k : BodyRows) (t : List ℕ) : Type 0 where
-  pub small : length t < 65536
-  pub rows_is : k.rows ≡ text_height t
-  pub widest_is : k.widest ≡ text_width t
-  pub within : k.widest ≤ k.inner
 
 -- n lines of w spaces
 abbrev pub space_lines : ℕ → ℕ → List (List ℕ)
@@ -82,13 +73,16 @@ space_lines n w = replicate n (replicate w 32)
 unfoldable pub clear : Settings → ℕ → List ℕ
 clear s inner = replicate s.left (get_or s.fills 0 0) ++ (replicate inner 32 ++ replicate s.right (get_or s.fills 1 0))
 
--- the body that the plan k makes of the text t, w columns wide
-unfoldable pub body_of : Settings → BodyRows → List ℕ → ℕ → List (List ℕ)
-unfolding text_line lines
-body_of s k t w =
+-- the body without its text, which has n lines
+unfoldable pub ground : Settings → BodyRows → ℕ → ℕ → List (List ℕ)
+unfolding clear
+ground s k n w =
     (replicate k.above (replicate w 32) ++ replicate s.top (replicate w (get_or s.fills 2 0)))
-    ++ (map (text_line s k.inner k.widest) (lines t)
+    ++ (replicate n (clear s k.inner)
     ++ (replicate s.bottom (replicate w (get_or s.fills 3 0)) ++ replicate k.below (replicate w 32)))
+
+abbrev pub ground_lines : Settings → BodyRows → ℕ → ℕ
+ground_lines s k n = k.above + s.top + (n + (s.bottom + k.below))
 
 -- every padding is of spaces
 pub record Blank (fills : List ℕ) : Type 0 where
@@ -96,19 +90,6 @@ pub record Blank (fills : List ℕ) : Type 0 where
   pub right_is : get_or fills 1 0 ≡ 32
   pub top_is : get_or fills 2 0 ≡ 32
   pub bottom_is : get_or fills 3 0 ≡ 32
-
--- the paddings of a body of w columns are spaces
-pub record Spaces (s : Settings) (w : ℕ) : Type 0 where
-  pub left_is : replicate s.left (get_or s.fills 0 0) ≡ replicate s.left 32
-  pub right_is : replicate s.right (get_or s.fills 1 0) ≡ replicate s.right 32
-  pub top_is : replicate w (get_or s.fills 2 0) ≡ replicate w 32
-  pub bottom_is : replicate w (get_or s.fills 3 0) ≡ replicate w 32
-
--- of the w columns of a body none is spaces before it is painted, or all are, and then its paddings too
-pub record SpacesUnder (s : Settings) (w under : ℕ) : Type 0 where
-  pub within : under ≤ w
-  pub none : under < w → under ≡ 0
-  pub all : w ≤ under → Spaces s w
 
 -- the marks of a leaf: `config_borders`
 unfoldable pub borders_of : Settings → Flags → Borders
@@ -162,11 +143,11 @@ unfoldable pub begun_of : Bool → Borders → Size → List ℕ → List ℕ �
 unfolding pasted top_of left_of
 begun_of lines b z h v base stride o = pick lines (pasted (sets o base (top_of b z.width h)) (base + stride) stride (left_of b z.height v)) o
 
--- these are written, and the body begins after them, where there may be spaces
+-- these are written, and the body begins after them, where there are spaces
 pub record BodyBegins (lines : Bool) (b : Borders) (z : Size) (h v : List ℕ) (base stride : ℕ) (r : Begun) (o o' : List ℕ) : Type 0 where
   pub at_is : r.at ≡ base + pick lines (stride + 1) 0
   pub next_is : lines ≡ true → r.next ≡ base + stride + z.height * stride
-  pub out_is : o' ≡ pasted (begun_of lines b z h v base stride o) r.at stride (space_lines z.height r.under)
+  pub out_is : o' ≡ pasted (begun_of lines b z h v base stride o) r.at stride (space_lines z.height z.width)
 
 -- what the marks after the body require
 pub record Rest (b : Borders) (z : Size) (p : Begun) (stride len : ℕ) : Type 0 where

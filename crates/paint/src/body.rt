@@ -4,26 +4,30 @@ ghost use Rattle.sizes.specs.Sizes.{leaf_size};
 ghost use Rattle.sizes.specs.Clauses.{Fits};
 ghost use Rattle.block.specs.Block.{body};
 ghost use Rattle.common.specs.Writing.{Wrote};
-ghost use Rattle.paint.specs.Clauses.{pasted, Room, body_rows_of, TextRows, body_of, space_lines, Blank, SpacesUnder, Turned};
+ghost use Rattle.paint.specs.Clauses.{pasted, Room, body_rows_of, space_lines, clear, ground, ground_lines, Blank, Turned};
 
-use crate::text_lines::BodyRows;
 use crate::{bytes, text_lines};
 use settings::Settings;
 use sizes::Size;
 
-// Bodies of at most so many columns are spaces first, where every padding is of spaces.
-const NARROW: usize = 64;
+// Where a text is in its allotted size: the lines of spaces above and below it and its padding, the columns between the paddings, the longest line.
+#[derive(Clone, Copy)]
+struct BodyRows {
+    above: usize,
+    below: usize,
+    inner: usize,
+    widest: usize,
+}
 
 // All differences at once (`indent_vertical`, `indent_horizontal`).
 fn plan_body(s: Settings, natural: Size, size: Size) -> BodyRows
-    requires { Fits natural size × (s.left + s.right ≤ natural.width) × (s.top + s.bottom ≤ natural.height) }
+    requires { Fits natural size × (s.left + s.right ≤ natural.width) }
     ensures { result ≡ body_rows_of s natural size }
 {
     let al = s.vertical;
     let above = text_lines::indent_start(al, size.height, natural.height);
     BodyRows {
         above: above,
-        rows: natural.height - s.top - s.bottom,
         below: size.height - natural.height - above,
         inner: size.width - s.left - s.right,
         widest: natural.width - s.left - s.right,
@@ -65,49 +69,68 @@ fn is_blank(fills: [u8; 4]) -> bool
     fills[3] == 32
 }
 
-// How many columns of spaces a body is painted over: all of its `width`, where it is narrow and every padding is of spaces, else none.
-pub fn spaces_under(s: Settings, width: usize) -> usize
-    requires { s.left + s.right ≤ width }
-    ensures { SpacesUnder s width result }
+// n lines with the left and the right padding, and spaces between them; the answer is where the next line begins.
+fn paint_sides(
+    out: &mut [u8],
+    at: usize,
+    stride: usize,
+    s: Settings,
+    inner: usize,
+    n: usize,
+) -> usize
+    requires right_bound { s.left + inner + s.right ≤ stride }
+    requires room { Room at stride n (s.left + inner + s.right) (length out.old) }
+    ensures { Wrote result (at + n * stride) out.new (pasted out.old at stride (replicate n (clear s inner))) }
 {
-    let fills = s.fills;
-    if is_blank(fills) {
-        if width <= NARROW {
-            return width;
-        }
-    }
-    0
+    let text = at + s.left;
+    let right = text + inner;
+    bytes::rows(out, at, stride, n, s.left, s.fills[0]);
+    bytes::rows(out, text, stride, n, inner, 32);
+    bytes::rows(out, right, stride, n, s.right, s.fills[1]);
+    at + n * stride
 }
 
-// A body line by line: spaces and top padding, the text's lines with their paddings, bottom padding and spaces.
+// A body without its text: spaces and top padding, n lines for the text, bottom padding and spaces.
 fn paint_padded(
     out: &mut [u8],
     at: usize,
     stride: usize,
     s: Settings,
     plan: BodyRows,
-    size: Size,
-    text: &[u8],
+    n: usize,
+    w: usize,
 )
-    requires text_rows { TextRows plan text.now × (s.left + plan.inner + s.right ≡ size.width)
-        × (size.height ≡ plan.above + s.top + (plan.rows + (s.bottom + plan.below))) }
-    requires room { Room at stride size.height size.width (length out.old) }
-    ensures { out.new ≡ pasted out.old at stride (body_of s plan text.now size.width) }
+    requires right_value { (s.left + plan.inner + s.right ≡ w) × (w ≤ stride) }
+    requires room { Room at stride (ground_lines s plan n) w (length out.old) }
+    ensures { out.new ≡ pasted out.old at stride (ground s plan n w) }
 {
-    let w = size.width;
-    let above = plan.above + s.top;
-    if 0 < above {
-        rows_twice(out, at, stride, w, plan.above, 32, s.top, s.fills[2]);
-    }
-    let p = at + above * stride;
-    text_lines::padded_lines(out, p, stride, s, plan, text);
-    if 0 < s.bottom + plan.below {
-        let q = p + plan.rows * stride;
-        rows_twice(out, q, stride, w, s.bottom, s.fills[3], plan.below, 32);
-    }
+    let p = rows_twice(out, at, stride, w, plan.above, 32, s.top, s.fills[2]);
+    let q = paint_sides(out, p, stride, s, plan.inner, n);
+    rows_twice(out, q, stride, w, s.bottom, s.fills[3], plan.below, 32);
 }
 
-// A body over so many columns of spaces: the text alone, or all of it line by line.
+// The same over spaces: nothing where every padding is of spaces.
+fn paint_ground(
+    out: &mut [u8],
+    at: usize,
+    stride: usize,
+    s: Settings,
+    plan: BodyRows,
+    n: usize,
+    size: Size,
+)
+    requires right_value { (s.left + plan.inner + s.right ≡ size.width) × (size.width ≤ stride) × (ground_lines s plan n ≡ size.height) }
+    requires room { Room at stride size.height size.width (length out.old) }
+    ensures { Turned (space_lines size.height size.width) (ground s plan n size.width) at stride out.old out.new }
+{
+    let fills = s.fills;
+    if is_blank(fills) {
+        return;
+    }
+    paint_padded(out, at, stride, s, plan, n, size.width);
+}
+
+// Over spaces the padding, and over both the text.
 pub fn paint_body(
     out: &mut [u8],
     at: usize,
@@ -116,17 +139,14 @@ pub fn paint_body(
     text: &[u8],
     natural: Size,
     size: Size,
-    under: usize,
 )
     requires text_len_bound { (length text.now < 65536) × (natural ≡ leaf_size s text.now) × Fits natural size × (size.width ≤ stride) }
-    requires room { Room at stride size.height size.width (length out.old) × SpacesUnder s size.width under }
-    ensures { Turned (space_lines size.height under) (body s text.now size) at stride out.old out.new }
+    requires room { Room at stride size.height size.width (length out.old) }
+    ensures { Turned (space_lines size.height size.width) (body s text.now size) at stride out.old out.new }
 {
     let plan = plan_body(s, natural, size);
-    if size.width <= under {
-        let p = at + (plan.above + s.top) * stride;
-        text_lines::text_lines(out, p, stride, s, plan, text);
-        return;
-    }
-    paint_padded(out, at, stride, s, plan, size, text);
+    let n = natural.height - s.top - s.bottom;
+    paint_ground(out, at, stride, s, plan, n, size);
+    let p = at + (plan.above + s.top) * stride;
+    text_lines::text_lines(out, p, stride, s, plan.inner, plan.widest, n, text);
 }

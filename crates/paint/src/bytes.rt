@@ -61,10 +61,6 @@ fn fill_run(out: &mut [u8], at: usize, n: usize, byte: u8)
         two_runs(out, at, n, 16, byte);
         return;
     }
-    if n <= 64 {
-        two_runs(out, at, n, 32, byte);
-        return;
-    }
     run(out, at, n, byte);
 }
 

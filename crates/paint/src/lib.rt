@@ -6,9 +6,9 @@ mod borders;
 pub mod bytes;
 mod text_lines;
 
-ghost use Rattle.std.specs.Prelude.{◌≡◌, ◌+◌, ◌≤◌, true, false, length};
+ghost use Rattle.std.specs.Prelude.{◌≡◌, ◌+◌, true, false, length};
 ghost use Rattle.block.specs.Block.{block};
-ghost use Rattle.paint.specs.Clauses.{pasted, Room, leaf_with, Paintable, Lined, SpacesUnder, BodyBegins, Rest, ended_of};
+ghost use Rattle.paint.specs.Clauses.{pasted, Room, leaf_with, Paintable, Lined, BodyBegins, Rest, ended_of};
 
 use block::Flags;
 use borders::Borders;
@@ -23,42 +23,38 @@ pub struct Shape {
     pub flags: Flags,
 }
 
-// Where a body begins, the columns of spaces that are there, and the line below it where there are lines.
+// Where a body begins, and the line below it where there are lines.
 #[derive(Clone, Copy)]
 struct Begun {
     at: usize,
-    under: usize,
     next: usize,
 }
 
-// The marks above a body and on its left, the top-left one at `base`, where there are lines; and the spaces that the body is painted over.
+// The marks above a body and on its left, the top-left one at `base`, where there are lines; and spaces where the body will be.
 fn paint_before(
     out: &mut [u8],
     base: usize,
     stride: usize,
-    s: Settings,
+    lines: bool,
     b: Borders,
     size: Size,
     horizontal: &[u16],
     vertical: &[u16],
 ) -> Begun
-    requires right_bound { (s.left + s.right ≤ size.width) × (s.lines ≡ true → Lined b size horizontal.now vertical.now base stride (length out.old)) }
-    requires room { s.lines ≡ false → Room base stride size.height size.width (length out.old) }
-    ensures body_begins { BodyBegins s.lines b size horizontal.now vertical.now base stride result out.old out.new }
-    ensures spaces { SpacesUnder s size.width result.under }
+    requires lined { lines ≡ true → Lined b size horizontal.now vertical.now base stride (length out.old) }
+    requires room { lines ≡ false → Room base stride size.height size.width (length out.old) }
+    ensures { BodyBegins lines b size horizontal.now vertical.now base stride result out.old out.new }
 {
-    let under = body::spaces_under(s, size.width);
-    if s.lines {
+    if lines {
         let h = size.height;
         borders::print_top_line(out, base, size.width, b, horizontal);
-        let next = borders::print_left(out, base + stride, stride, h, under, b, vertical);
+        let next = borders::print_left(out, base + stride, stride, h, size.width, b, vertical);
         let at = base + stride + 1;
-        return Begun { at, under, next };
+        return Begun { at: at, next: next };
     }
-    bytes::rows(out, base, stride, size.height, under, 32);
+    bytes::rows(out, base, stride, size.height, size.width, 32);
     Begun {
         at: base,
-        under: under,
         next: base,
     }
 }
@@ -98,7 +94,7 @@ pub fn paint_block(
     let f = x.flags;
     let b = borders::config_borders(s, f);
     let lines = s.lines;
-    let p = paint_before(out, base, stride, s, b, size, horizontal, vertical);
-    body::paint_body(out, p.at, stride, s, text, natural, size, p.under);
+    let p = paint_before(out, base, stride, lines, b, size, horizontal, vertical);
+    body::paint_body(out, p.at, stride, s, text, natural, size);
     paint_after(out, p, stride, lines, b, size);
 }

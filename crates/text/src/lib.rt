@@ -101,31 +101,3 @@ pub fn next_feed(s: &[u8], from: usize) -> usize
     let end = s.len() - (s.len() - from) % 32;
     next_feed_near(s, past_plain(s, from, end))
 }
-
-// Lines of at most so many letters are short: their end is in the next three words.
-pub const SHORT: usize = 16;
-
-// Where the line that starts at `from` ends, in a text that has none wider than `widest`; the last one ends with the text, and needs no search.
-pub fn end_of_line(s: &[u8], from: usize, widest: usize, last: bool) -> usize
-    requires { (from ≤ length s.now) × (last ≡ true → from + first_feed (drop from s.now) ≡ length s.now) }
-    ensures { result ≡ from + first_feed (drop from s.now) }
-{
-    if last {
-        return s.len();
-    }
-    if widest <= SHORT {
-        return next_feed_near(s, from);
-    }
-    next_feed(s, from)
-}
-
-// The same of a line that is likely long.
-pub fn end_of_long(s: &[u8], from: usize, last: bool) -> usize
-    requires { (from ≤ length s.now) × (last ≡ true → from + first_feed (drop from s.now) ≡ length s.now) }
-    ensures { result ≡ from + first_feed (drop from s.now) }
-{
-    if last {
-        return s.len();
-    }
-    next_feed(s, from)
-}
