@@ -8,6 +8,6 @@
 // The last three arguments give FAILED: a file that names no library, one that does not exist, and one that does not end.
 #![tactic(auto)]
 
-fn main() {
-    test_cases::run();
+fn main(rt: HostRuntime) {
+    test_cases::run(&rt);
 }

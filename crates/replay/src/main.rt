@@ -1,6 +1,6 @@
 // Answers that the oracle made, replayed: the lines of the files in data/, which `args` names and `oracle replay` writes (oracle/README.md).
 #![tactic(auto)]
 
-fn main() {
-    test_cases::run();
+fn main(rt: HostRuntime) {
+    test_cases::run(&rt);
 }

@@ -53,24 +53,40 @@ pub fn named(line: &[u8]) -> Library {
 }
 
 // The libraries whose lines change no input.
-fn read(of: Library, kind: u8, settings: &[u8], tree: &[u8], node: usize, want: &[u8]) {
+fn read(
+    rt: &impl Print,
+    of: Library,
+    kind: u8,
+    settings: &[u8],
+    tree: &[u8],
+    node: usize,
+    want: &[u8],
+) {
     match of {
-        Library::Calls => test_calls::ask(kind, settings, tree, node, want),
-        Library::Places => test_places::ask(kind, settings, tree, want),
-        Library::Splits => test_splits::ask(kind, want),
-        Library::Sizes => test_sizes::ask(kind, settings, tree, want),
-        Library::Typed => test_typed::ask(kind, tree, want),
-        Library::Requests => test_requests::ask(kind, settings, tree, want),
-        Library::Programs => test_programs::ask(kind, tree, want),
-        _ => tell::unknown(),
+        Library::Calls => test_calls::ask(rt, kind, settings, tree, node, want),
+        Library::Places => test_places::ask(rt, kind, settings, tree, want),
+        Library::Splits => test_splits::ask(rt, kind, want),
+        Library::Sizes => test_sizes::ask(rt, kind, settings, tree, want),
+        Library::Typed => test_typed::ask(rt, kind, tree, want),
+        Library::Requests => test_requests::ask(rt, kind, settings, tree, want),
+        Library::Programs => test_programs::ask(rt, kind, tree, want),
+        _ => tell::unknown(rt),
     }
 }
 
 // Makes the call of a line with the inputs so far.
-pub fn ask(of: Library, kind: u8, settings: &mut [u8], tree: &mut [u8], node: usize, want: &[u8]) {
+pub fn ask(
+    rt: &impl Print,
+    of: Library,
+    kind: u8,
+    settings: &mut [u8],
+    tree: &mut [u8],
+    node: usize,
+    want: &[u8],
+) {
     match of {
-        Library::Feeds => test_feeds::ask(kind, tree, want),
-        Library::Drafts => test_drafts::ask(kind, settings, tree, want),
-        _ => read(of, kind, settings, tree, node, want),
+        Library::Feeds => test_feeds::ask(rt, kind, tree, want),
+        Library::Drafts => test_drafts::ask(rt, kind, settings, tree, want),
+        _ => read(rt, of, kind, settings, tree, node, want),
     }
 }
