@@ -29,7 +29,8 @@ use Rattle.typed.specs.Typed.{typed_of}
 use Rattle.c_encoding.specs.Words.{packed, typed_word}
 use Rattle.c_encoding.specs.Promises.{number_in}
 use Rattle.c_encoding.proofs.TypedWord.{typed_word_lem}
-use Rattle.c_encoding.specs.Numbers.{refusal, written, offered, settings_numbers, margin_numbers, read_given, size_numbers, sizes_given, record_numbers, record_given}
+use Rattle.c_encoding.specs.Numbers.{refusal, written, offered, settings_numbers, margin_numbers, read_given, size_numbers, sizes_given, record_numbers}
+use Rattle.c_encoding.specs.Numbers.{record_given}
 use Rattle.c_encoding.specs.Cuts.{refused_by, unless, written_two, kept_given, short_given, splits3_given, lent_given, splits_given}
 use Rattle.c_encoding.specs.Places.{place_numbers, place_given}
 use Rattle.c_encoding.specs.Plans.{ends_word}

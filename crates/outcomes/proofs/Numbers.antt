@@ -30,7 +30,8 @@ use Rattle.splits.specs.Splits.{short_splits3, short_splits}
 use Rattle.splits.specs.Lists.{list_of}
 use Rattle.splits.specs.Cuts.{cut_answered, refused_cut, cut_of, in_place_cut, answered_short, refused_short, short_of}
 use Rattle.text.specs.Text.{join_lines}
-use Rattle.drafts.specs.Store.{is_name, tag_for, has_tag, fields_of, field_bytes, store_of, without_tag, draft_of, save_tree, save_in, save_of, forget_in, forget_of}
+use Rattle.drafts.specs.Store.{is_name, tag_for, has_tag, fields_of, field_bytes, store_of, without_tag, draft_of, save_tree, save_in, save_of, forget_in}
+use Rattle.drafts.specs.Store.{forget_of}
 use Rattle.drafts.specs.Store.{no_return, return_found, return_in, return_of}
 use Rattle.sharing.specs.declared.Shared.{Shared}
 use Rattle.sharing.specs.Sharing.{share_of, share}
@@ -70,7 +71,8 @@ use Rattle.fold.specs.declared.Folded.{Folded}
 use Rattle.widen.specs.declared.Widened.{Widened}
 use Rattle.drafts.specs.declared.Returned.{Returned}
 use Rattle.blank.specs.declared.Blanked.{Blanked}
-use Rattle.outcomes.specs.Promises.{Among, input_in, of_settings, of_tree, of_cut, of_share, of_sizes, of_record, of_leaf, of_sheet, of_place, of_places, of_fold}
+use Rattle.outcomes.specs.Promises.{Among, input_in, of_settings, of_tree, of_cut, of_share, of_sizes, of_record, of_leaf, of_sheet, of_place, of_places}
+use Rattle.outcomes.specs.Promises.{of_fold}
 use Rattle.outcomes.specs.Promises.{of_plan, of_save, of_forget, of_return, of_blank, of_typed, CallNumbers}
 use Rattle.outcomes.specs.Figures.{settings_met, tree_met, cut_met, kept_met, short_met, share_met, collect_met, record_met, leaf_met, sheet_met}
 use Rattle.outcomes.specs.Figures.{place_met, places_met, fold_met, plan_met, nearest_met, save_met, forget_met, return_met, blank_met}
@@ -177,12 +179,14 @@ module _ (bs ts : List ℕ) where
   unfolding leaf_print_of one_of
   leaf_in n o (refused k) e = input_among of_leaf refl refl refl refl refl bs ts k e
   leaf_in n o (given s t) e =
-      number_of printed of_leaf (too_large s t) (no_print 6 o) (print_found s o (leaf_numbered n (leaves s t))) refl (found_print s o (leaf_numbered n (leaves s t)))
+      number_of printed of_leaf (too_large s t) (no_print 6 o) (print_found s o (leaf_numbered n (leaves s t))) refl
+      (found_print s o (leaf_numbered n (leaves s t)))
 
   sheet_in : (o : List ℕ) (x : Input) → input_of bs ts ≡ x → Among (sheet_of x o).answer.number of_sheet
   unfolding sheet_of one_of
   sheet_in o (refused k) e = input_among of_sheet refl refl refl refl refl bs ts k e
-  sheet_in o (given s t) e = number_of printed of_sheet (too_large s t) (no_print 6 o) (print_to (sheet s t) o) refl (to_number of_sheet (sheet s t) o refl refl)
+  sheet_in o (given s t) e = number_of printed of_sheet (too_large s t) (no_print 6 o) (print_to (sheet s t) o) refl
+      (to_number of_sheet (sheet s t) o refl refl)
 
   -- ---- places
 
@@ -201,7 +205,8 @@ module _ (bs ts : List ℕ) where
     place_among : (l k : ℕ) → Among (leaf_place_in s t l k).number ns
     unfolding leaf_place_in
     place_among l k =
-        number_of (λ (r : LeafPlace). r.number) ns (eqb (fault_of s t l k) 0) (leaf_place_found l k (owner_of (areas s t) l k)) (no_leaf_place (fault_of s t l k))
+        number_of (λ (r : LeafPlace). r.number) ns (eqb (fault_of s t l k) 0) (leaf_place_found l k (owner_of (areas s t) l k))
+        (no_leaf_place (fault_of s t l k))
         (owned (owner_of (areas s t) l k)) (fault_among l k)
       where
         owned : (x : Option Area) → Among (leaf_place_found l k x).number ns
@@ -219,7 +224,8 @@ module _ (bs ts : List ℕ) where
   unfolding leaf_place_of one_of
   place_in l k (refused n) e = input_among of_place refl refl refl refl refl bs ts n e
   place_in l k (given s t) e =
-      number_of (λ (r : LeafPlace). r.number) of_place (too_large s t) (no_leaf_place 6) (leaf_place_in s t l k) refl (place_among of_place refl refl refl s t l k)
+      number_of (λ (r : LeafPlace). r.number) of_place (too_large s t) (no_leaf_place 6) (leaf_place_in s t l k) refl
+      (place_among of_place refl refl refl s t l k)
 
   finds_in_lem : (ps fs : List ℕ) (x : Input) → input_of bs ts ≡ x → Among (finds_of x ps fs).answer.number of_places
   unfolding finds_of one_of
@@ -227,7 +233,8 @@ module _ (bs ts : List ℕ) where
   finds_in_lem ps fs (given s t) e =
       let g : Outcome FoundPlaces (List ℕ) → ℕ = λ r. r.answer.number in
       number_of g of_places (too_large s t) (no_finds 6 fs) (finds_in s t ps fs) refl
-      (number_of g of_places (ltb 256 (length ps)) (no_finds 14 fs) (pick (eqb (first_fault s t ps) 0) (finds_to s t ps fs) (no_finds (first_fault s t ps) fs)) refl
+      (number_of g of_places (ltb 256 (length ps)) (no_finds 14 fs)
+      (pick (eqb (first_fault s t ps) 0) (finds_to s t ps fs) (no_finds (first_fault s t ps) fs)) refl
       (number_of g of_places (eqb (first_fault s t ps) 0) (finds_to s t ps fs) (no_finds (first_fault s t ps) fs)
       (number_of g of_places (ltb (length fs) (length ps)) (no_finds 8 fs)
       (record { answer = record { number = 0; count = length ps; steps = (located s t).steps }; memory = map (word_of s t) ps ++ drop (length ps) fs }) refl
@@ -290,7 +297,8 @@ save_number o n tree = go (fields_of o)
     read : (fs : List (List ℕ)) (y : ReadOne) → read_tree tree ≡ y → Among (save_tree o fs (tag_for n) tree y).answer of_save
     read fs (ReadOne.refused k) e = tree_among of_save refl refl refl refl tree k e
     read fs (ReadOne.one t z w) e =
-        number_of (λ (r : Outcome ℕ (List ℕ)). r.answer) of_save (ltb (length o) (length (field_bytes (without_tag (tag_for n) fs)) + (3 + length tree))) (record
+        number_of (λ (r : Outcome ℕ (List ℕ)). r.answer) of_save (ltb (length o) (length (field_bytes (without_tag (tag_for n) fs)) + (3 + length tree)))
+        (record
         { answer = 20; memory = o })
         (record { answer = 0; memory = store_of (length o) (without_tag (tag_for n) fs ++ (element (tag_for n) tree ∷ [])) }) refl refl
 

@@ -33,9 +33,11 @@ use Rattle.c_encoding.specs.Numbers.{refusal, written, read_given, size_numbers,
 use Rattle.c_encoding.specs.Cuts.{refused_by, splits3_given, written_two, kept_given, lent_given, short_given, splits_given}
 use Rattle.c_encoding.specs.Places.{place_given}
 use Rattle.outcomes.specs.Promises.{Met, Handed, leg_settings, leg_margin, leg_sizes, leg_record, leg_place, leg_splits3, leg_lent, leg_splits, leg_share}
-use Rattle.outcomes.specs.Promises.{of_leg_settings, of_leg_place, of_leg_cut, of_settings, of_tree, of_cut, of_share, of_sizes, of_record, of_leaf, of_sheet, of_place}
+use Rattle.outcomes.specs.Promises.{of_leg_settings, of_leg_place, of_leg_cut, of_settings, of_tree, of_cut, of_share, of_sizes, of_record, of_leaf, of_sheet}
+use Rattle.outcomes.specs.Promises.{of_place}
 use Rattle.outcomes.specs.Promises.{of_places, of_fold, of_plan, of_save, of_forget, of_return, of_blank, settings_number, tree_number, cut_number, kept_number}
-use Rattle.outcomes.specs.Promises.{short_number, share_number, collect_number, record_number, leaf_number, sheet_number, place_number, places_number, fold_number}
+use Rattle.outcomes.specs.Promises.{short_number, share_number, collect_number, record_number, leaf_number, sheet_number, place_number, places_number}
+use Rattle.outcomes.specs.Promises.{fold_number}
 use Rattle.outcomes.specs.Promises.{plan_number, nearest_number, save_number, forget_number, return_number, blank_number}
 
 -- ---- settings
@@ -110,7 +112,8 @@ on s t r = record { settings = s; tree = t; rest = r }
 
 -- refused with 1 to 5; what this unfolds is enough to read every input below
 pub refusals : {R : Type 0} → R → List (Handed R)
-unfolding plain_settings edged_settings empty_cell forbidden crowded deep tall_cell column_of_one bad_trees input_of read_settings read_tree read_element header_of is_text
+unfolding plain_settings edged_settings empty_cell forbidden crowded deep tall_cell column_of_one bad_trees input_of read_settings read_tree read_element
+    header_of is_text
     nodes sep
 refusals r = on [] [] r ∷ map (λ (t : List ℕ). on plain_settings t r) bad_trees
 
@@ -123,7 +126,10 @@ collect_met = record { inputs = on plain_settings empty_cell (no_sizes ∷ []) �
 
 pub record_met : Met record_number of_record
 unfolding refusals leaf_record_of
-record_met = record { inputs = on plain_settings empty_cell 0 ∷ (refusals 0 ++ (on plain_settings tall_cell 0 ∷ on plain_settings empty_cell 1 ∷ [])); each = refl }
+record_met = record {
+  inputs = on plain_settings empty_cell 0 ∷ (refusals 0 ++ (on plain_settings tall_cell 0 ∷ on plain_settings empty_cell 1 ∷ []));
+  each = refl;
+}
 
 pub leaf_met : Met leaf_number of_leaf
 unfolding refusals leaf_print_of
@@ -178,7 +184,10 @@ fold_met = record {
 
 pub nearest_met : Met nearest_number of_sizes
 unfolding refusals nearest_of nearest_list nearest_from tree_needs needs of_number greatest
-nearest_met = record { inputs = on plain_settings empty_cell (0 ∷ [], 0 ∷ []) ∷ (refusals ([], []) ++ (on plain_settings empty_cell ([], []) ∷ [])); each = refl }
+nearest_met = record {
+  inputs = on plain_settings empty_cell (0 ∷ [], 0 ∷ []) ∷ (refusals ([], []) ++ (on plain_settings empty_cell ([], []) ∷ []));
+  each = refl;
+}
 
 pub plan_met : Met plan_number of_plan
 unfolding refusals no_range plan_input whole_in element_in header_in

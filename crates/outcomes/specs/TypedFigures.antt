@@ -19,7 +19,8 @@ texts zero = []
 texts (suc n) = 10 ∷ 32 ∷ 32 ∷ 97 ∷ texts n
 
 pub typed_met : Met typed_number of_typed
-unfolding nested_rows texts typed_of scan_from place_fault one_line_of plain_line without_return spaces same_bytes text_from byte_of lines onto trees_at push bytes_of
+unfolding nested_rows texts typed_of scan_from place_fault one_line_of plain_line without_return spaces same_bytes text_from byte_of lines onto trees_at push
+    bytes_of
 typed_met = record {
   inputs =
       (97 ∷ [], replicate 4 0)
