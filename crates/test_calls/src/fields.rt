@@ -58,24 +58,24 @@ fn later_field(s: Settings, at: usize) -> usize
 }
 
 // Prints one field: whether it is the byte at `at`.
-fn is_field(s: Settings, at: usize, want: &[u8]) -> bool {
+fn is_field(rt: &impl Print, s: Settings, at: usize, want: &[u8]) -> bool {
     if 28 <= at || want.len() <= at {
         return false;
     }
     let found = field(s, at);
-    tell::text(b" ");
-    tell::number(found);
+    tell::text(rt, b" ");
+    tell::number(rt, found);
     found == common::wide(want[at])
 }
 
 // Whether the fields are these 28 bytes.
-pub fn compare(s: Settings, want: &[u8]) {
+pub fn compare(rt: &impl Print, s: Settings, want: &[u8]) {
     let mut right = want.len() == 28;
     let mut at: usize = 0;
     while at < 28 {
-        right = is_field(s, at, want) && right;
+        right = is_field(rt, s, at, want) && right;
         at = at + 1;
     }
-    tell::verdict(right);
-    tell::end();
+    tell::verdict(rt, right);
+    tell::end(rt);
 }

@@ -10,6 +10,7 @@ const BLANK: [u8; 50] = *b"0 by 0, across none, down none, nnnnnnnn, pair 0 0";
 
 // The record of the leaf: its number, the node that it names, and the rest as in `want`; it is printed.
 fn compare_record(
+    rt: &impl Print,
     settings: &[u8],
     tree: &[u8],
     node: usize,
@@ -19,24 +20,24 @@ fn compare_record(
 ) {
     let r = leaf::leaf_record(settings, tree, node);
     let mut found = [compare::MADE_OF; LONGEST];
-    let end = test_records::record(&mut found, r);
-    tell::text(b", number ");
-    tell::number(r.number as usize);
-    tell::text(b": ");
-    tell::part(&found, end);
+    let end = test_records::record(rt, &mut found, r);
+    tell::text(rt, b", number ");
+    tell::number(rt, r.number as usize);
+    tell::text(rt, b": ");
+    tell::part(rt, &found, end);
     let right = r.number as usize == number && r.node == named && end == want.len();
-    tell::verdict(right && compare::holds(&found, want));
-    tell::end();
+    tell::verdict(rt, right && compare::holds(&found, want));
+    tell::end(rt);
 }
 
-pub fn record(settings: &[u8], tree: &[u8], node: usize, want: &[u8]) {
-    tell::node(node);
-    compare_record(settings, tree, node, 0, node, want);
+pub fn record(rt: &impl Print, settings: &[u8], tree: &[u8], node: usize, want: &[u8]) {
+    tell::node(rt, node);
+    compare_record(rt, settings, tree, node, 0, node, want);
 }
 
 // Both calls answer this number.
-pub fn refused(settings: &[u8], tree: &[u8], node: usize, want: &[u8]) {
-    printers::refused(false, settings, tree, node, want);
-    tell::text(b"its record");
-    compare_record(settings, tree, node, contents::number(want), 0, &BLANK);
+pub fn refused(rt: &impl Print, settings: &[u8], tree: &[u8], node: usize, want: &[u8]) {
+    printers::refused(rt, false, settings, tree, node, want);
+    tell::text(rt, b"its record");
+    compare_record(rt, settings, tree, node, contents::number(want), 0, &BLANK);
 }

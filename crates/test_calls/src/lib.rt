@@ -15,18 +15,18 @@ mod readers;
 use test_lines::tell;
 
 // Makes the call of a line: an arm for each kind. `want` is what the line has, after the bytes of `&` lines before it.
-pub fn ask(kind: u8, settings: &[u8], tree: &[u8], node: usize, want: &[u8]) {
+pub fn ask(rt: &impl Print, kind: u8, settings: &[u8], tree: &[u8], node: usize, want: &[u8]) {
     match kind {
-        b'?' => leaves::record(settings, tree, node, want),
-        b'>' => printers::printed(false, settings, tree, node, want),
-        b'!' => leaves::refused(settings, tree, node, want),
-        b'$' => printers::printed(true, settings, tree, node, want),
-        b'%' => printers::refused(true, settings, tree, node, want),
-        b's' => measures::measured(settings, tree, node, want),
-        b'r' => readers::settings(settings, want),
-        b'f' => readers::fields(settings, want),
-        b'd' => readers::defaults(want),
-        b't' => readers::tree(tree, want),
-        _ => tell::unknown(),
+        b'?' => leaves::record(rt, settings, tree, node, want),
+        b'>' => printers::printed(rt, false, settings, tree, node, want),
+        b'!' => leaves::refused(rt, settings, tree, node, want),
+        b'$' => printers::printed(rt, true, settings, tree, node, want),
+        b'%' => printers::refused(rt, true, settings, tree, node, want),
+        b's' => measures::measured(rt, settings, tree, node, want),
+        b'r' => readers::settings(rt, settings, want),
+        b'f' => readers::fields(rt, settings, want),
+        b'd' => readers::defaults(rt, want),
+        b't' => readers::tree(rt, tree, want),
+        _ => tell::unknown(rt),
     }
 }

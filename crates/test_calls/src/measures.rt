@@ -22,14 +22,14 @@ fn entry(settings: &[u8], tree: &[u8], node: usize) -> SizeRecord {
     list[node]
 }
 
-pub fn measured(settings: &[u8], tree: &[u8], node: usize, want: &[u8]) {
+pub fn measured(rt: &impl Print, settings: &[u8], tree: &[u8], node: usize, want: &[u8]) {
     let z = entry(settings, tree, node);
     let mut found = [compare::MADE_OF; LONGEST];
-    let end = test_records::measured(&mut found, z);
-    tell::node(node);
-    tell::text(b": sizes ");
-    tell::part(&found, end);
+    let end = test_records::measured(rt, &mut found, z);
+    tell::node(rt, node);
+    tell::text(rt, b": sizes ");
+    tell::part(rt, &found, end);
     let right = end == want.len();
-    tell::verdict(right && compare::holds(&found, want));
-    tell::end();
+    tell::verdict(rt, right && compare::holds(&found, want));
+    tell::end(rt);
 }

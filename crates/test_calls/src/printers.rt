@@ -24,6 +24,7 @@ fn print(whole: bool, settings: &[u8], tree: &[u8], node: usize, out: &mut [u8])
 
 // One call with this output: the number, the count, and what the output then holds.
 fn answers(
+    rt: &impl Print,
     whole: bool,
     settings: &[u8],
     tree: &[u8],
@@ -34,30 +35,38 @@ fn answers(
 ) -> usize {
     compare::renew(out);
     let w = print(whole, settings, tree, node, out);
-    tell::written(w.number, w.count, out.len());
+    tell::written(rt, w.number, w.count, out.len());
     let right = w.number as usize == number && w.count == want.len();
-    tell::verdict(right && compare::holds(out, want));
+    tell::verdict(rt, right && compare::holds(out, want));
     w.count
 }
 
-fn name(whole: bool, node: usize) {
+fn name(rt: &impl Print, whole: bool, node: usize) {
     if whole {
-        tell::text(b"sheet");
+        tell::text(rt, b"sheet");
     } else {
-        tell::node(node);
+        tell::node(rt, node);
     }
 }
 
 // Prints the bytes written, where they are few.
-fn show(out: &[u8], n: usize) {
-    tell::end();
+fn show(rt: &impl Print, out: &[u8], n: usize) {
+    tell::end(rt);
     if n <= SHORT {
-        tell::part(out, n);
-        tell::end();
+        tell::part(rt, out, n);
+        tell::end(rt);
     }
 }
 
-fn one_short(whole: bool, settings: &[u8], tree: &[u8], node: usize, out: &mut [u8], n: usize) {
+fn one_short(
+    rt: &impl Print,
+    whole: bool,
+    settings: &[u8],
+    tree: &[u8],
+    node: usize,
+    out: &mut [u8],
+    n: usize,
+) {
     if n == 0 {
         return;
     }
@@ -65,6 +74,7 @@ fn one_short(whole: bool, settings: &[u8], tree: &[u8], node: usize, out: &mut [
         return;
     }
     answers(
+        rt,
         whole,
         settings,
         tree,
@@ -75,33 +85,73 @@ fn one_short(whole: bool, settings: &[u8], tree: &[u8], node: usize, out: &mut [
     );
 }
 
-fn printed_in(whole: bool, settings: &[u8], tree: &[u8], node: usize, want: &[u8], out: &mut [u8]) {
+fn printed_in(
+    rt: &impl Print,
+    whole: bool,
+    settings: &[u8],
+    tree: &[u8],
+    node: usize,
+    want: &[u8],
+    out: &mut [u8],
+) {
     let n = want.len();
     let more = n + MORE;
     if out.len() < more {
-        tell::too_long();
+        tell::too_long(rt);
         return;
     }
-    one_short(whole, settings, tree, node, out, n);
-    answers(whole, settings, tree, node, &mut out[0..n], 0, want);
-    let count = answers(whole, settings, tree, node, &mut out[0..more], 0, want);
-    show(out, count);
+    one_short(rt, whole, settings, tree, node, out, n);
+    answers(rt, whole, settings, tree, node, &mut out[0..n], 0, want);
+    let count = answers(rt, whole, settings, tree, node, &mut out[0..more], 0, want);
+    show(rt, out, count);
 }
 
 // The wanted sheet or block.
-pub fn printed(whole: bool, settings: &[u8], tree: &[u8], node: usize, want: &[u8]) {
+pub fn printed(
+    rt: &impl Print,
+    whole: bool,
+    settings: &[u8],
+    tree: &[u8],
+    node: usize,
+    want: &[u8],
+) {
     let mut out = [0u8; ROOM];
-    name(whole, node);
-    printed_in(whole, settings, tree, node, want, &mut out);
+    name(rt, whole, node);
+    printed_in(rt, whole, settings, tree, node, want, &mut out);
 }
 
 // The wanted refusal.
-pub fn refused(whole: bool, settings: &[u8], tree: &[u8], node: usize, want: &[u8]) {
+pub fn refused(
+    rt: &impl Print,
+    whole: bool,
+    settings: &[u8],
+    tree: &[u8],
+    node: usize,
+    want: &[u8],
+) {
     let number = contents::number(want);
     let mut room = [0u8; MUCH];
     let mut none = [0u8; 0];
-    name(whole, node);
-    answers(whole, settings, tree, node, &mut room, number, &tree[0..0]);
-    answers(whole, settings, tree, node, &mut none, number, &tree[0..0]);
-    tell::end();
+    name(rt, whole, node);
+    answers(
+        rt,
+        whole,
+        settings,
+        tree,
+        node,
+        &mut room,
+        number,
+        &tree[0..0],
+    );
+    answers(
+        rt,
+        whole,
+        settings,
+        tree,
+        node,
+        &mut none,
+        number,
+        &tree[0..0],
+    );
+    tell::end(rt);
 }

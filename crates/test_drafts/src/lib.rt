@@ -8,12 +8,12 @@ mod stores;
 use test_lines::tell;
 
 // Makes the call of a line and compares the answer.
-pub fn ask(kind: u8, store: &mut [u8], tree: &[u8], want: &[u8]) {
+pub fn ask(rt: &impl Print, kind: u8, store: &mut [u8], tree: &[u8], want: &[u8]) {
     match kind {
-        b's' => stores::save(store, tree, want),
-        b'f' => stores::forget(store, want),
-        b'r' => stores::give_back(store, want),
-        b'b' => papers::blanked(tree, want),
-        _ => tell::unknown(),
+        b's' => stores::save(rt, store, tree, want),
+        b'f' => stores::forget(rt, store, want),
+        b'r' => stores::give_back(rt, store, want),
+        b'b' => papers::blanked(rt, tree, want),
+        _ => tell::unknown(rt),
     }
 }

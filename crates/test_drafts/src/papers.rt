@@ -18,40 +18,40 @@ fn put_nodes(want: &[u8], nodes: &mut [u16]) {
 }
 
 // Compares the answer and the whole output with the line.
-fn judge(r: Blanked, named: usize, out: &[u8], want: &[u8]) {
-    tell::text(b"blank ");
-    tell::number(named);
-    tell::text(b", lent ");
-    tell::number(out.len());
+fn judge(rt: &impl Print, r: Blanked, named: usize, out: &[u8], want: &[u8]) {
+    tell::text(rt, b"blank ");
+    tell::number(rt, named);
+    tell::text(rt, b", lent ");
+    tell::number(rt, out.len());
     let middle = contents::field(want, 1);
-    let number = is_nth(b": number ", r.number as usize, &want[middle..], 0);
-    let count = is_nth(b", bytes ", r.count, &want[middle..], 1);
+    let number = is_nth(rt, b": number ", r.number as usize, &want[middle..], 0);
+    let count = is_nth(rt, b", bytes ", r.count, &want[middle..], 1);
     let from = contents::field(want, 2);
     let size = r.count == want.len() - from;
     let bytes = compare::holds(out, &want[from..]);
-    tell::verdict(number && count && size && bytes);
-    tell::end();
+    tell::verdict(rt, number && count && size && bytes);
+    tell::end(rt);
 }
 
 // The call with these nodes and an output of that length.
-fn ask(tree: &[u8], want: &[u8], nodes: &mut [u16], out: &mut [u8]) {
+fn ask(rt: &impl Print, tree: &[u8], want: &[u8], nodes: &mut [u16], out: &mut [u8]) {
     put_nodes(want, nodes);
     let r = blank::blank_texts(tree, nodes, out);
-    judge(r, nodes.len(), out, want);
+    judge(rt, r, nodes.len(), out, want);
 }
 
-fn ask_in(tree: &[u8], want: &[u8], nodes: &mut [u16], out: &mut [u8]) {
+fn ask_in(rt: &impl Print, tree: &[u8], want: &[u8], nodes: &mut [u16], out: &mut [u8]) {
     let room = contents::nth(want, 0);
     let n = common::saturating_dec(contents::numbers(want));
     if out.len() < room || nodes.len() < n {
-        tell::too_long();
+        tell::too_long(rt);
         return;
     }
-    ask(tree, want, &mut nodes[0..n], &mut out[0..room]);
+    ask(rt, tree, want, &mut nodes[0..n], &mut out[0..room]);
 }
 
-pub fn blanked(tree: &[u8], want: &[u8]) {
+pub fn blanked(rt: &impl Print, tree: &[u8], want: &[u8]) {
     let mut nodes = [0u16; MOST];
     let mut out = [compare::MADE_OF; LONGEST];
-    ask_in(tree, want, &mut nodes, &mut out);
+    ask_in(rt, tree, want, &mut nodes, &mut out);
 }

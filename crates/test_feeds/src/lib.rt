@@ -9,11 +9,11 @@ mod slices;
 use test_lines::{contents, tell};
 
 // Makes the call of a line; `want` is its contents.
-pub fn ask(kind: u8, slice: &mut [u8], want: &[u8]) {
+pub fn ask(rt: &impl Print, kind: u8, slice: &mut [u8], want: &[u8]) {
     match kind {
-        b'c' => slices::counted(slice, contents::number(want), contents::second(want)),
-        b'e' => slices::each_length(contents::number(want), contents::second(want)),
-        b'v' => slices::values(slice, contents::number(want)),
-        _ => tell::unknown(),
+        b'c' => slices::counted(rt, slice, contents::number(want), contents::second(want)),
+        b'e' => slices::each_length(rt, contents::number(want), contents::second(want)),
+        b'v' => slices::values(rt, slice, contents::number(want)),
+        _ => tell::unknown(rt),
     }
 }

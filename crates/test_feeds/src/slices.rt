@@ -47,15 +47,15 @@ fn holds(s: &[u8]) -> bool {
 }
 
 // Compares a slice's line feeds and its longest line with the numbers of the line.
-pub fn counted(s: &[u8], count: usize, longest: usize) {
+pub fn counted(rt: &impl Print, s: &[u8], count: usize, longest: usize) {
     let c = text::count_feeds(s);
-    tell::number(s.len());
-    tell::text(b" bytes: ");
-    tell::number(c.feeds);
-    tell::text(b" feeds, longest ");
-    tell::number(c.longest);
-    tell::verdict(c.feeds == count && c.longest == longest);
-    tell::end();
+    tell::number(rt, s.len());
+    tell::text(rt, b" bytes: ");
+    tell::number(rt, c.feeds);
+    tell::text(rt, b" feeds, longest ");
+    tell::number(rt, c.longest);
+    tell::verdict(rt, c.feeds == count && c.longest == longest);
+    tell::end(rt);
 }
 
 // How many of the slices are right: one without a line feed, and one with it at each place.
@@ -78,7 +78,7 @@ fn places(s: &mut [u8]) -> usize {
 }
 
 // All slices of the lengths `first` to `last`: of each length one more than it has bytes.
-fn lengths(room: &mut [u8], first: usize, last: usize) {
+fn lengths(rt: &impl Print, room: &mut [u8], first: usize, last: usize) {
     let mut all: usize = 0;
     let mut right: usize = 0;
     let end = contents::within(last, room);
@@ -88,22 +88,22 @@ fn lengths(room: &mut [u8], first: usize, last: usize) {
         right = std::num::wrapping_add_usize(right, places(&mut room[0..n]));
         n = n + 1;
     }
-    told(right, all);
+    told(rt, right, all);
 }
 
 // The same, in its own bytes.
-pub fn each_length(first: usize, last: usize) {
+pub fn each_length(rt: &impl Print, first: usize, last: usize) {
     let mut room = [0u8; LONGEST];
-    lengths(&mut room, first, last);
+    lengths(rt, &mut room, first, last);
 }
 
-fn told(right: usize, all: usize) {
-    tell::number(right);
-    tell::text(b" of ");
-    tell::number(all);
-    tell::text(b" slices");
-    tell::verdict(right == all);
-    tell::end();
+fn told(rt: &impl Print, right: usize, all: usize) {
+    tell::number(rt, right);
+    tell::text(rt, b" of ");
+    tell::number(rt, all);
+    tell::text(rt, b" slices");
+    tell::verdict(rt, right == all);
+    tell::end(rt);
 }
 
 // How many of the 256 slices with another byte at `at` are right; the byte is restored.
@@ -126,7 +126,7 @@ fn each_value(s: &mut [u8], at: usize) -> usize {
 }
 
 // Each byte value at each of the eight places from `at` on.
-pub fn values(s: &mut [u8], at: usize) {
+pub fn values(rt: &impl Print, s: &mut [u8], at: usize) {
     let mut right: usize = 0;
     let mut k: usize = 0;
     while k < 8 {
@@ -134,5 +134,5 @@ pub fn values(s: &mut [u8], at: usize) {
         right = std::num::wrapping_add_usize(right, r);
         k = k + 1;
     }
-    told(right, 2048);
+    told(rt, right, 2048);
 }

@@ -68,41 +68,63 @@ fn hold(s: &[u8], n: usize, answers: &[u64]) -> bool {
 }
 
 // Makes the call with these places and that much room, and compares its answer with the line.
-fn compare(settings: &[u8], tree: &[u8], places: &[u64], answers: &mut [u64], want: &[u8]) {
+fn compare(
+    rt: &impl Print,
+    settings: &[u8],
+    tree: &[u8],
+    places: &[u64],
+    answers: &mut [u64],
+    want: &[u8],
+) {
     let r = places::find_places(settings, tree, places, answers);
-    tell::number(places.len());
-    tell::text(b" places: number ");
-    tell::number(r.number as usize);
-    tell::text(b", answers ");
-    tell::number(r.count);
-    tell::text(b", elements read ");
-    tell::number(r.steps);
+    tell::number(rt, places.len());
+    tell::text(rt, b" places: number ");
+    tell::number(rt, r.number as usize);
+    tell::text(rt, b", answers ");
+    tell::number(rt, r.count);
+    tell::text(rt, b", elements read ");
+    tell::number(rt, r.steps);
     let mut n = places.len();
     if r.number != 0 {
         n = 0;
     }
     let told = r.number as usize == contents::nth(want, 2) && r.steps == contents::nth(want, 3);
     let from = contents::field(want, 3);
-    tell::verdict(told && r.count == n && hold(&want[from..], n, answers));
-    tell::end();
+    tell::verdict(rt, told && r.count == n && hold(&want[from..], n, answers));
+    tell::end(rt);
 }
 
 // As many places and as much room as the line says.
-fn ask(settings: &[u8], tree: &[u8], want: &[u8], places: &mut [u64], answers: &mut [u64]) {
+fn ask(
+    rt: &impl Print,
+    settings: &[u8],
+    tree: &[u8],
+    want: &[u8],
+    places: &mut [u64],
+    answers: &mut [u64],
+) {
     let from = contents::field(want, 2);
     put_places(&want[from..], places);
-    compare(settings, tree, places, answers, want);
+    compare(rt, settings, tree, places, answers, want);
 }
 
 // Answers the line's places together, in these buffers.
-fn marked_in(settings: &[u8], tree: &[u8], want: &[u8], places: &mut [u64], answers: &mut [u64]) {
+fn marked_in(
+    rt: &impl Print,
+    settings: &[u8],
+    tree: &[u8],
+    want: &[u8],
+    places: &mut [u64],
+    answers: &mut [u64],
+) {
     let room = contents::nth(want, 0);
     let count = contents::nth(want, 1);
     if answers.len() < room || places.len() < count {
-        tell::too_long();
+        tell::too_long(rt);
         return;
     }
     ask(
+        rt,
         settings,
         tree,
         want,
@@ -111,8 +133,8 @@ fn marked_in(settings: &[u8], tree: &[u8], want: &[u8], places: &mut [u64], answ
     );
 }
 
-pub fn marked(settings: &[u8], tree: &[u8], want: &[u8]) {
+pub fn marked(rt: &impl Print, settings: &[u8], tree: &[u8], want: &[u8]) {
     let mut places = [0u64; MOST];
     let mut answers = [BEFORE; MOST];
-    marked_in(settings, tree, want, &mut places, &mut answers);
+    marked_in(rt, settings, tree, want, &mut places, &mut answers);
 }

@@ -9,35 +9,35 @@ use test_lines::{compare, tell};
 const SHORT: usize = 200;
 
 // The n bytes of output, and past them the bytes from before.
-fn judge(bytes: usize, n: usize, out: &[u8], want: &[u8]) {
-    tell::number(bytes);
-    tell::text(b" bytes of input, ");
-    tell::number(n);
-    tell::text(b" of output");
-    tell::verdict(n == want.len() && compare::holds(out, want));
-    tell::end();
+fn judge(rt: &impl Print, bytes: usize, n: usize, out: &[u8], want: &[u8]) {
+    tell::number(rt, bytes);
+    tell::text(rt, b" bytes of input, ");
+    tell::number(rt, n);
+    tell::text(rt, b" of output");
+    tell::verdict(rt, n == want.len() && compare::holds(out, want));
+    tell::end(rt);
     if n <= SHORT {
-        tell::part(out, n);
+        tell::part(rt, out, n);
     }
 }
 
-fn answered(input: &[u8], want: &[u8]) {
+fn answered(rt: &impl Print, input: &[u8], want: &[u8]) {
     let mut out = [compare::MADE_OF; program::ANSWER_BYTES];
     let n = program::leg_sheet::answer(input, &mut out);
-    judge(input.len(), n, &out, want);
+    judge(rt, input.len(), n, &out, want);
 }
 
-fn typed(text: &[u8], want: &[u8]) {
+fn typed(rt: &impl Print, text: &[u8], want: &[u8]) {
     let mut out = [compare::MADE_OF; program::ANSWER_BYTES];
     let n = program::typed_sheet::answer_typed(text, &mut out);
-    judge(text.len(), n, &out, want);
+    judge(rt, text.len(), n, &out, want);
 }
 
 // Makes the call of a line.
-pub fn ask(kind: u8, input: &[u8], want: &[u8]) {
+pub fn ask(rt: &impl Print, kind: u8, input: &[u8], want: &[u8]) {
     match kind {
-        b'a' => answered(input, want),
-        b'y' => typed(input, want),
-        _ => tell::unknown(),
+        b'a' => answered(rt, input, want),
+        b'y' => typed(rt, input, want),
+        _ => tell::unknown(rt),
     }
 }

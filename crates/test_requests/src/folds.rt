@@ -26,41 +26,41 @@ fn hold(s: &[u8], n: usize, columns: &[u16]) -> bool {
 }
 
 // Compares the answer and the list with the line.
-fn judge(want: &[u8], r: Folded, columns: &[u16]) {
-    let number = is_nth(b": number ", r.number as usize, want, 3);
-    let count = is_nth(b", Columns ", r.columns, want, 4);
-    let height = is_nth(b", height ", r.height, want, 5);
-    let tries = is_nth(b", tries ", r.tries, want, 6);
-    let miss = is_nth(b", miss ", r.miss, want, 7);
+fn judge(rt: &impl Print, want: &[u8], r: Folded, columns: &[u16]) {
+    let number = is_nth(rt, b": number ", r.number as usize, want, 3);
+    let count = is_nth(rt, b", Columns ", r.columns, want, 4);
+    let height = is_nth(rt, b", height ", r.height, want, 5);
+    let tries = is_nth(rt, b", tries ", r.tries, want, 6);
+    let miss = is_nth(rt, b", miss ", r.miss, want, 7);
     let from = contents::field(want, 2);
     let listed = hold(&want[from..], r.columns, columns);
-    tell::verdict(number && count && height && tries && miss && listed);
-    tell::end();
+    tell::verdict(rt, number && count && height && tries && miss && listed);
+    tell::end(rt);
 }
 
 // The call with a list of that length.
-fn compare(settings: &[u8], tree: &[u8], want: &[u8], columns: &mut [u16]) {
+fn compare(rt: &impl Print, settings: &[u8], tree: &[u8], want: &[u8], columns: &mut [u16]) {
     let width = contents::nth(want, 1);
     let budget = contents::nth(want, 2);
-    tell::text(b"width ");
-    tell::number(width);
-    tell::text(b", budget ");
-    tell::number(budget);
+    tell::text(rt, b"width ");
+    tell::number(rt, width);
+    tell::text(rt, b", budget ");
+    tell::number(rt, budget);
     let r = fold::fold_list(settings, tree, width, budget, columns);
-    judge(want, r, columns);
+    judge(rt, want, r, columns);
 }
 
 // Folds the line's list, in this buffer.
-fn fold_in(settings: &[u8], tree: &[u8], want: &[u8], columns: &mut [u16]) {
+fn fold_in(rt: &impl Print, settings: &[u8], tree: &[u8], want: &[u8], columns: &mut [u16]) {
     let room = contents::nth(want, 0);
     if columns.len() < room {
-        tell::too_long();
+        tell::too_long(rt);
         return;
     }
-    compare(settings, tree, want, &mut columns[0..room]);
+    compare(rt, settings, tree, want, &mut columns[0..room]);
 }
 
-pub fn fold(settings: &[u8], tree: &[u8], want: &[u8]) {
+pub fn fold(rt: &impl Print, settings: &[u8], tree: &[u8], want: &[u8]) {
     let mut columns = [BEFORE; MOST];
-    fold_in(settings, tree, want, &mut columns);
+    fold_in(rt, settings, tree, want, &mut columns);
 }

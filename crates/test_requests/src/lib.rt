@@ -9,11 +9,11 @@ mod plans;
 use test_lines::tell;
 
 // Makes the call of a line and compares the answer.
-pub fn ask(kind: u8, settings: &[u8], tree: &[u8], want: &[u8]) {
+pub fn ask(rt: &impl Print, kind: u8, settings: &[u8], tree: &[u8], want: &[u8]) {
     match kind {
-        b'c' => folds::fold(settings, tree, want),
-        b'e' => plans::plan(settings, tree, want),
-        b'n' => nearest::seek(settings, tree, want),
-        _ => tell::unknown(),
+        b'c' => folds::fold(rt, settings, tree, want),
+        b'e' => plans::plan(rt, settings, tree, want),
+        b'n' => nearest::seek(rt, settings, tree, want),
+        _ => tell::unknown(rt),
     }
 }

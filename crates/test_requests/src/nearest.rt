@@ -46,38 +46,59 @@ fn letters_hold(s: &[u8], n: usize, letters: &[u32]) -> bool {
 }
 
 // Compares the answer and both lists with the line.
-fn judge(want: &[u8], r: Widened, nodes: &[u16], letters: &[u32]) {
-    tell::number(nodes.len());
-    tell::text(b" and ");
-    tell::number(letters.len());
-    let number = is_nth(b" lent: number ", r.number as usize, want, 2);
-    let count = is_nth(b", Cells ", r.count, want, 3);
+fn judge(rt: &impl Print, want: &[u8], r: Widened, nodes: &[u16], letters: &[u32]) {
+    tell::number(rt, nodes.len());
+    tell::text(rt, b" and ");
+    tell::number(rt, letters.len());
+    let number = is_nth(rt, b" lent: number ", r.number as usize, want, 2);
+    let count = is_nth(rt, b", Cells ", r.count, want, 3);
     let from = contents::field(want, 2);
     let first = nodes_hold(&want[from..], r.count, nodes);
     let second = letters_hold(&want[from..], r.count, letters);
-    tell::verdict(number && count && first && second);
-    tell::end();
+    tell::verdict(rt, number && count && first && second);
+    tell::end(rt);
 }
 
 // The call with lists of that length.
-fn compare(settings: &[u8], tree: &[u8], want: &[u8], nodes: &mut [u16], letters: &mut [u32]) {
+fn compare(
+    rt: &impl Print,
+    settings: &[u8],
+    tree: &[u8],
+    want: &[u8],
+    nodes: &mut [u16],
+    letters: &mut [u32],
+) {
     let r = widen::nearest_cells(settings, tree, nodes, letters);
-    judge(want, r, nodes, letters);
+    judge(rt, want, r, nodes, letters);
 }
 
 // The call for the line's tree, in these buffers.
-fn seek_in(settings: &[u8], tree: &[u8], want: &[u8], nodes: &mut [u16], letters: &mut [u32]) {
+fn seek_in(
+    rt: &impl Print,
+    settings: &[u8],
+    tree: &[u8],
+    want: &[u8],
+    nodes: &mut [u16],
+    letters: &mut [u32],
+) {
     let n = contents::nth(want, 0);
     let l = contents::nth(want, 1);
     if nodes.len() < n || letters.len() < l {
-        tell::too_long();
+        tell::too_long(rt);
         return;
     }
-    compare(settings, tree, want, &mut nodes[0..n], &mut letters[0..l]);
+    compare(
+        rt,
+        settings,
+        tree,
+        want,
+        &mut nodes[0..n],
+        &mut letters[0..l],
+    );
 }
 
-pub fn seek(settings: &[u8], tree: &[u8], want: &[u8]) {
+pub fn seek(rt: &impl Print, settings: &[u8], tree: &[u8], want: &[u8]) {
     let mut nodes = [BEFORE; MOST];
     let mut letters = [BEFORE as u32; MOST];
-    seek_in(settings, tree, want, &mut nodes, &mut letters);
+    seek_in(rt, settings, tree, want, &mut nodes, &mut letters);
 }

@@ -11,11 +11,11 @@ mod shares;
 use test_lines::{contents, tell};
 
 // Makes the call of a line; `want` is its contents.
-pub fn ask(kind: u8, settings: &[u8], tree: &[u8], want: &[u8]) {
+pub fn ask(rt: &impl Print, kind: u8, settings: &[u8], tree: &[u8], want: &[u8]) {
     match kind {
-        b'l' => lists::lend(settings, tree, contents::number(want)),
-        b's' => shares::among(settings, contents::number(want), contents::second(want)),
+        b'l' => lists::lend(rt, settings, tree, contents::number(want)),
+        b's' => shares::among(rt, settings, contents::number(want), contents::second(want)),
         b'-' => {}
-        _ => tell::unknown(),
+        _ => tell::unknown(rt),
     }
 }

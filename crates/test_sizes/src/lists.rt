@@ -30,53 +30,53 @@ fn same(a: SizeRecord, b: SizeRecord) -> bool {
 }
 
 // A number and a space.
-fn next(n: u16) {
-    tell::number(common::wide16(n));
-    tell::text(b" ");
+fn next(rt: &impl Print, n: u16) {
+    tell::number(rt, common::wide16(n));
+    tell::text(rt, b" ");
 }
 
 // Entries `first` to `last`: natural width and height, allotted width and height, nodes below.
-fn show(first: usize, last: usize, z: SizeRecord) {
-    tell::number(first);
+fn show(rt: &impl Print, first: usize, last: usize, z: SizeRecord) {
+    tell::number(rt, first);
     if first < last {
-        tell::text(b" to ");
-        tell::number(last);
+        tell::text(rt, b" to ");
+        tell::number(rt, last);
     }
-    tell::text(b": ");
-    next(z.natural_width);
-    next(z.natural_height);
-    next(z.width);
-    next(z.height);
-    tell::number(common::wide16(z.below));
-    tell::end();
+    tell::text(rt, b": ");
+    next(rt, z.natural_width);
+    next(rt, z.natural_height);
+    next(rt, z.width);
+    next(rt, z.height);
+    tell::number(rt, common::wide16(z.below));
+    tell::end(rt);
 }
 
-fn show_runs(list: [SizeRecord; 512]) {
+fn show_runs(rt: &impl Print, list: [SizeRecord; 512]) {
     let mut first: usize = 0;
     let mut run = list[0];
     let mut i: usize = 1;
     while i < 512 {
         let z = list[i];
         if !same(z, run) {
-            show(first, i - 1, run);
+            show(rt, first, i - 1, run);
             first = i;
             run = z;
         }
         i = i + 1;
     }
-    show(first, 511, run);
+    show(rt, first, 511, run);
 }
 
-pub fn lend(settings: &[u8], tree: &[u8], room: usize) {
+pub fn lend(rt: &impl Print, settings: &[u8], tree: &[u8], room: usize) {
     let z = made_of();
     let before = [z; 512];
     let r = collector::collect_in(settings, tree, before, room);
-    tell::number(room);
-    tell::text(b" lent: number ");
-    tell::number(common::wide(r.answer.number));
-    tell::text(b", count ");
-    tell::number(r.answer.count);
-    tell::end();
+    tell::number(rt, room);
+    tell::text(rt, b" lent: number ");
+    tell::number(rt, common::wide(r.answer.number));
+    tell::text(rt, b", count ");
+    tell::number(rt, r.answer.count);
+    tell::end(rt);
     let list = r.list;
-    show_runs(list);
+    show_runs(rt, list);
 }

@@ -11,23 +11,23 @@ fn same(a: Shared, b: Shared) -> bool {
 }
 
 // Children `first` to `last`: the part, or the refusal.
-fn show(first: usize, last: usize, z: Shared) {
-    tell::number(first);
+fn show(rt: &impl Print, first: usize, last: usize, z: Shared) {
+    tell::number(rt, first);
     if first < last {
-        tell::text(b" to ");
-        tell::number(last);
+        tell::text(rt, b" to ");
+        tell::number(rt, last);
     }
-    tell::text(b": ");
+    tell::text(rt, b": ");
     if z.number != 0 {
-        tell::text(b"refused ");
-        tell::number(common::wide(z.number));
-        tell::text(b", part ");
+        tell::text(rt, b"refused ");
+        tell::number(rt, common::wide(z.number));
+        tell::text(rt, b", part ");
     }
-    tell::number(z.part);
-    tell::end();
+    tell::number(rt, z.part);
+    tell::end(rt);
 }
 
-fn show_runs(spare: usize, n: usize, p: Priority) {
+fn show_runs(rt: &impl Print, spare: usize, n: usize, p: Priority) {
     let mut first: usize = 0;
     let mut run = sharing::share(spare, n, p, 0);
     let mut i: usize = 0;
@@ -35,17 +35,17 @@ fn show_runs(spare: usize, n: usize, p: Priority) {
         i = i + 1;
         let z = sharing::share(spare, n, p, i);
         if !same(z, run) {
-            show(first, i - 1, run);
+            show(rt, first, i - 1, run);
             first = i;
             run = z;
         }
     }
-    show(first, n, run);
+    show(rt, first, n, run);
 }
 
 // `spare` among `n`, by the width priority of the settings.
-pub fn among(settings: &[u8], spare: usize, n: usize) {
+pub fn among(rt: &impl Print, settings: &[u8], spare: usize, n: usize) {
     let s = settings::read_settings(settings);
     let p = s.settings.priority(true);
-    show_runs(spare, n, p);
+    show_runs(rt, spare, n, p);
 }

@@ -12,21 +12,21 @@ mod lists;
 use test_lines::tell;
 
 // The name of a case's call.
-fn name(kind: u8) {
+fn name(rt: &impl Print, kind: u8) {
     match kind {
-        b'c' => tell::text(b"cut "),
-        b'v' => tell::text(b"value "),
-        b'l' => tell::text(b"lent "),
-        b's' => tell::text(b"short "),
-        b'j' => tell::text(b"join "),
-        _ => tell::text(b"unknown kind of line: "),
+        b'c' => tell::text(rt, b"cut "),
+        b'v' => tell::text(rt, b"value "),
+        b'l' => tell::text(rt, b"lent "),
+        b's' => tell::text(rt, b"short "),
+        b'j' => tell::text(rt, b"join "),
+        _ => tell::text(rt, b"unknown kind of line: "),
     }
 }
 
 // Makes the call of a line.
-pub fn ask(kind: u8, case: &[u8]) {
-    name(kind);
-    tell::text(case);
-    tell::verdict(cases::holds(kind, case));
-    tell::end();
+pub fn ask(rt: &impl Print, kind: u8, case: &[u8]) {
+    name(rt, kind);
+    tell::text(rt, case);
+    tell::verdict(rt, cases::holds(kind, case));
+    tell::end(rt);
 }

@@ -15,75 +15,75 @@ fn digit(n: u8) -> u8 {
     if d < 10 { d + 48 } else { d + 87 }
 }
 
-fn show_byte(b: u8) {
+fn show_byte(rt: &impl Print, b: u8) {
     if 31 < b {
         if b < 127 {
             if b != b'\\' {
-                tell::text(&[b]);
+                tell::text(rt, &[b]);
                 return;
             }
         }
     }
-    tell::text(&[b'\\', digit(b / 16), digit(b)]);
+    tell::text(rt, &[b'\\', digit(b / 16), digit(b)]);
 }
 
-fn show(s: &[u8]) {
+fn show(rt: &impl Print, s: &[u8]) {
     let mut i: usize = 0;
     while i < s.len() {
-        show_byte(s[i]);
+        show_byte(rt, s[i]);
         i = i + 1;
     }
 }
 
-fn answer(r: Typed) {
-    tell::number(r.number as usize);
+fn answer(rt: &impl Print, r: Typed) {
+    tell::number(rt, r.number as usize);
     if r.number == 0 {
-        tell::text(b", bytes ");
-        tell::number(r.count);
+        tell::text(rt, b", bytes ");
+        tell::number(rt, r.count);
         return;
     }
-    tell::text(b", line ");
-    tell::number(r.line);
-    tell::text(b", column ");
-    tell::number(r.column);
+    tell::text(rt, b", line ");
+    tell::number(rt, r.line);
+    tell::text(rt, b", column ");
+    tell::number(rt, r.column);
 }
 
 // What was written.
-fn written(bytes: &[u8]) {
+fn written(rt: &impl Print, bytes: &[u8]) {
     if bytes.len() == 0 {
         return;
     }
     let t = tree::read_tree(bytes);
-    tell::text(b", nodes ");
-    tell::number(t.nodes);
+    tell::text(rt, b", nodes ");
+    tell::number(rt, t.nodes);
     if bytes.len() <= 120 {
-        tell::text(b": ");
-        show(bytes);
+        tell::text(rt, b": ");
+        show(rt, bytes);
     }
 }
 
-fn call(text: &[u8], out: &mut [u8]) {
+fn call(rt: &impl Print, text: &[u8], out: &mut [u8]) {
     compare::renew(out);
     let r = typed::read_typed(text, out);
-    answer(r);
+    answer(rt, r);
     let n = contents::within(r.count, out);
-    tell::verdict(compare::holds(&out[n..], b""));
-    written(&out[0..n]);
-    tell::end();
+    tell::verdict(rt, compare::holds(&out[n..], b""));
+    written(rt, &out[0..n]);
+    tell::end(rt);
 }
 
 // The call with that many bytes lent, or with as many as there are.
-fn lend(text: &[u8], room: usize, out: &mut [u8]) {
+fn lend(rt: &impl Print, text: &[u8], room: usize, out: &mut [u8]) {
     let n = contents::within(room, out);
-    call(text, &mut out[0..n]);
+    call(rt, text, &mut out[0..n]);
 }
 
 // Makes the call of a line; `want` is its contents.
-pub fn ask(kind: u8, text: &[u8], want: &[u8]) {
+pub fn ask(rt: &impl Print, kind: u8, text: &[u8], want: &[u8]) {
     if kind != b't' {
-        tell::unknown();
+        tell::unknown(rt);
         return;
     }
     let mut out = [0u8; MOST];
-    lend(text, contents::number(want), &mut out);
+    lend(rt, text, contents::number(want), &mut out);
 }
