@@ -6,7 +6,7 @@ use Rattle.sizes.specs.Input.{Input, refused, given, input_of}
 use Rattle.frame.specs.Frame.{too_large}
 use Rattle.sheet.specs.Sheet.{sheet}
 
--- `refused `, the number and 0A. Every number that the program prints is under 10 (`Refused`, specs/Contracts.antt): one decimal digit
+-- `refused `, the number and 0A. Every number that the program prints is under 10 (`Refused`, specs/Clauses.antt): one decimal digit
 abbrev pub refused_text : ℕ → List ℕ
 refused_text k = 114 ∷ 101 ∷ 102 ∷ 117 ∷ 115 ∷ 101 ∷ 100 ∷ 32 ∷ (48 + k) ∷ 10 ∷ []
 

@@ -17,13 +17,13 @@ long c = let a = c.args in
     size_list_length (input_of a.settings.now a.tree.now) _ _ c.check_sheet-m.ensures.list ∙ length-replicate {A = ℕ} 2048 0
 
 -- what is known of the sheet and the places once they were tested
-sheet-at : (c : After-first_fault-k) → let a = c.args in let d = c.check_sheet-m in Checked a.settings.now a.tree.now d.result d.new.list
-sheet-at c =
+sheet_at : (c : After-first_fault-k) → let a = c.args in let d = c.check_sheet-m in Checked a.settings.now a.tree.now d.result d.new.list
+sheet_at c =
     let d = c.check_sheet-m in
     checked _ _ _ _ _ (length-replicate {A = ℕ} 2048 0) d.ensures.value d.ensures.list c.if-m-ne0.false
 
-few-at : (c : After-first_fault-k) → length c.args.places.now ≤ 256
-few-at c = omega (arith, c.if-n-gt256.false)
+few_at : (c : After-first_fault-k) → length c.args.places.now ≤ 256
+few_at c = omega (arith, c.if-n-gt256.false)
 
 room_at : (c : Else-answers-n) → let a = c.args in length a.places.now ≤ length a.answers.now
 room_at c = omega (arith, c.if-answers-n.false)
@@ -54,14 +54,14 @@ pub returns-then-k-ne0 : goal.returns-then-k-ne0
 returns-then-k-ne0 c =
     let k = (goal.at.returns-then-k-ne0 c).After-first_fault-k in
     let both = refusing _ _ _ _ c.no_places-then-k-ne0.ensures
-    (finds_fault (sheet-at k) _ _ (few-at k) _ c.natural_at-root.ensures.value _ c.frame_of-f.ensures _ c.first_fault-k.ensures c.if-k-ne0.true) in
+    (finds_fault (sheet_at k) _ _ (few_at k) _ c.natural_at-root.ensures.value _ c.frame_of-f.ensures _ c.first_fault-k.ensures c.if-k-ne0.true) in
     record { value = both.0; listed = both.1 }
 
 pub returns-then-answers-n : goal.returns-then-answers-n
 returns-then-answers-n c =
     let k = (goal.at.returns-then-answers-n c).After-first_fault-k in
     let both = refusing _ _ _ _ c.no_places-then-answers-n.ensures
-    (finds_short (sheet-at k) _ _ (few-at k) _ c.natural_at-root.ensures.value _ c.frame_of-f.ensures _ c.first_fault-k.ensures c.if-k-ne0.false
+    (finds_short (sheet_at k) _ _ (few_at k) _ c.natural_at-root.ensures.value _ c.frame_of-f.ensures _ c.first_fault-k.ensures c.if-k-ne0.false
     c.if-answers-n.true) in
     record { value = both.0; listed = both.1 }
 
@@ -71,15 +71,15 @@ slice_bounds-locate_tree-end-2 c = sym (lent_at (goal.at.slice_bounds-locate_tre
 pub locate_tree-steps-requires : goal.locate_tree-steps-requires
 locate_tree-steps-requires c =
     let p = goal.at.locate_tree-steps-requires c in
-    tree_asks (sheet-at p.After-first_fault-k) _ _ (lent_at p.Else-answers-n)
+    tree_asks (sheet_at p.After-first_fault-k) _ _ (lent_at p.Else-answers-n)
 
 pub returns : goal.returns
 returns c =
     let p = goal.at.returns c in
-    let q = sheet-at p.After-first_fault-k in
+    let q = sheet_at p.After-first_fault-k in
     let a = c.args in
     let l = lent_at p.Else-answers-n in
-    let w = finds_whole q a.places.now a.answers.now (few-at p.After-first_fault-k) _ c.natural_at-root.ensures.value _ c.frame_of-f.ensures _
+    let w = finds_whole q a.places.now a.answers.now (few_at p.After-first_fault-k) _ c.natural_at-root.ensures.value _ c.frame_of-f.ensures _
     c.first_fault-k.ensures c.if-k-ne0.false (room_at p.Else-answers-n) _ _ _ l
     (tree_walked q l (c.locate_tree-steps.ensures (tree_asks q _ _ l))) in
     record { value = rw w; listed = rw w }

@@ -15,13 +15,13 @@ long c = let a = c.args in size_list_length (input_of a.settings.now a.tree.now)
     ∙ length-replicate {A = ℕ} 2048 0
 
 -- what is known of the sheet once the place was tested
-sheet-at : (c : After-fault_of-n) → let a = c.args in let d = c.check_sheet-m in Checked a.settings.now a.tree.now d.result d.new.list
-sheet-at c =
+sheet_at : (c : After-fault_of-n) → let a = c.args in let d = c.check_sheet-m in Checked a.settings.now a.tree.now d.result d.new.list
+sheet_at c =
     let d = c.check_sheet-m in
     checked _ _ _ _ _ (length-replicate {A = ℕ} 2048 0) d.ensures.value d.ensures.list c.if-m-ne0.false
 
-low-at : (c : Else-n-ne0) → let a = c.args in (a.line < 160) × (a.column < 400)
-low-at c =
+low_at : (c : Else-n-ne0) → let a = c.args in (a.line < 160) × (a.column < 400)
+low_at c =
     let d = c.check_sheet-m in
     place_low (checked _ _ _ _ _ (length-replicate {A = ℕ} 2048 0) d.ensures.value d.ensures.list c.if-m-ne0.false) _ c.natural_at-root.ensures.value _
     c.frame_of-f.ensures _ _ _ c.fault_of-n.ensures c.if-n-ne0.false
@@ -38,20 +38,20 @@ natural_at-root-requires c = omega (arith, long (goal.at.natural_at-root-require
 pub returns-then-n-ne0 : goal.returns-then-n-ne0
 returns-then-n-ne0 c = c.no_leaf_place-then-n-ne0.ensures
     ∙ sym
-    (place_fault (sheet-at (goal.at.returns-then-n-ne0 c).After-fault_of-n) _ c.natural_at-root.ensures.value _ c.frame_of-f.ensures _ _ _
+    (place_fault (sheet_at (goal.at.returns-then-n-ne0 c).After-fault_of-n) _ c.natural_at-root.ensures.value _ c.frame_of-f.ensures _ _ _
     c.fault_of-n.ensures c.if-n-ne0.true)
 
 pub overflow_mul-places : goal.overflow_mul-places
-overflow_mul-places c = omega (arith, low-at (goal.at.overflow_mul-places c).Else-n-ne0)
+overflow_mul-places c = omega (arith, low_at (goal.at.overflow_mul-places c).Else-n-ne0)
 
 pub overflow_add-places : goal.overflow_add-places
-overflow_add-places c = omega (arith, low-at (goal.at.overflow_add-places c).Else-n-ne0)
+overflow_add-places c = omega (arith, low_at (goal.at.overflow_add-places c).Else-n-ne0)
 
 pub locate_tree-requires : goal.locate_tree-requires
-locate_tree-requires c = tree_asks (sheet-at (goal.at.locate_tree-requires c).After-fault_of-n) _ _ refl
+locate_tree-requires c = tree_asks (sheet_at (goal.at.locate_tree-requires c).After-fault_of-n) _ _ refl
 
 pub returns : goal.returns
-returns c = let q = sheet-at (goal.at.returns c).After-fault_of-n in
+returns c = let q = sheet_at (goal.at.returns c).After-fault_of-n in
     let h = c.if-n-ne0.false in
     let ze = c.natural_at-root.ensures.value in
     c.unpack.ensures

@@ -8,14 +8,14 @@ use Rattle.places.proofs.locate_tree.Goals as goal
 use Rattle.places.proofs.locate_tree.Goals.{After-separator}
 
 -- the siblings are the root alone
-abbrev root-at : After-separator → Siblings
-root-at c = record {
+abbrev root_at : After-separator → Siblings
+root_at c = record {
   across = true;
   gap = c.separator.result;
   start = record { line = c.wide.result; column = c.wide-2.result; last_row = true; last_col = true };
 }
 
-root_is : (c : After-separator) → let s = c.args.s in root-at c ≡ record { across = true; gap = sep s; start = root_anchor s }
+root_is : (c : After-separator) → let s = c.args.s in root_at c ≡ record { across = true; gap = sep s; start = root_anchor s }
 root_is c = rw (c.separator.ensures.value, c.wide-2.ensures.value, c.wide.ensures.value)
 
 pub locate_node-r-requires : goal.locate_node-r-requires
