@@ -7,10 +7,8 @@ use mathlib.Core.List.{List, [], ◌∷◌}
 use lib.ListN.{length, get_or, take, drop, length-drop}
 use lib.Dec.{eqb, ltb, leb}
 use Rattle.common.specs.Choice.{pick, both}
-use Rattle.tree.specs.declared.Header.{Header}
-use Rattle.tree.specs.declared.Header.TheVariants.{Fault, Element}
 use Rattle.tree.specs.Tree.{Axis, across, down}
-use Rattle.tree.specs.Bytes.{length_at, tag_of, axis_of}
+use Rattle.tree.specs.Bytes.{length_at, tag_of, axis_of, Header, Fault, Element}
 use Rattle.tree.specs.Promises.{contents}
 use Rattle.tree.specs.Reading.{is_text}
 use Rattle.tree.specs.Planning.{Plan, Plans, PlanOne, PlanAll, last_tag, header_in, is_range, cell_in, range_in, group_in, more_in, element_in, sequence_in}

@@ -2,21 +2,22 @@
 use mathlib.Core.Path.{◌≡◌, refl, sym, ap, ap₂, ◌∙◌}
 use Prim.Native.Nat.{ℕ, suc, ◌+◌, ◌≤◌, ◌<◌}
 use native.Mathlib.Omega.{arith}
-use mathlib.Core.Bool.{Bool, true, false}
-use mathlib.Core.List.{List, [], ◌∷◌, map}
+use mathlib.Core.Bool.{Bool}
+use mathlib.Core.List.{List, map}
 use lib.ListN.{length}
 use lib.Seq.{sets}
 use borrow.Author.Tests.{lt-ltb, le-ltb}
-use Rattle.common.specs.Arrays.{padded}
 use Rattle.common.proofs.Stores.{sets_front}
-use Rattle.common.proofs.Padded.{padded_at}
 use Rattle.tree.specs.declared.ReadTree.{ReadTree}
 use Rattle.tree.specs.Tree.{Tree, Trees, cell, group, none, more, nodes, nodes*}
 use Rattle.tree.specs.Reading.{ReadOne, read_tree, tree_answer}
 use Rattle.tree.specs.Accepted.{bytes_of}
 use Rattle.tree.proofs.Sound.{tree_sound, tree_refusal}
-use Rattle.blank.specs.Blank.{shown_byte, blanked, blanked*, cell_flags, dots_for, all_cells, no_blank, blank_to, blank_of}
-use Rattle.blank.specs.Clauses.{ReadElements, is_dotted, DotsAre}
+use Rattle.blank.specs.Blank.{shown_byte, blanked, blanked*, cell_flags, dots_for, no_blank, blank_to, blank_of}
+use Rattle.blank.specs.Clauses.{ReadElements, is_dotted, NamedAs}
+use Rattle.std.specs.Prelude.{Result, Ok, Err}
+use Rattle.common.specs.Refusals.{number_of, refusal_of}
+use Rattle.common.specs.declared.refusal.Refusal.{Refusal}
 use Rattle.blank.proofs.Lengths.{blanked_length}
 
 -- ---- the same dots at the tree's nodes
@@ -32,13 +33,6 @@ module _ (f g : ℕ → Bool) (h : (n : ℕ) → n < 512 → f n ≡ g n) where
     same_blanked* : (ts : Trees) (n : ℕ) → n + nodes* ts ≤ 512 → blanked* f n ts ≡ blanked* g n ts
     same_blanked* none = λ n l. refl
     same_blanked* (more t ts) = λ n l. ap₂ more (same_blanked t n (omega arith)) (same_blanked* ts (n + nodes t) (omega arith))
-
--- ---- the flags in their array
-
-padded_cells : (cs ns : List ℕ) → all_cells (padded cs) ns ≡ all_cells cs ns
-unfolding all_cells
-padded_cells cs [] = refl
-padded_cells cs (k ∷ ks) = rw (padded_at cs _ k, padded_cells cs ks)
 
 -- ---- the tree
 
@@ -77,25 +71,30 @@ module _ (tree ns : List ℕ) (k : TreeHere tree) where
   as_long : length (bytes_of (blanked (dots_for ns) 0 t)) ≡ length tree
   as_long = blanked_length (dots_for ns) t tree k.elements.is k.elements.ends
 
-  module _ (cells o : List ℕ) (ok : Bool) (ce : cells ≡ padded (cell_flags t)) (oe : ok ≡ all_cells cells ns) where
-    cells_are : all_cells (cell_flags t) ns ≡ ok
-    cells_are = sym (oe ∙ ap (λ (c : List ℕ). all_cells c ns) ce ∙ padded_cells (cell_flags t) ns)
+  abbrev cs : List ℕ
+  cs = cell_flags t
 
-    pub no_cell : ok ≡ false → blank_of tree ns o ≡ no_blank 9 o
-    unfolding blank_of
-    no_cell h = rw (k.reads, cells_are, h)
+  module _ (o : List ℕ) (x : Result (List Bool) Refusal) (named : NamedAs cs ns x) where
+    pub no_cell : (r : Refusal) → x ≡ Err r → blank_of tree ns o ≡ no_blank (number_of r) o
+    unfolding blank_of refusal_of
+    no_cell r e = let n : NamedAs cs ns (Err r) = rw e at named in rw (n.1, k.reads, n.0)
 
-    to_out : ok ≡ true → blank_of tree ns o ≡ blank_to (bytes_of (blanked (dots_for ns) 0 t)) o
-    unfolding blank_of
-    to_out h = rw (k.reads, cells_are, h)
+    module _ (ds : List Bool) (e : x ≡ Ok ds) where
+      here : NamedAs cs ns (Ok ds)
+      here = rw e at named
 
-    pub blank_no_room : ok ≡ true → length o < length tree → blank_of tree ns o ≡ no_blank 8 o
-    blank_no_room h l = to_out h ∙ rw (as_long, lt-ltb (length o) (length tree) l)
+      to_out : blank_of tree ns o ≡ blank_to (bytes_of (blanked (dots_for ns) 0 t)) o
+      unfolding blank_of
+      to_out = rw (k.reads, here.0)
 
-    pub blanks : ok ≡ true → length tree ≤ length o → (ds o₁ : List ℕ) → (ok ≡ true → DotsAre ns ds) → o₁ ≡ sets o 0 (bytes_of (blanked (is_dotted ds) 0 t))
-        → blank_of tree ns o ≡ record { answer = record { number = 0; count = length tree }; memory = o₁ }
-    blanks h l ds o₁ d e =
-        let s : List ℕ = bytes_of (blanked (dots_for ns) 0 t) in
-        let n : length s ≡ length tree = as_long in
-        let b : blanked (is_dotted ds) 0 t ≡ blanked (dots_for ns) 0 t = same_blanked (is_dotted ds) (dots_for ns) (d h) t 0 (omega (arith, k.elements.few)) in
-        to_out h ∙ rw (e, b, sets_front s o (omega arith), n, le-ltb (length o) (length tree) l)
+      pub blank_no_room : length o < length tree → blank_of tree ns o ≡ no_blank 8 o
+      blank_no_room l = to_out ∙ rw (as_long, lt-ltb (length o) (length tree) l)
+
+      pub blanks : length tree ≤ length o → (o₁ : List ℕ) → o₁ ≡ sets o 0 (bytes_of (blanked (is_dotted ds) 0 t))
+          → blank_of tree ns o ≡ record { answer = record { number = 0; count = length tree }; memory = o₁ }
+      blanks l o₁ d =
+          let s : List ℕ = bytes_of (blanked (dots_for ns) 0 t) in
+          let m : length s ≡ length tree = as_long in
+          let b : blanked (is_dotted ds) 0 t ≡ blanked (dots_for ns) 0 t =
+          same_blanked (is_dotted ds) (dots_for ns) here.1 t 0 (omega (arith, k.elements.few)) in
+          to_out ∙ rw (d, b, sets_front s o (omega arith), m, le-ltb (length o) (length tree) l)

@@ -1,15 +1,16 @@
 -- One pass over the elements of an accepted tree: how far it is, and what find_cells and put_elements have yet to store.
 use mathlib.Core.Path.{◌≡◌, refl, sym, ap, ◌∙◌}
-use Prim.Native.Nat.{ℕ, suc, ◌+◌, ◌-◌, ◌≤◌, ◌<◌, ◌/◌, ◌%◌}
+use Prim.Native.Nat.{ℕ, zero, suc, ◌+◌, ◌-◌, ◌≤◌, ◌<◌, ◌/◌, ◌%◌}
 use native.Mathlib.Omega.{arith}
 use native.Mathlib.Numerals.{add-one}
 use native.Mathlib.Nat.{add-sub_cancel_left}
-use mathlib.Core.List.{List, map, append-nil}
+use mathlib.Core.Bool.{Bool, true, false}
+use mathlib.Core.List.{List, [], ◌∷◌, map, append-nil}
 use lib.ListN.{length, get_or, set, take, drop, replicate, length-append, length-drop, length-map}
 use lib.Seq.{sets, drop-drop, length-take-le}
 use lib.Dec.{eqb}
+use Rattle.std.proofs.lemmas.List.{map-set}
 use borrow.Author.Rules.{part_to_end}
-use Rattle.common.specs.Arrays.{padded}
 use Rattle.common.specs.Choice.{pick}
 use Rattle.tree.specs.Tree.{Tree, Trees, cell, group, none, more, nodes, nodes*}
 use Rattle.tree.specs.Bytes.{length_at}
@@ -19,7 +20,7 @@ use Rattle.tree.proofs.Passing.{Passing, begin, Some, turn, over}
 use Rattle.common.proofs.Stores.{sets_append}
 use Rattle.common.proofs.Padded.{sets_padded}
 use Rattle.blank.specs.Blank.{blanked, blanked*, shown_byte, cell_flags, cell_flags*}
-use Rattle.blank.specs.Clauses.{text_at, is_dotted, ReadElements}
+use Rattle.blank.specs.Clauses.{is_set, cell_marks, text_at, is_dotted, ReadElements}
 use Rattle.blank.proofs.Flat.{joined, inside_tree, front_in, after_are, after_nodes, after_flags, after_bytes}
 
 mutual
@@ -36,6 +37,19 @@ mutual
 -- the bytes from `at` on, as the code takes them
 abbrev pub part : List ℕ → ℕ → List ℕ
 part s at = take (length s - at) (drop at s)
+
+-- a list is mapped as it is stored to
+map-sets : {X Y : Type 0} (f : X → Y) (vs l : List X) (i : ℕ) → map f (sets l i vs) ≡ sets (map f l) i (map f vs)
+map-sets f [] l i = refl
+map-sets f (v ∷ vs) l i = map-sets f vs (set l i v) (suc i) ∙ ap (λ (m : List _). sets m (suc i) (map f vs)) (map-set f l i v)
+
+map-replicate : {X Y : Type 0} (f : X → Y) (n : ℕ) (x : X) → map f (replicate n x) ≡ replicate n (f x)
+map-replicate f zero x = refl
+map-replicate f (suc n) x = ap (λ (l : List _). f x ∷ l) (map-replicate f n x)
+
+set_is : (c : Bool) → is_set (pick c 1 0) ≡ c
+set_is true = refl
+set_is false = refl
 
 high_byte : (n : ℕ) → n < 65536 → n / 256 % 256 ≡ n / 256
 high_byte n h = omega arith
@@ -77,34 +91,43 @@ module _ (s : List ℕ) (q : ReadElements s) where
   -- ---- the flags of the Cells
 
   -- with the flags of the elements still to come, the array is the result
-  pub record Finding (cells : List ℕ) (at node : ℕ) (rest : Trees) : Type 0 where
+  pub record Finding (cells : List Bool) (at node : ℕ) (rest : Trees) : Type 0 where
     pub sweep : Sweep at node rest
-    pub stored : sets cells node (cell_flags* rest) ≡ padded (cell_flags q.tree)
+    pub stored : sets cells node (map is_set (cell_flags* rest)) ≡ cell_marks (cell_flags q.tree)
 
-  pub find_begins : Some (Finding (replicate 512 0) 0 0)
+  no_marks : sets (replicate 512 false) 0 (map is_set (cell_flags q.tree)) ≡ map is_set (sets (replicate 512 0) 0 (cell_flags q.tree))
+  no_marks = sym (map-sets is_set (cell_flags q.tree) (replicate 512 0) 0
+      ∙ ap (λ (l : List Bool). sets l 0 (map is_set (cell_flags q.tree))) (map-replicate is_set 512 0))
+
+  pub find_begins : Some (Finding (replicate 512 false) 0 0)
   unfolding cell_flags
   find_begins = record {
     rest = more q.tree none;
-    holds = record { sweep = sweep_begins; stored = rw append-nil (sets_padded 512 (cell_flags q.tree) (omega (arith, flags_length q.tree, q.few))) };
+    holds = record {
+      sweep = sweep_begins;
+      stored = rw append-nil (no_marks ∙ ap (map is_set) (sets_padded 512 (cell_flags q.tree) (omega (arith, flags_length q.tree, q.few))));
+    };
   }
 
-  find_next : (cells : List ℕ) (at node : ℕ) (t : Tree) (ts : Trees) → Finding cells at node (more t ts) → (p : List ℕ) → p ≡ drop at s
-      → (v m : ℕ) → v ≡ pick (eqb (get_or p 0 0) 1) 1 0 → m ≡ text_at p → Some (Finding (set cells node v) (at + 3 + m) (node + 1))
+  find_next : (cells : List Bool) (at node : ℕ) (t : Tree) (ts : Trees) → Finding cells at node (more t ts) → (p : List ℕ) → p ≡ drop at s
+      → (v : Bool) (m : ℕ) → v ≡ eqb (get_or p 0 0) 1 → m ≡ text_at p → Some (Finding (set cells node v) (at + 3 + m) (node + 1))
   find_next cells at node t ts k p pe v m ve me =
       let i : at + 3 + m ≡ at + (3 + text_at p) = omega arith in
+      let f : map is_set (cell_flags* (more t ts)) ≡ v ∷ map is_set (cell_flags* (joined (inside_tree t) ts)) =
+      ap (map is_set) (after_flags t ts p (here at node t ts k.sweep p pe)) ∙ rw (ve, set_is (eqb (get_or p 0 0) 1)) in
       record {
         rest = joined (inside_tree t) ts;
         holds = record {
           sweep = rw i (sweep_on at node t ts k.sweep p pe);
-          stored = rw (add-one node, ve) (sym (ap (sets cells node) (after_flags t ts p (here at node t ts k.sweep p pe))) ∙ k.stored);
+          stored = rw (add-one node) (sym (ap (sets cells node) f) ∙ k.stored);
         };
       }
 
-  find_last : (cells : List ℕ) (at node : ℕ) → Finding cells at node none → cells ≡ padded (cell_flags q.tree)
+  find_last : (cells : List Bool) (at node : ℕ) → Finding cells at node none → cells ≡ cell_marks (cell_flags q.tree)
   unfolding cell_flags
   find_last cells at node k = k.stored
 
-  module _ (cells : List ℕ) (at node : ℕ) (k : Some (Finding cells at node)) where
+  module _ (cells : List Bool) (at node : ℕ) (k : Some (Finding cells at node)) where
     at_found : (rest : Trees) → Finding cells at node rest → Passing s at rest
     at_found rest l = l.sweep.passing
 
@@ -112,16 +135,16 @@ module _ (s : List ℕ) (q : ReadElements s) where
       pub find_in : (3 + text_at (part s at) ≤ length (part s at)) × (at + (3 + text_at (part s at)) ≤ length s) × (node < 512)
       find_in = let l = turn s at _ at_found k h in element_in at node l.tree l.trees l.holds.sweep (part s at) (part_to_end s at)
 
-      pub find_more : (v m : ℕ) → v ≡ pick (eqb (get_or (part s at) 0 0) 1) 1 0 → m ≡ text_at (part s at)
+      pub find_more : (v : Bool) (m : ℕ) → v ≡ eqb (get_or (part s at) 0 0) 1 → m ≡ text_at (part s at)
           → Some (Finding (set cells node v) (at + 3 + m) (node + 1))
       find_more = let l = turn s at _ at_found k h in find_next cells at node l.tree l.trees l.holds (part s at) (part_to_end s at)
 
-    pub find_ends : length s ≤ at → cells ≡ padded (cell_flags q.tree)
+    pub find_ends : length s ≤ at → cells ≡ cell_marks (cell_flags q.tree)
     find_ends h = find_last cells at node (over s at _ at_found k h)
 
   -- ---- the bytes
 
-  module _ (ds o₀ : List ℕ) where
+  module _ (ds : List Bool) (o₀ : List ℕ) where
     -- with the bytes of the elements still to come, the output is the result
     pub record PuttingBytes (o : List ℕ) (at node : ℕ) (rest : Trees) : Type 0 where
       pub sweep : Sweep at node rest

@@ -3,35 +3,11 @@ use mathlib.Core.Path.{◌≡◌, refl, sym, ap, ◌∙◌}
 use Prim.Native.Nat.{ℕ, suc, ◌+◌, ◌≤◌, ◌<◌}
 use native.Mathlib.Omega.{arith}
 use native.Mathlib.Numerals.{add-one}
-use mathlib.Core.Bool.{Bool, true, false, not}
+use mathlib.Core.Bool.{Bool}
 use mathlib.Core.List.{List, map}
 use lib.ListN.{length, get_or, set, drop, length-set}
 use lib.Seq.{sets, drop-cons, drop-length}
-use lib.Dec.{eqb}
-use borrow.Author.Tests.{eqb-true}
-use Rattle.common.specs.Choice.{pick, both}
 use Rattle.blank.specs.Blank.{shown_byte}
-
--- ---- one byte
-
-dot : (d c : Bool) (b : ℕ) → both d (not c) ≡ true → 46 ≡ pick d (pick c 10 46) b
-dot true true b e = let z : ◌≡◌ {A = ℕ} 0 1 = cc in absurd (omega arith)
-dot true false b e = refl
-dot false true b e = let z : ◌≡◌ {A = ℕ} 0 1 = cc in absurd (omega arith)
-dot false false b e = let z : ◌≡◌ {A = ℕ} 0 1 = cc in absurd (omega arith)
-
-pub shown_dot : (d : Bool) (b : ℕ) → both d (not (eqb b 10)) ≡ true → 46 ≡ shown_byte d b
-unfolding shown_byte
-shown_dot d b e = dot d (eqb b 10) b e
-
-kept : (d c : Bool) (b : ℕ) → c ≡ eqb b 10 → both d (not c) ≡ false → b ≡ pick d (pick c 10 46) b
-kept true true b h e = eqb-true b 10 (sym h)
-kept true false b h e = let z : ◌≡◌ {A = ℕ} 0 1 = cc in absurd (omega arith)
-kept false c b h e = refl
-
-pub shown_kept : (d : Bool) (b : ℕ) → both d (not (eqb b 10)) ≡ false → b ≡ shown_byte d b
-unfolding shown_byte
-shown_kept d b e = kept d (eqb b 10) b refl e
 
 -- ---- a text, byte by byte
 

@@ -5,6 +5,8 @@ ghost use Rattle.std.specs.Prelude.{◌≡◌};
 ghost use Rattle.blank.specs.Blank.{blank_of};
 ghost use Rattle.blank.specs.Paper.{PaperOf};
 
+use common::refusal::Refusal;
+
 pub mod elements;
 pub mod names;
 
@@ -30,24 +32,23 @@ pub fn blank_texts(tree: &[u8], nodes: &[u16], out: &mut [u8]) -> Blanked
     ensures written { out.new ≡ (blank_of tree.now nodes.now out.old).memory }
     ensures paper { result.number ≡ 0 → PaperOf tree.now nodes.now (record { answer = result; memory = out.new }) }
 {
-    let read = tree::read_tree(tree);
-    let number = read.number;
+    let number = tree::read_tree(tree).number;
     if number != 0 {
         return refuse(number);
     }
     let cells = elements::find_cells(tree);
-    let named = names::name_cells(nodes, cells);
-    let ok = named.ok;
-    if ok {
-        if out.len() < tree.len() {
-            return refuse(8);
-        }
-        let dots = named.dots;
-        elements::put_elements(tree, dots, out);
-        return Blanked {
-            number: 0,
-            count: tree.len(),
-        };
+    let named = names::name_cells(nodes, &cells);
+    // Behind a reference, so that the array is not copied.
+    let dots = match &named {
+        Ok(dots) => dots,
+        Err(refusal) => return refuse(refusal.number()),
+    };
+    if out.len() < tree.len() {
+        return refuse(Refusal::TooShort.number());
     }
-    refuse(9)
+    elements::put_elements(tree, dots, out);
+    Blanked {
+        number: 0,
+        count: tree.len(),
+    }
 }

@@ -1,47 +1,20 @@
 // The Cells that a list of node numbers names.
-ghost use Rattle.std.specs.Prelude.{◌≡◌, true};
-ghost use Rattle.blank.specs.Blank.{all_cells};
-ghost use Rattle.blank.specs.Clauses.{DotsAre};
+ghost use Rattle.std.specs.Prelude.{◌≡◌, ℕ, List};
+ghost use Rattle.blank.specs.Clauses.{cell_marks, NamedAs};
 
-// Whether each number is that of a Cell, and for each node 1 if it is blanked.
-#[derive(Clone, Copy)]
-pub struct Named {
-    pub ok: bool,
-    pub dots: [u8; 512],
-}
+use common::refusal::Refusal;
 
-// `cells` has 1 for each Cell. An empty list names all Cells.
-pub fn name_cells(nodes: &[u16], cells: [u8; 512]) -> Named
-    ensures ok_value { result.ok ≡ all_cells cells nodes.now }
-    ensures dots { result.ok ≡ true → DotsAre nodes.now result.dots }
+// Whether each node is blanked, where each number is that of a Cell; `cells` marks these. An empty list names all Cells.
+pub fn name_cells(nodes: &[u16], cells: &[bool; 512]) -> Result<[bool; 512], Refusal>
+    ensures { (cs : List ℕ) → cells.now ≡ cell_marks cs → NamedAs cs nodes.now result }
 {
-    if nodes.len() == 0 {
-        return Named {
-            ok: true,
-            dots: [1u8; 512],
-        };
-    }
-    let mut dots = [0u8; 512];
-    let mut j = 0;
-    while j < nodes.len() {
-        let n = common::wide16(nodes[j]);
-        if 512 <= n {
-            return Named {
-                ok: false,
-                dots: dots,
-            };
+    let mut dots = [nodes.is_empty(); 512];
+    for node in nodes {
+        let n = usize::from(*node);
+        if 512 <= n || !cells[n] {
+            return Err(Refusal::NoLeaf);
         }
-        if cells[n] == 0 {
-            return Named {
-                ok: false,
-                dots: dots,
-            };
-        }
-        dots[n] = 1;
-        j += 1;
+        dots[n] = true;
     }
-    Named {
-        ok: true,
-        dots: dots,
-    }
+    Ok(dots)
 }

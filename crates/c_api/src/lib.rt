@@ -273,7 +273,7 @@ pub extern "C" fn leg_short_splits(
     ensures listed { positions.new ≡ (splits_given pieces.now count w positions.old left.old).memory.0 }
     ensures rest { left.new ≡ (splits_given pieces.now count w positions.old left.old).memory.1 }
 {
-    let room = common::min(positions.len(), left.len());
+    let room = positions.len().min(left.len());
     let number = cuts::refused_by(pieces.len(), count, room, 513);
     if number != 0 {
         return pack(number, 0);

@@ -1,21 +1,11 @@
 -- What the planning C function writes is what the definition says.
-use mathlib.Core.Path.{◌≡◌, refl}
+use mathlib.Core.Path.{◌≡◌}
 use Prim.Native.Nat.{ℕ}
-use native.Mathlib.Omega.{arith}
-use mathlib.Core.List.{List, [], ◌∷◌}
-use lib.ListN.{length, set}
+use mathlib.Core.List.{List}
 use borrow.Author.Tests.{eq-eqb, ne_eqb}
 use Rattle.plan.specs.declared.Planned.{Planned}
 use Rattle.c_encoding.specs.Words.{packed}
 use Rattle.c_encoding.specs.Plans.{ends_numbers, ends_word, ends_after}
-
-pub four : (old : List ℕ) (a b c d : ℕ) → length old ≡ 4 → set (set (set (set old 0 a) 1 b) 2 c) 3 d ≡ a ∷ b ∷ c ∷ d ∷ []
-four [] a b c d e = absurd (omega arith)
-four (x ∷ []) a b c d e = absurd (omega arith)
-four (x ∷ y ∷ []) a b c d e = absurd (omega arith)
-four (x ∷ y ∷ z ∷ []) a b c d e = absurd (omega arith)
-four (x ∷ y ∷ z ∷ w ∷ []) a b c d e = refl
-four (x ∷ y ∷ z ∷ w ∷ v ∷ l) a b c d e = absurd (omega arith)
 
 -- the word and the lent numbers are the definition's
 abbrev Same : ℕ → List ℕ → Planned → List ℕ → Type 0

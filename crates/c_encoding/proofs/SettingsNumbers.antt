@@ -1,5 +1,5 @@
 -- The settings that were read as 28 numbers, and their margin as 8.
-use mathlib.Core.Path.{◌≡◌, refl, sym, ap, ◌∙◌}
+use mathlib.Core.Path.{◌≡◌, sym, ap, ◌∙◌}
 use Prim.Native.Nat.{ℕ, ◌+◌, ◌≤◌, ◌<◌}
 use native.Mathlib.Omega.{arith}
 use mathlib.Core.List.{List, [], ◌∷◌, ◌++◌}
@@ -29,12 +29,6 @@ settings_stored s o {p} {k} {o₁} {o₂} {o₃} {o₄} r e₁ ep e₂ e₃ ek e
 
 pub settings_many : (s : Settings) → Ranges s → length (settings_numbers s) ≡ 28
 settings_many s r = rw (length-append s.marks, length-append s.fills, r.marks.many, r.fills.many)
-
--- the margin's sizes and fills
-pub margin_stored : (s : Settings) (o : List ℕ) {o₁ o₂ : List ℕ} → o₁ ≡ sets o 0 (s.margin.left ∷ s.margin.right ∷ s.margin.top ∷ s.margin.bottom ∷ [])
-    → o₂ ≡ sets o₁ 4 s.margin.fills
-    → o₂ ≡ sets o 0 (margin_numbers s)
-margin_stored s o e₁ e₂ = stored_on (s.margin.left ∷ s.margin.right ∷ s.margin.top ∷ s.margin.bottom ∷ []) s.margin.fills o 0 e₁ refl e₂
 
 pub margin_many : (s : Settings) → Ranges s → length (margin_numbers s) ≡ 8
 margin_many s r = rw r.margin_fills.many

@@ -33,12 +33,6 @@ cut_stored k o {b} {o₁} eb e f long g =
     let x = stored_on (list_numbers k.taken) (list_numbers k.left) o₁ 3 f (omega arith) g in
     rw eb at (stored_on (b ∷ k.pair.taken ∷ k.pair.rest ∷ []) (list_numbers k.taken ++ list_numbers k.left) o 0 e refl x)
 
-pub kept_stored : (k : InPlaceCut) (o : List ℕ) {b : ℕ} {o₁ o₂ : List ℕ} → b ≡ bit k.answer.split
-    → o₁ ≡ sets o 0 (b ∷ k.answer.pair.taken ∷ k.answer.pair.rest ∷ k.list.count ∷ []) → o₂ ≡ sets o₁ 4 (list_numbers k.answer.taken)
-    → o₂ ≡ sets o 0 (kept_numbers k)
-kept_stored k o {b} eb e f =
-    rw eb at (stored_on (b ∷ k.answer.pair.taken ∷ k.answer.pair.rest ∷ k.list.count ∷ []) (list_numbers k.answer.taken) o 0 e refl f)
-
 -- ---- the list left, written over the lent one
 
 fits_take : (b : Bool) (m : ℕ) (l : List ℕ) → ltb m (length l) ≡ b → take (min m (length l)) l ≡ take m l

@@ -12,7 +12,7 @@ ghost use Rattle.c_encoding.specs.Plans.{ends_numbers};
 use crate::lists;
 use crate::lists::widen_bytes;
 use block::Flags;
-use common::copy::copy_numbers;
+use common::copy::copy;
 use fold::Folded;
 use leaf::LeafRecord;
 use places::LeafPlace;
@@ -53,16 +53,12 @@ fn padding(s: Settings) -> [u16; 4]
 fn choices(s: Settings) -> [u16; 5]
     ensures { result ≡ choice_numbers s }
 {
-    let horizontal = s.horizontal;
-    let vertical = s.vertical;
-    let width = s.width_priority;
-    let height = s.height_priority;
     [
-        number_of_alignment(horizontal),
-        number_of_alignment(vertical),
+        number_of_alignment(s.horizontal),
+        number_of_alignment(s.vertical),
         lists::bit(s.line_mode),
-        number_of_priority(width),
-        number_of_priority(height),
+        number_of_priority(s.width_priority),
+        number_of_priority(s.height_priority),
     ]
 }
 
@@ -71,14 +67,10 @@ pub fn put_settings(s: Settings, out: &mut [u16])
     requires { Ranges s × (28 ≤ length out.old) }
     ensures { out.new ≡ sets out.old 0 (settings_numbers s) }
 {
-    let marks = s.marks;
-    widen_bytes(out, 0, &marks);
-    let sides = padding(s);
-    copy_numbers(out, 15, &sides);
-    let fills = s.fills;
-    widen_bytes(out, 19, &fills);
-    let chosen = choices(s);
-    copy_numbers(out, 23, &chosen);
+    widen_bytes(out, 0, &s.marks);
+    copy(out, 15, &padding(s));
+    widen_bytes(out, 19, &s.fills);
+    copy(out, 23, &choices(s));
 }
 
 // Four sizes, four fills.
@@ -89,6 +81,7 @@ pub fn put_margin(s: Settings, out: &mut [u16])
     let m = s.margin;
     let sizes = [m.left, m.right, m.top, m.bottom];
     widen_bytes(out, 0, &sizes);
+    // A local: read in the struct, it takes more instructions.
     let fills = m.fills;
     widen_bytes(out, 4, &fills);
 }
@@ -98,8 +91,7 @@ pub fn put_sizes(list: &[u16; 2048], n: usize, below: [u16; 512], out: &mut [u16
     requires { (n ≤ 512) × (5 * n ≤ length out.old) }
     ensures { out.new ≡ sets out.old 0 (fives n list.now below) }
 {
-    let mut i = 0;
-    while i < n {
+    for i in 0..n {
         let five = [
             list[4 * i],
             list[4 * i + 1],
@@ -107,8 +99,7 @@ pub fn put_sizes(list: &[u16; 2048], n: usize, below: [u16; 512], out: &mut [u16
             list[4 * i + 3],
             below[i],
         ];
-        copy_numbers(out, 5 * i, &five);
-        i += 1;
+        copy(out, 5 * i, &five);
     }
 }
 
@@ -139,15 +130,9 @@ pub fn put_record(r: LeafRecord, out: &mut [u16])
     requires { SmallRecord r × (1039 ≤ length out.old) }
     ensures { out.new ≡ sets out.old 0 (record_numbers r) }
 {
-    let size = r.size;
-    let flags = r.flags;
-    let pair = r.pair;
-    let first = front(r.node, size, flags, pair);
-    copy_numbers(out, 0, &first);
-    let horizontal = r.horizontal;
-    lists::put_list(horizontal, out, 13);
-    let vertical = r.vertical;
-    lists::put_list(vertical, out, 526);
+    copy(out, 0, &front(r.node, r.size, r.flags, r.pair));
+    lists::put_list(r.horizontal, out, 13);
+    lists::put_list(r.vertical, out, 526);
 }
 
 // Node, line, column.
@@ -155,8 +140,7 @@ pub fn put_place(p: LeafPlace, out: &mut [u16])
     requires { (p.node < 65536) × (p.line < 65536) × (p.column < 65536) × (3 ≤ length out.old) }
     ensures { out.new ≡ sets out.old 0 (place_numbers p) }
 {
-    let three = [p.node as u16, p.line as u16, p.column as u16];
-    copy_numbers(out, 0, &three);
+    copy(out, 0, &[p.node as u16, p.line as u16, p.column as u16]);
 }
 
 // The height, the tries and the greatest excess height of a fold.

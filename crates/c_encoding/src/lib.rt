@@ -10,7 +10,7 @@ ghost use Rattle.c_encoding.specs.Words.{packed, typed_word};
 
 use typed::Typed;
 
-// The answer word: the number in the upper half, the count in the lower.
+// The answer word: the number in the upper half, the count in the lower, as C reads it.
 pub fn pack(number: u8, count: usize) -> u64
     ensures { result ≡ packed number count }
 {
@@ -23,7 +23,8 @@ pub fn pack_typed(t: Typed) -> u64
 {
     let line = (t.line % 16777216) as u64 * 1099511627776;
     if t.number == 0 {
-        return line + pack(0, t.count);
+        line + pack(0, t.count)
+    } else {
+        line + pack(t.number, t.column)
     }
-    line + pack(t.number, t.column)
 }

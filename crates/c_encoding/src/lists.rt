@@ -4,23 +4,14 @@ ghost use Rattle.std.proofs.lemmas.List.Edits.{sets};
 ghost use Rattle.c_encoding.specs.Numbers.{list_numbers, position_numbers};
 ghost use Rattle.c_encoding.specs.Numbers as numbers;
 
-use common::copy::{copy_numbers, copy_wide};
+use common::copy::copy;
 use splits::{Positions, SplitList};
 
 // Yes is 1, no is 0.
 pub fn bit(b: bool) -> u16
     ensures { result ≡ numbers.bit b }
 {
-    if b {
-        return 1;
-    }
-    0
-}
-
-fn widen(b: u8) -> u16
-    ensures { result ≡ b }
-{
-    b as u16
+    u16::from(b)
 }
 
 // The numbers of `out` from `at` on become these bytes.
@@ -28,10 +19,8 @@ pub fn widen_bytes(out: &mut [u16], at: usize, from: &[u8])
     requires { at + length from.now ≤ length out.old }
     ensures { out.new ≡ sets out.old at from.now }
 {
-    let mut i = 0;
-    while i < from.len() {
-        out[at + i] = widen(from[i]);
-        i += 1;
+    for (i, byte) in from.iter().enumerate() {
+        out[at + i] = u16::from(*byte);
     }
 }
 
@@ -40,10 +29,8 @@ pub fn put_list(list: SplitList, out: &mut [u16], at: usize)
     requires { (at < 65536) × (list.count ≤ 512) × (at + 513 ≤ length out.old) }
     ensures { out.new ≡ sets out.old at (list_numbers list) }
 {
-    let count = [list.count as u16];
-    let end = copy_numbers(out, at, &count);
-    let pieces = list.pieces;
-    copy_numbers(out, end, &pieces);
+    let end = copy(out, at, &[list.count as u16]);
+    copy(out, end, &list.pieces);
 }
 
 // Positions in the same form.
@@ -51,8 +38,6 @@ pub fn put_positions(list: Positions, out: &mut [u32])
     requires { (list.count ≤ 512) × (513 ≤ length out.old) }
     ensures { out.new ≡ sets out.old 0 (position_numbers list) }
 {
-    let count = [list.count as u32];
-    let end = copy_wide(out, 0, &count);
-    let entries = list.entries;
-    copy_wide(out, end, &entries);
+    let end = copy(out, 0, &[list.count as u32]);
+    copy(out, end, &list.entries);
 }

@@ -54,3 +54,8 @@ refused_sizing k = record { answer = no_collected k; records = no_records }
 unfoldable pub sizing_of : Input → ℕ → Sizing
 sizing_of (refused k) len = refused_sizing k
 sizing_of (given s t) len = pick (ltb len (nodes t)) (refused_sizing 8) (record { answer = record { number = 0; count = nodes t }; records = record_array s t })
+
+-- the records to write fit their array and a list of `len` entries
+pub record FitsList (len : ℕ) (p : Sizing) : Type 0 where
+  pub few : p.answer.count ≤ 512
+  pub short : p.answer.count ≤ len

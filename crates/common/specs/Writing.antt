@@ -2,6 +2,6 @@
 use Rattle.std.specs.Prelude.{◌≡◌, ℕ, List}
 
 -- where it stopped, and the list afterwards
-pub record Wrote (r end : ℕ) (after is : List ℕ) : Type 0 where
+pub record Wrote {A : Type 0} (r end : ℕ) (after is : List A) : Type 0 where
   pub end_is : r ≡ end
   pub out_is : after ≡ is

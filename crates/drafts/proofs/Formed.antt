@@ -4,18 +4,19 @@ use Prim.Native.Nat.{ℕ, zero, suc, ◌+◌, ◌-◌, ◌≤◌}
 use native.Mathlib.Omega.{arith}
 use mathlib.Core.Bool.{Bool, true, false}
 use mathlib.Core.List.{List, [], ◌∷◌, ◌++◌, append_assoc}
-use mathlib.Core.Option.{Option, some, none}
+use mathlib.Core.Option.{Option as Maybe, some, none}
+use Rattle.std.specs.Prelude.{Some, None}
 use lib.ListN.{length, take, drop, replicate, length-append, length-replicate, length-drop, take-append-drop, replicate-append-replicate}
 use lib.Seq.{take_at, drop_at, drop-drop, drop-append-le}
 use lib.Dec.{eqb}
 use borrow.Author.Tests.{eqb-true, eqb-false}
 use Rattle.common.specs.Choice.{pick}
 use Rattle.tree.specs.Bytes.{length_at}
-use Rattle.drafts.specs.Store.{all_zero, tag_in, has_tag, field_then, read_fields, fields_of, field_bytes, store_of, without_tag, draft_of}
-use Rattle.drafts.specs.Clauses.{field_size, no_field, field_from}
+use Rattle.drafts.specs.Store.{all_zero, tag_in, has_tag, whole_field, field_then, read_fields, fields_of, field_bytes, store_of, without_tag, draft_of}
+use Rattle.drafts.specs.Clauses.{field_from}
 use Rattle.drafts.specs.declared.scan.FieldAt.{FieldAt}
 use Rattle.drafts.specs.Promises.{Field, Formed}
-use Rattle.drafts.proofs.Scans.{at_zero, at_bad, field_at, FrontField, front_of, taken_field, not_whole}
+use Rattle.drafts.proofs.Scans.{at_zero, at_bad, field_at, front_of, taken_field}
 
 -- ---- the fields and zero bytes
 
@@ -38,7 +39,7 @@ formed_zeros b s fs e q = go (all_zero s) refl q
         rw f (record { good = tt; zeros = suc (length s); is = ap₂ (λ (x : ℕ) (y : List ℕ). x ∷ y) e (zeros_are s z) })
     go false z q = let y : ◌≡◌ {A = ℕ} 0 1 = cc in absurd (omega arith)
 
-formed_more : (g r : List ℕ) (x : Option (List (List ℕ))) (fs : List (List ℕ)) → Field g → ((gs : List (List ℕ)) → x ≡ some gs → Formed r gs)
+formed_more : (g r : List ℕ) (x : Maybe (List (List ℕ))) (fs : List (List ℕ)) → Field g → ((gs : List (List ℕ)) → x ≡ some gs → Formed r gs)
     → field_then g x ≡ some fs → Formed (g ++ r) fs
 unfolding field_bytes
 formed_more g r none fs k ih q = let y : ◌≡◌ {A = ℕ} 0 1 = cc in absurd (omega arith)
@@ -60,23 +61,19 @@ formed : (fuel : ℕ) (s : List ℕ) (fs : List (List ℕ)) → read_fields fuel
 unfolding read_fields field_bytes
 formed zero s fs e = let y : ◌≡◌ {A = ℕ} 0 1 = cc in absurd (omega arith)
 formed (suc f) [] fs e = let g : fs ≡ [] = cc in rw g (record { good = tt; zeros = 0; is = refl })
-formed (suc f) (b ∷ s) fs e = go (eqb b 0) (eqb (field_size (b ∷ s)) 0) refl refl (formed f (drop (3 + length_at (b ∷ s)) (b ∷ s)))
+formed (suc f) (b ∷ s) fs e = go (eqb b 0) (whole_field (b ∷ s)) refl refl (formed f (drop (3 + length_at (b ∷ s)) (b ∷ s)))
   where
-    go : (c d : Bool) → eqb b 0 ≡ c → eqb (field_size (b ∷ s)) 0 ≡ d
+    go : (c d : Bool) → eqb b 0 ≡ c → whole_field (b ∷ s) ≡ d
         → ((gs : List (List ℕ)) → read_fields f (drop (3 + length_at (b ∷ s)) (b ∷ s)) ≡ some gs → Formed (drop (3 + length_at (b ∷ s)) (b ∷ s)) gs)
         → Formed (b ∷ s) fs
     go true d p q ih = let z : b ≡ 0 = eqb-true b 0 p in formed_zeros b s fs z (sym (at_zero f b s z) ∙ e)
+    go false false p q ih = let n = at_bad f b s (eqb-false b 0 p) q in absurd (cc)
     go false true p q ih =
-        let n = at_bad f b s (eqb-false b 0 p) (not_whole (b ∷ s) (eqb-true (field_size (b ∷ s)) 0 q)) in
-        let y : ◌≡◌ {A = ℕ} 0 1 = cc in
-        absurd (omega arith)
-    go false false p q ih =
-        let k : FrontField (b ∷ s) = front_of (b ∷ s) (eqb-false (field_size (b ∷ s)) 0 q) in
         let r : field_then (take (3 + length_at (b ∷ s)) (b ∷ s)) (read_fields f (drop (3 + length_at (b ∷ s)) (b ∷ s))) ≡ some fs =
-        sym (field_at f (b ∷ s) (eqb-false b 0 p) k.whole) ∙ e in
+        sym (field_at f (b ∷ s) (eqb-false b 0 p) q) ∙ e in
         let m : Formed (take (3 + length_at (b ∷ s)) (b ∷ s) ++ drop (3 + length_at (b ∷ s)) (b ∷ s)) fs =
         formed_more (take (3 + length_at (b ∷ s)) (b ∷ s)) (drop (3 + length_at (b ∷ s)) (b ∷ s)) (read_fields f (drop (3 + length_at (b ∷ s)) (b ∷ s))) fs
-        (taken_field (b ∷ s) k) ih r in
+        (taken_field (b ∷ s) (front_of (b ∷ s) q)) ih r in
         rw (take-append-drop (3 + length_at (b ∷ s)) (b ∷ s)) at m
 
 pub store_parsed : (o : List ℕ) (fs : List (List ℕ)) → fields_of o ≡ some fs → Formed o fs
@@ -90,45 +87,45 @@ pub record FieldIn (k i : ℕ) (fs : List (List ℕ)) (p : FieldAt) : Type 0 whe
   pub field : List ℕ
   pub back : List (List ℕ)
   pub is : fs ≡ front ++ (field ∷ back)
-  pub there : p.found ≡ true
+  pub there : has_tag k fs ≡ true
   pub at_is : p.at ≡ i + length (field_bytes front)
   pub size_is : p.size ≡ length field
   pub gone : without_tag k fs ≡ front ++ back
   pub body : draft_of k fs ≡ some (drop 3 field)
 
-pub field_in : (k i : ℕ) (fs : List (List ℕ)) → has_tag k fs ≡ true → FieldIn k i fs (field_from k i fs)
+pub field_in : (k i : ℕ) (fs : List (List ℕ)) (p : FieldAt) → field_from k i fs ≡ Some p → FieldIn k i fs p
 unfolding has_tag field_from without_tag draft_of field_bytes
-field_in k i [] h = let y : ◌≡◌ {A = ℕ} 0 1 = cc in absurd (omega arith)
-field_in k i (f ∷ fs) h = go (eqb (tag_in f) k) refl h (field_in k (i + length f) fs)
+field_in k i [] p e = absurd (cc)
+field_in k i (f ∷ fs) p e = go (eqb (tag_in f) k) refl e (field_in k (i + length f) fs p)
   where
-    go : (c : Bool) → eqb (tag_in f) k ≡ c → pick c true (has_tag k fs) ≡ true
-        → (has_tag k fs ≡ true → FieldIn k (i + length f) fs (field_from k (i + length f) fs))
-        → FieldIn k i (f ∷ fs) (pick (eqb (tag_in f) k) (record { found = true; at = i; size = length f }) (field_from k (i + length f) fs))
-    go true e q r = rw e (record { front = []; field = f; back = fs; is = refl; there = refl; at_is = omega arith; size_is = refl; gone = rw e; body = rw e })
+    go : (c : Bool) → eqb (tag_in f) k ≡ c → pick c (Some (record { at = i; size = length f })) (field_from k (i + length f) fs) ≡ Some p
+        → (field_from k (i + length f) fs ≡ Some p → FieldIn k (i + length f) fs p) → FieldIn k i (f ∷ fs) p
+    go true e q r =
+        let z : p ≡ record { at = i; size = length f } = cc in
+        rw z (record { front = []; field = f; back = fs; is = refl; there = rw e; at_is = omega arith; size_is = refl; gone = rw e; body = rw e })
     go false e q r =
         let a = r q in
-        rw e (record {
+        record {
           front = f ∷ a.front;
           field = a.field;
           back = a.back;
           is = ap (λ (l : List (List ℕ)). f ∷ l) a.is;
-          there = a.there;
+          there = rw e a.there;
           at_is = omega (arith, a.at_is, length-append f (field_bytes a.front));
           size_is = a.size_is;
           gone = rw e (ap (λ (l : List (List ℕ)). f ∷ l) a.gone);
           body = rw e a.body;
-        })
+        }
 
-pub field_absent : (k i : ℕ) (fs : List (List ℕ)) → has_tag k fs ≡ false → (field_from k i fs ≡ no_field) × (without_tag k fs ≡ fs) × (draft_of k fs ≡ none)
+pub field_absent : (k i : ℕ) (fs : List (List ℕ)) → field_from k i fs ≡ None → (has_tag k fs ≡ false) × (without_tag k fs ≡ fs) × (draft_of k fs ≡ none)
 unfolding has_tag field_from without_tag draft_of
 field_absent k i [] h = (refl, refl, refl)
 field_absent k i (f ∷ fs) h = go (eqb (tag_in f) k) refl h (field_absent k (i + length f) fs)
   where
-    go : (c : Bool) → eqb (tag_in f) k ≡ c → pick c true (has_tag k fs) ≡ false
-        → (has_tag k fs ≡ false → (field_from k (i + length f) fs ≡ no_field) × (without_tag k fs ≡ fs) × (draft_of k fs ≡ none))
-        → (pick (eqb (tag_in f) k) (record { found = true; at = i; size = length f }) (field_from k (i + length f) fs) ≡ no_field)
-        × (without_tag k (f ∷ fs) ≡ f ∷ fs) × (draft_of k (f ∷ fs) ≡ none)
-    go true e q r = let y : ◌≡◌ {A = ℕ} 0 1 = cc in absurd (omega arith)
+    go : (c : Bool) → eqb (tag_in f) k ≡ c → pick c (Some (record { at = i; size = length f })) (field_from k (i + length f) fs) ≡ None
+        → (field_from k (i + length f) fs ≡ None → (has_tag k fs ≡ false) × (without_tag k fs ≡ fs) × (draft_of k fs ≡ none))
+        → (has_tag k (f ∷ fs) ≡ false) × (without_tag k (f ∷ fs) ≡ f ∷ fs) × (draft_of k (f ∷ fs) ≡ none)
+    go true e q r = absurd (cc)
     go false e q r = let a = r q in rw e (a.0, ap (λ (l : List (List ℕ)). f ∷ l) a.1, a.2)
 
 joined_append : (a b : List (List ℕ)) → field_bytes (a ++ b) ≡ field_bytes a ++ field_bytes b

@@ -4,12 +4,13 @@ use Prim.Native.Nat.{ℕ, suc, ◌+◌, ◌-◌, ◌/◌, ◌%◌, ◌≤◌, �
 use native.Mathlib.Omega.{arith}
 use native.Mathlib.Numerals.{add-one}
 use mathlib.Core.List.{List, [], ◌∷◌, ◌++◌, append_assoc, append-nil}
-use lib.ListN.{length, get_or, set, take, drop, replicate, length-append, length-replicate, length-drop, length-set, get_or-replicate, drop_of_length-le}
+use lib.ListN.{length, get_or, set, take, drop, replicate, length-append, length-drop, length-set, drop_of_length-le}
 use lib.ListN.{take-append-drop, replicate-append-replicate}
 use native.Mathlib.Nat.{add-suc}
+use borrow.Rule.Slice.PartMut.{put_mid}
 use Rattle.common.proofs.Copies.{Copied, copied_none, copied_more, copied_all, copied_after}
 use Rattle.tree.specs.Accepted.{element}
-use lib.Seq.{sets, sets-eq, set_split, set_at, drop-cons, paste, length-paste, take-paste, get_or-drop, take_at, drop_at, take_all, length-take-le, take-take}
+use lib.Seq.{get_or-drop, sets, sets-eq, set_split, set_at, drop-cons, paste, length-paste, take-paste, take_at, drop_at, take_all, length-take-le, take-take}
 use lib.Seq.{drop-drop, drop-append-le}
 
 -- ---- down over a gap
@@ -18,7 +19,7 @@ module _ (d : List ℕ) (at size : ℕ) (h : at + size ≤ length d) where
   pub down_none : Copied d at (drop (at + size) d) d 0
   down_none = copied_none d at (drop (at + size) d) (omega (arith, length-drop (at + size) d))
 
-  pub down_more : (s : List ℕ) (j : ℕ) → Copied d at (drop (at + size) d) s j → j < length s - (at + size)
+  pub down_more : (s : List ℕ) (j : ℕ) → Copied d at (drop (at + size) d) s j → j < length d - (at + size)
       → Copied d at (drop (at + size) d) (set s (at + j) (get_or s (at + size + j) 0)) (j + 1)
   down_more s j k l =
       let n = k.long in
@@ -26,41 +27,18 @@ module _ (d : List ℕ) (at size : ℕ) (h : at + size ≤ length d) where
       copied_more d at (drop (at + size) d) s j k (omega (arith, length-drop (at + size) d)) (get_or s (at + size + j) 0)
       (rw e (copied_after d at (drop (at + size) d) s j k size) ∙ ap (λ (i : ℕ). get_or d i 0) (sym e) ∙ sym (get_or-drop (at + size) d j 0))
 
-  pub down_all : (s : List ℕ) (j : ℕ) → Copied d at (drop (at + size) d) s j → length s - (at + size) ≤ j
+  pub down_all : (s : List ℕ) (j : ℕ) → Copied d at (drop (at + size) d) s j → length d - (at + size) ≤ j
       → s ≡ paste d at (drop (at + size) d) (length d - (at + size))
   down_all s j k l =
       let n = k.long in
       rw (length-drop (at + size) d) at (copied_all d at (drop (at + size) d) s j k (omega (arith, length-drop (at + size) d)))
 
--- ---- zero bytes
-
-module _ (d : List ℕ) (at : ℕ) (h : at ≤ length d) where
-  abbrev pub z : List ℕ
-  z = replicate (length d - at) 0
-
-  z_length : length z ≡ length d - at
-  z_length = length-replicate (length d - at) 0
-
-  pub zero_none : Copied d at z d 0
-  zero_none = copied_none d at z (omega (arith, z_length))
-
-  pub zero_more : (s : List ℕ) (j : ℕ) → Copied d at z s j → j < length s - at → Copied d at z (set s (at + j) 0) (j + 1)
-  zero_more s j k l =
-      let n = k.long in
-      copied_more d at z s j k (omega (arith, z_length)) 0 (sym (get_or-replicate (length d - at) j 0 0 (omega arith)))
-
-  pub zero_all : (s : List ℕ) (j : ℕ) → Copied d at z s j → length s - at ≤ j → s ≡ take at d ++ replicate (length d - at) 0
-  zero_all s j k l =
-      let n = k.long in
-      let e : s ≡ paste d at z (length z) = copied_all d at z s j k (omega (arith, z_length)) in
-      let q : at + length z ≡ length d = omega (arith, z_length) in
-      e ∙ rw (take_all (length z) z (omega arith), drop_of_length-le d {i = at + length z} (omega arith)) (append-nil (take at d ++ z))
-
 -- ---- the gap closed
 
-pub gap_closed : (d : List ℕ) (at size : ℕ) (s e : List ℕ) → at + size ≤ length d → s ≡ paste d at (drop (at + size) d) (length d - (at + size))
-    → e ≡ take (length s - size) s ++ replicate (length s - (length s - size)) 0 → e ≡ take at d ++ (drop (at + size) d ++ replicate size 0)
-gap_closed d at size s e h p q =
+pub gap_closed : (d : List ℕ) (at size : ℕ) (s z : List ℕ) → at + size ≤ length d → s ≡ paste d at (drop (at + size) d) (length d - (at + size))
+    → z ≡ replicate (length s - (length s - size)) 0
+    → put_mid (length s - size) (length s - (length s - size)) s z ≡ take at d ++ (drop (at + size) d ++ replicate size 0)
+gap_closed d at size s z h p q =
     let l : length s ≡ length d = ap length p
     ∙ length-paste d at (drop (at + size) d) (length d - (at + size)) (omega arith) (omega (arith, length-drop (at + size) d)) in
     let n : length s - (length s - size) ≡ size = omega arith in
@@ -68,12 +46,10 @@ gap_closed d at size s e h p q =
     let t : take (length s - size) s ≡ take at d ++ drop (at + size) d =
     ap₂ take a p ∙ take-paste d at (drop (at + size) d) (length d - (at + size)) (omega arith) (omega (arith, length-drop (at + size) d))
     ∙ ap (λ (x : List ℕ). take at d ++ x) (take_all (length d - (at + size)) (drop (at + size) d) (omega (arith, length-drop (at + size) d))) in
-    q ∙ rw (t, n) (append_assoc (take at d) (drop (at + size) d) (replicate size 0))
-
-pub nothing_out : (d : List ℕ) (at size : ℕ) → size ≡ 0 → d ≡ take at d ++ (drop (at + size) d ++ replicate size 0)
-nothing_out d at size h =
-    let e : at + 0 ≡ at = omega arith in
-    rw (h, e) (sym (ap (λ (l : List ℕ). take at d ++ l) (append-nil (drop at d)) ∙ take-append-drop at d))
+    let e : put_mid (length s - size) (length s - (length s - size)) s z ≡ take (length s - size) s ++ (z ++ []) =
+    ap (λ (x : List ℕ). take (length s - size) s ++ (z ++ x))
+    (drop_of_length-le (drop (length s - size) s) {i = length s - (length s - size)} (omega (arith, length-drop (length s - size) s))) in
+    e ∙ rw (append-nil z, t, q, n) (append_assoc (take at d) (drop (at + size) d) (replicate size 0))
 
 -- a gap among the first bytes of d, with zero bytes behind them
 pub part_out : (d g : List ℕ) (at size used : ℕ) → at + size ≤ used → used ≤ length d → drop used d ≡ replicate (length d - used) 0

@@ -4,25 +4,27 @@ use Prim.Native.Nat.{ℕ, ◌+◌, ◌-◌, ◌≤◌, ◌<◌}
 use native.Mathlib.Omega.{arith}
 use mathlib.Core.Bool.{Bool, true, false}
 use mathlib.Core.List.{List, [], ◌∷◌, ◌++◌, append_assoc, append-nil}
-use mathlib.Core.Option.{Option, some, none}
-use lib.ListN.{length, take, drop, replicate, length-drop, length-append}
+use mathlib.Core.Option.{Option as Maybe, some, none}
+use Rattle.std.specs.Prelude.{Option, Some, None, Ok, Err, MatchOption, ok_or}
+use lib.ListN.{length, take, drop, replicate, length-append}
 use lib.Seq.{sets, take_at, drop-append-add}
 use borrow.Author.Tests.{lt-ltb, le-ltb}
 use Rattle.common.specs.Choice.{pick}
+use Rattle.common.specs.Refusals.{number_of, refusal_of}
+use Rattle.common.specs.declared.refusal.Refusal.{Refusal}
 use Rattle.common.proofs.Padded.{drop_replicate}
 use Rattle.tree.specs.declared.ReadTree.{ReadTree}
-use Rattle.common.specs.Outcome.{Outcome}
 use Rattle.common.proofs.Stores.{sets_front}
 use Rattle.tree.specs.Reading.{ReadOne, read_tree, tree_answer}
 use Rattle.tree.specs.Accepted.{element}
 use Rattle.tree.proofs.Sound.{tree_refusal, tree_sound}
-use Rattle.drafts.specs.Store.{is_name, tag_for, has_tag, fields_of, field_bytes, store_of, without_tag, save_tree, save_in, save_of, forget_in, forget_of}
+use Rattle.drafts.specs.Store.{is_name, tag_for, has_tag, fields_of, field_bytes, store_of, without_tag, draft_of, save_tree, save_in, save_of, forget_in}
+use Rattle.drafts.specs.Store.{forget_of}
 use Rattle.drafts.specs.Store.{no_return, return_found, return_in, return_of}
-use Rattle.drafts.specs.Clauses.{no_field, field_from, scan_of, refused_open, opened_of}
+use Rattle.drafts.specs.Clauses.{field_from, scan_of, opened_of}
 use Rattle.drafts.specs.Promises.{TreeRead, Field, Fields, Formed}
 use Rattle.drafts.specs.declared.scan.FieldAt.{FieldAt}
 use Rattle.drafts.specs.declared.scan.Scan.{Scan}
-use Rattle.drafts.specs.declared.Opened.{Opened}
 use Rattle.drafts.proofs.Formed.{store_parsed, FieldIn, field_in, field_absent, used_and_zeros, zeros_behind, at_within, at_used, gap_store, body_is}
 use Rattle.drafts.proofs.Formed.{others_is, size_low}
 
@@ -50,101 +52,120 @@ put_store n fs f m q h =
 
 -- ---- from a scan
 
-module _ (n : ℕ) (x : Option (List (List ℕ))) (s : Scan) (e : s ≡ scan_of (tag_for n) x) where
-  pub open_18 : s.ok ≡ false → refused_open 18 ≡ opened_of n x
-  open_18 h = go x (sym (ap (λ (t : Scan). t.ok) e) ∙ h)
-    where
-      go : (x : Option (List (List ℕ))) → (scan_of (tag_for n) x).ok ≡ false → refused_open 18 ≡ opened_of n x
-      go none q = refl
-      go (some fs) q = let y : ◌≡◌ {A = ℕ} 0 1 = cc in absurd (omega arith)
+abbrev opened_at : ℕ → List (List ℕ) → Scan
+opened_at n fs = record { used = length (field_bytes fs); spot = field_from (tag_for n) 0 fs }
 
-  pub open_19 : s.ok ≡ true → is_name n ≡ false → refused_open 19 ≡ opened_of n x
-  open_19 h m = go x (sym (ap (λ (t : Scan). t.ok) e) ∙ h)
+module _ (n : ℕ) (x : Maybe (List (List ℕ))) (k : ℕ) (h : k ≡ tag_for n) where
+  pub open_18 : (s : Option Scan) → s ≡ scan_of k x → (r : Refusal) → Err r ≡ ok_or s Refusal.BadStore → Err r ≡ opened_of n x
+  unfolding refusal_of
+  open_18 s e r q = go x (rw e at q)
     where
-      go : (x : Option (List (List ℕ))) → (scan_of (tag_for n) x).ok ≡ true → refused_open 19 ≡ opened_of n x
-      go none q = let y : ◌≡◌ {A = ℕ} 0 1 = cc in absurd (omega arith)
+      go : (x : Maybe (List (List ℕ))) → Err r ≡ ok_or (scan_of k x) Refusal.BadStore → Err r ≡ opened_of n x
+      go none q = q
+      go (some fs) q = absurd (cc)
+
+  pub open_19 : (s : Option Scan) → s ≡ scan_of k x → (p : Scan) → Ok p ≡ ok_or s Refusal.BadStore → is_name n ≡ false → Err Refusal.NoDraft ≡ opened_of n x
+  unfolding refusal_of
+  open_19 s e p q m = go x (rw e at q)
+    where
+      go : (x : Maybe (List (List ℕ))) → Ok p ≡ ok_or (scan_of k x) Refusal.BadStore → Err Refusal.NoDraft ≡ opened_of n x
+      go none q = absurd (cc)
       go (some fs) q = rw m
 
-  pub open_0 : s.ok ≡ true → is_name n ≡ true → record { number = 0; used = s.used; spot = s.spot } ≡ opened_of n x
-  open_0 h m = rw e (go x (sym (ap (λ (t : Scan). t.ok) e) ∙ h))
-    where
-      go : (x : Option (List (List ℕ))) → (scan_of (tag_for n) x).ok ≡ true → record {
-        number = 0;
-        used = (scan_of (tag_for n) x).used;
-        spot = (scan_of (tag_for n) x).spot;
-      } ≡ opened_of n x
-      go none q = let y : ◌≡◌ {A = ℕ} 0 1 = cc in absurd (omega arith)
-      go (some fs) q = rw m
+-- what `ok_or` refuses
+pub none_there : {A E : Type 0} (s : Option A) (d r : E) → Err r ≡ ok_or s d → (s ≡ None) × (r ≡ d)
+none_there None d r e = (refl, cc)
+none_there (Some x) d r e = absurd (cc)
 
--- ---- a refusal
+-- ---- refused
 
--- of a name: f is the refusal, y what is done otherwise
-named : {A : Type 0} (f : ℕ → A) (n : ℕ) (fs : List (List ℕ)) (y : A) (c : Bool)
-    → ((pick c (record { number = 0; used = length (field_bytes fs); spot = field_from (tag_for n) 0 fs }) (refused_open 19)).number ≡ 0 → ⊥)
-    → f (pick c (record { number = 0; used = length (field_bytes fs); spot = field_from (tag_for n) 0 fs }) (refused_open 19)).number ≡ pick c y (f 19)
-named f n fs y true q = absurd (q refl)
-named f n fs y false q = refl
+-- the store is not of the right form, or the name is none of those that it may have
+data Unopened (o : List ℕ) (n k : ℕ) : Type 0 where
+  bad_store : fields_of o ≡ none → k ≡ 18 → Unopened o n k
+  no_name : (fs : List (List ℕ)) → fields_of o ≡ some fs → is_name n ≡ false → k ≡ 19 → Unopened o n k
 
-module _ (o : List ℕ) (n : ℕ) (p : Opened) (e : p ≡ opened_of n (fields_of o)) (h : p.number ≡ 0 → ⊥) where
-  opened_not : (opened_of n (fields_of o)).number ≡ 0 → ⊥
-  opened_not z = h (ap (λ (q : Opened). q.number) e ∙ z)
+unopened : (o : List ℕ) (n : ℕ) (r : Refusal) → Err r ≡ opened_of n (fields_of o) → Unopened o n (number_of r)
+unfolding refusal_of
+unopened o n r e = go (fields_of o) refl e
+  where
+    named : (fs : List (List ℕ)) → fields_of o ≡ some fs → (c : Bool) → is_name n ≡ c
+        → Err r ≡ pick c (Ok (opened_at n fs)) (Err (refusal_of 19)) → Unopened o n (number_of r)
+    named fs p true m q = absurd (cc)
+    named fs p false m q = no_name fs p m (let z : r ≡ refusal_of 19 = cc in ap number_of z)
 
-  abbrev stays : ℕ → Outcome ℕ (List ℕ)
-  stays k = record { answer = k; memory = o }
+    go : (x : Maybe (List (List ℕ))) → fields_of o ≡ x → Err r ≡ opened_of n x → Unopened o n (number_of r)
+    go none p q = let z : r ≡ refusal_of 18 = cc in bad_store p (ap number_of z)
+    go (some fs) p q = named fs p (is_name n) refl q
 
-  pub refused_return : (out : List ℕ) → no_return p.number out ≡ return_of o n out
+module _ (o : List ℕ) (n : ℕ) (r : Refusal) (e : Err r ≡ opened_of n (fields_of o)) where
+  pub refused_return : (out : List ℕ) → no_return (number_of r) out ≡ return_of o n out
   unfolding return_of
-  refused_return out = rw e (go (fields_of o) opened_not)
+  refused_return out = go (unopened o n r e)
     where
-      go : (x : Option (List (List ℕ))) → ((opened_of n x).number ≡ 0 → ⊥) → no_return (opened_of n x).number out ≡ return_in x n out
-      go none q = refl
-      go (some fs) q = named (λ k. no_return k out) n fs _ (is_name n) q
+      go : Unopened o n (number_of r) → no_return (number_of r) out ≡ return_in (fields_of o) n out
+      go (bad_store p q) = rw (q, p)
+      go (no_name fs p m q) = rw (q, p, m)
 
-  pub refused_save : (tree : List ℕ) → record { answer = p.number; memory = o } ≡ save_of o n tree
+  pub refused_save : (tree : List ℕ) → record { answer = number_of r; memory = o } ≡ save_of o n tree
   unfolding save_of
-  refused_save tree = rw e (go (fields_of o) opened_not)
+  refused_save tree = go (unopened o n r e)
     where
-      go : (x : Option (List (List ℕ))) → ((opened_of n x).number ≡ 0 → ⊥) → stays (opened_of n x).number ≡ save_in o x n tree
-      go none q = refl
-      go (some fs) q = named stays n fs _ (is_name n) q
+      go : Unopened o n (number_of r) → record { answer = number_of r; memory = o } ≡ save_in o (fields_of o) n tree
+      go (bad_store p q) = rw (q, p)
+      go (no_name fs p m q) = rw (q, p, m)
 
-  pub refused_forget : record { answer = p.number; memory = o } ≡ forget_of o n
+  pub refused_forget : record { answer = number_of r; memory = o } ≡ forget_of o n
   unfolding forget_of
-  refused_forget = rw e (go (fields_of o) opened_not)
+  refused_forget = go (unopened o n r e)
     where
-      go : (x : Option (List (List ℕ))) → ((opened_of n x).number ≡ 0 → ⊥) → stays (opened_of n x).number ≡ forget_in o x n
-      go none q = refl
-      go (some fs) q = named stays n fs _ (is_name n) q
+      go : Unopened o n (number_of r) → record { answer = number_of r; memory = o } ≡ forget_in o (fields_of o) n
+      go (bad_store p q) = rw (q, p)
+      go (no_name fs p m q) = rw (q, p, m)
 
 -- ---- opened
 
--- the place of an older draft, none where its size is 0, and the fields beside it
-pub record SaveRoom (o : List ℕ) (rest : List (List ℕ)) (used : ℕ) (q : FieldAt) : Type 0 where
-  pub low : q.size ≤ used
-  pub high : used ≤ length o
-  pub others : used - q.size ≡ length (field_bytes rest)
-  pub fits : q.at + q.size ≤ used
-  pub zeros : drop used o ≡ replicate (length o - used) 0
-  pub closed : take q.at o ++ (drop (q.at + q.size) o ++ replicate q.size 0) ≡ store_of (length o) rest
+abbrev pub size_in : Option FieldAt → ℕ
+size_in None = 0
+size_in (Some f) = f.size
 
-pub record Openable (o : List ℕ) (n : ℕ) (p : Opened) : Type 0 where
+pub size_is : (q : Option FieldAt) (s : ℕ) (P : FieldAt → Type 0) → MatchOption q (s ≡ 0) P → ((f : FieldAt) → P f → s ≡ f.size) → s ≡ size_in q
+size_is None s P h k = h
+size_is (Some f) s P h k = k f h
+
+pub none_is : (q : Option FieldAt) → ((f : FieldAt) → q ≡ Some f → ⊥) → q ≡ None
+none_is None h = refl
+none_is (Some f) h = absurd (h f refl)
+
+-- the place of an older draft, if there is one, and the fields beside it
+pub record SaveRoom (o : List ℕ) (rest : List (List ℕ)) (used : ℕ) (q : Option FieldAt) : Type 0 where
+  pub low : size_in q ≤ used
+  pub high : used ≤ length o
+  pub others : used - size_in q ≡ length (field_bytes rest)
+  pub zeros : drop used o ≡ replicate (length o - used) 0
+  pub fits : (f : FieldAt) → q ≡ Some f → f.at + f.size ≤ used
+  pub closed : (f : FieldAt) → q ≡ Some f → take f.at o ++ (drop (f.at + f.size) o ++ replicate f.size 0) ≡ store_of (length o) rest
+  pub whole : q ≡ None → o ≡ store_of (length o) rest
+
+pub record Openable (o : List ℕ) (n : ℕ) (p : Scan) : Type 0 where
   pub fs : List (List ℕ)
   pub reads : fields_of o ≡ some fs
   pub named : is_name n ≡ true
   pub used_is : p.used ≡ length (field_bytes fs)
   pub spot_is : p.spot ≡ field_from (tag_for n) 0 fs
 
-pub opened_ready : (o : List ℕ) (n : ℕ) (p : Opened) → p ≡ opened_of n (fields_of o) → p.number ≡ 0 → Openable o n p
-opened_ready o n p e h = go (fields_of o) refl (e) (sym (ap (λ (q : Opened). q.number) e) ∙ h)
+pub opened_ready : (o : List ℕ) (n : ℕ) (p : Scan) → Ok p ≡ opened_of n (fields_of o) → Openable o n p
+opened_ready o n p e = go (fields_of o) refl e
   where
-    go : (x : Option (List (List ℕ))) → fields_of o ≡ x → p ≡ opened_of n (fields_of o) → (opened_of n (fields_of o)).number ≡ 0 → Openable o n p
-    go none r e q = let z : ◌≡◌ {A = ℕ} 18 0 = rw r at q in absurd (omega arith)
-    go (some fs) r e q = named (is_name n) refl (rw r at q) (e ∙ ap (opened_of n) r)
-      where
-        named : (c : Bool) → is_name n ≡ c → (opened_of n (some fs)).number ≡ 0 → p ≡ opened_of n (some fs) → Openable o n p
-        named true m q e = let d : p ≡ record { number = 0; used = length (field_bytes fs); spot = field_from (tag_for n) 0 fs } = e
-            ∙ rw m in record { fs = fs; reads = r; named = m; used_is = ap (λ (y : Opened). y.used) d; spot_is = ap (λ (y : Opened). y.spot) d }
-        named false m q e = let z : ◌≡◌ {A = ℕ} 19 0 = rw m at q in absurd (omega arith)
+    named : (fs : List (List ℕ)) → fields_of o ≡ some fs → (c : Bool) → is_name n ≡ c
+        → Ok p ≡ pick c (Ok (opened_at n fs)) (Err (refusal_of 19)) → Openable o n p
+    named fs r true m q =
+        let d : p ≡ opened_at n fs = cc in
+        record { fs = fs; reads = r; named = m; used_is = ap (λ (y : Scan). y.used) d; spot_is = ap (λ (y : Scan). y.spot) d }
+    named fs r false m q = absurd (cc)
+
+    go : (x : Maybe (List (List ℕ))) → fields_of o ≡ x → Ok p ≡ opened_of n x → Openable o n p
+    go none r q = absurd (cc)
+    go (some fs) r q = named fs r (is_name n) refl q
 
 -- what the tree reader answers
 pub tree_read : (tree : List ℕ) → (tree_answer (read_tree tree)).number ≡ 0 → TreeRead tree
@@ -157,82 +178,63 @@ tree_read tree h = go (read_tree tree) refl h
 pub got_tree : (tree : List ℕ) (a : ReadTree) → a ≡ tree_answer (read_tree tree) → a.number ≡ 0 → TreeRead tree
 got_tree tree a e h = tree_read tree (sym (ap (λ (y : ReadTree). y.number) e) ∙ h)
 
-module _ (o : List ℕ) (n : ℕ) (p : Opened) (r : Openable o n p) where
-  has_is : (c : Bool) → has_tag (tag_for n) r.fs ≡ c → p.spot.found ≡ c
-  has_is true h = ap (λ (y : FieldAt). y.found) r.spot_is ∙ (field_in (tag_for n) 0 r.fs h).there
-  has_is false h = ap (λ (y : FieldAt). y.found) (r.spot_is ∙ (field_absent (tag_for n) 0 r.fs h).0)
-
-  pub has_found : has_tag (tag_for n) r.fs ≡ p.spot.found
-  has_found = sym (has_is (has_tag (tag_for n) r.fs) refl)
-
-  pub draft_there : p.spot.found ≡ true → FieldIn (tag_for n) 0 r.fs p.spot
-  draft_there h = rw r.spot_is (field_in (tag_for n) 0 r.fs (has_found ∙ h))
-
+module _ (o : List ℕ) (n : ℕ) (p : Scan) (r : Openable o n p) where
   formed : Formed o r.fs
   formed = store_parsed o r.fs r.reads
 
-  -- ---- forgetting
+  -- ---- no draft of that name
 
-  pub forget_absent : p.spot.found ≡ false → record { answer = 19; memory = o } ≡ forget_of o n
-  unfolding forget_of
-  forget_absent h = rw (r.reads, r.named, has_found, h)
+  module _ (h : p.spot ≡ None) where
+    absent : (has_tag (tag_for n) r.fs ≡ false) × (without_tag (tag_for n) r.fs ≡ r.fs) × (draft_of (tag_for n) r.fs ≡ none)
+    absent = field_absent (tag_for n) 0 r.fs (sym r.spot_is ∙ h)
 
-  pub forget_within : p.spot.found ≡ true → p.spot.at + p.spot.size ≤ length o
-  forget_within h = at_within o (tag_for n) r.fs p.spot formed (draft_there h)
+    pub forget_absent : record { answer = 19; memory = o } ≡ forget_of o n
+    unfolding forget_of
+    forget_absent = let a = absent in rw (r.reads, r.named, a.0)
 
-  pub forget_there : p.spot.found ≡ true → (e :
-      List ℕ) → e ≡ take p.spot.at o ++ (drop (p.spot.at + p.spot.size) o ++ replicate p.spot.size 0) → record {
-        answer = 0;
-        memory = e;
-      } ≡ forget_of o n
-  unfolding forget_of
-  forget_there h e q =
-      let g : e ≡ store_of (length o) (without_tag (tag_for n) r.fs) = q ∙ gap_store o (tag_for n) r.fs p.spot formed (draft_there h) in
-      rw (r.reads, r.named, has_found, h, g)
+    pub return_absent : (out : List ℕ) → no_return 19 out ≡ return_of o n out
+    unfolding return_of
+    return_absent out = let a = absent in rw (r.reads, r.named, a.2)
 
-  -- ---- returning
+  -- ---- a draft of that name
 
-  field_long : (h : p.spot.found ≡ true) → 3 ≤ p.spot.size
-  field_long h = let a = draft_there h in let f = fields_mid a.front a.field a.back (rw a.is at formed.good) in
-      omega (arith, f.ends, a.size_is)
+  module _ (f : FieldAt) (h : p.spot ≡ Some f) where
+    draft_there : FieldIn (tag_for n) 0 r.fs f
+    draft_there = field_in (tag_for n) 0 r.fs f (sym r.spot_is ∙ h)
 
-  pub return_absent : p.spot.found ≡ false → (out : List ℕ) → no_return 19 out ≡ return_of o n out
-  unfolding return_of
-  return_absent h out = let a = field_absent (tag_for n) 0 r.fs (has_found ∙ h) in rw (r.reads, r.named, a.2)
+    pub forget_there : (e : List ℕ) → e ≡ take f.at o ++ (drop (f.at + f.size) o ++ replicate f.size 0) → record { answer = 0; memory = e } ≡ forget_of o n
+    unfolding forget_of
+    forget_there e q =
+        let g : e ≡ store_of (length o) (without_tag (tag_for n) r.fs) = q ∙ gap_store o (tag_for n) r.fs f formed draft_there in
+        rw (r.reads, r.named, draft_there.there, g)
 
-  module _ (h : p.spot.found ≡ true) where
-    pub return_size : (3 ≤ p.spot.size) × (p.spot.at + p.spot.size ≤ length o)
-    return_size = (field_long h, forget_within h)
+    pub field_place : (3 ≤ f.size) × (f.at + f.size ≤ length o)
+    field_place =
+        let a = draft_there in
+        let k = fields_mid a.front a.field a.back (rw a.is at formed.good) in
+        (omega (arith, k.ends, a.size_is), at_within o (tag_for n) r.fs f formed a)
 
-    body : List ℕ
-    body = drop 3 (draft_there h).field
+    -- the part of the store that is copied
+    abbrev part : List ℕ
+    part = take (f.at + f.size - (f.at + 3)) (drop (f.at + 3) o)
 
-    body_at : take (p.spot.size - 3) (drop (p.spot.at + 3) o) ≡ body
-    unfolding body
-    body_at = body_is o (tag_for n) r.fs p.spot formed (draft_there h) (field_long h)
+    part_is : part ≡ drop 3 draft_there.field
+    part_is =
+        let c : f.at + f.size - (f.at + 3) ≡ f.size - 3 = omega (arith, field_place) in
+        rw c (body_is o (tag_for n) r.fs f formed draft_there field_place.0)
 
-    body_long : length body ≡ p.spot.size - 3
-    unfolding body
-    body_long = length-drop 3 (draft_there h).field ∙ omega (arith, (draft_there h).size_is)
+    returns_part : (out : List ℕ) → return_of o n out ≡ return_found (some part) out
+    unfolding return_of
+    returns_part out = let b = draft_there.body in rw (r.reads, r.named, b, part_is)
 
-    returns_body : (out : List ℕ) → return_of o n out ≡ return_found (some body) out
-    unfolding return_of body
-    returns_body out = rw (r.reads, r.named, (draft_there h).body)
+    pub return_short : (out : List ℕ) → length out < length part → no_return 8 out ≡ return_of o n out
+    return_short out l = rw (returns_part out, lt-ltb (length out) (length part) l)
 
-    pub return_short : (out : List ℕ) → length out < p.spot.size - 3 → no_return 8 out ≡ return_of o n out
-    return_short out l = let m : length out < length body = omega (arith, body_long) in rw (returns_body out, lt-ltb (length out) (length body) m)
-
-    pub return_there : (out e : List ℕ) → p.spot.size - 3 ≤ length out
-        → (let part = take (p.spot.at + p.spot.size - (p.spot.at + 3)) (drop (p.spot.at + 3) o) in e ≡ sets out 0 part)
-        → record { answer = record { number = 0; count = p.spot.size - 3 }; memory = e } ≡ return_of o n out
+    pub return_there : (out e : List ℕ) → length part ≤ length out → e ≡ sets out 0 part
+        → record { answer = record { number = 0; count = length part }; memory = e } ≡ return_of o n out
     return_there out e l q =
-        let m : length body ≤ length out = omega (arith, body_long) in
-        let c : p.spot.at + p.spot.size - (p.spot.at + 3) ≡ p.spot.size - 3 = omega (arith, field_long h) in
-        let b : take (p.spot.at + p.spot.size - (p.spot.at + 3)) (drop (p.spot.at + 3) o) ≡ body = ap (λ (k : ℕ). take k (drop (p.spot.at + 3) o)) c
-        ∙ body_at in
-        let g : e ≡ body ++ drop (length body) out = q ∙ rw b (sets_front body out m) in
-        let s : p.spot.size - 3 ≡ length body = sym body_long in
-        rw (returns_body out, le-ltb (length out) (length body) m, s, g)
+        let g : e ≡ part ++ drop (length part) out = q ∙ sets_front part out l in
+        rw (returns_part out, le-ltb (length out) (length part) l, g)
 
   -- ---- saving
 
@@ -253,34 +255,33 @@ module _ (o : List ℕ) (n : ℕ) (p : Opened) (r : Openable o n p) where
 
   -- both where there is an older draft of that name and where there is none
   pub opened_room : SaveRoom o rest p.used p.spot
-  opened_room = go p.spot.found refl
+  opened_room = go p.spot refl
     where
-      go : (c : Bool) → p.spot.found ≡ c → SaveRoom o rest p.used p.spot
-      go true h =
-          let a = draft_there h in
-          let q = others_is o (tag_for n) r.fs p.spot formed a in
-          let w = size_low o (tag_for n) r.fs p.spot formed a in
+      go : (q : Option FieldAt) → p.spot ≡ q → SaveRoom o rest p.used q
+      go None h =
+          let a = field_absent (tag_for n) 0 r.fs (sym r.spot_is ∙ h) in
+          rw a.1 (record {
+            low = omega arith;
+            high = omega (arith, r.used_is, used_low);
+            others = omega (arith, r.used_is);
+            zeros = behind;
+            fits = λ f e. absurd (cc);
+            closed = λ f e. absurd (cc);
+            whole = λ e. zeros_is;
+          })
+      go (Some f) h =
+          let a = field_in (tag_for n) 0 r.fs f (sym r.spot_is ∙ h) in
+          let q = others_is o (tag_for n) r.fs f formed a in
+          let w = size_low o (tag_for n) r.fs f formed a in
           record {
             low = omega (arith, r.used_is);
             high = omega (arith, r.used_is, used_low);
-            others = ap (λ (k : ℕ). k - p.spot.size) r.used_is ∙ sym q;
-            fits = omega (arith, r.used_is, at_used o (tag_for n) r.fs p.spot formed a);
+            others = ap (λ (k : ℕ). k - f.size) r.used_is ∙ sym q;
             zeros = behind;
-            closed = gap_store o (tag_for n) r.fs p.spot formed a;
+            fits = λ g e. let z : f ≡ g = cc in let w : f.at + f.size ≤ p.used = omega (arith, r.used_is, at_used o (tag_for n) r.fs f formed a) in rw z at w;
+            closed = λ g e. let z : f ≡ g = cc in rw z at (gap_store o (tag_for n) r.fs f formed a);
+            whole = λ e. absurd (cc);
           }
-      go false h =
-          let a = field_absent (tag_for n) 0 r.fs (has_found ∙ h) in
-          let s : p.spot ≡ no_field = r.spot_is ∙ a.0 in
-          let e : p.used - 0 ≡ length (field_bytes r.fs) = omega (arith, r.used_is) in
-          rw (s, a.1) (record {
-            low = omega arith;
-            high = omega (arith, r.used_is, used_low);
-            others = e;
-            fits = omega arith;
-            zeros = behind;
-            closed = append-nil o
-                ∙ zeros_is;
-          })
 
   save_fault : (tree : List ℕ) → ((tree_answer (read_tree tree)).number ≡ 0 → ⊥) → record { answer = (tree_answer (read_tree tree)).number; memory = o }
       ≡ save_of o n tree
@@ -296,21 +297,20 @@ module _ (o : List ℕ) (n : ℕ) (p : Opened) (r : Openable o n p) where
   bad_tree tree a e h = let q : a.number ≡ (tree_answer (read_tree tree)).number = ap (λ (y : ReadTree). y.number) e in
       ap (λ (k : ℕ). record { answer = k; memory = o }) q ∙ save_fault tree (λ z. h (q ∙ z))
 
-  pub save_full : (tree : List ℕ) → TreeRead tree → length o < p.used - p.spot.size + (3 + length tree)
+  pub save_full : (tree : List ℕ) → TreeRead tree → length o < p.used - size_in p.spot + (3 + length tree)
       → record { answer = 20; memory = o } ≡ save_of o n tree
   unfolding save_of
   save_full tree x h =
       let m : length o < length (field_bytes rest) + (3 + length tree) = omega (arith, opened_room.others) in
       rw (r.reads, r.named, x.reads, lt-ltb (length o) (length (field_bytes rest) + (3 + length tree)) m)
 
-  pub save_there : (tree : List ℕ) → TreeRead tree → p.used - p.spot.size + (3 + length tree) ≤ length o → (s e : List ℕ) (k : ℕ) → k ≡ tag_for n
-      → s ≡ take p.spot.at o ++ (drop (p.spot.at + p.spot.size) o ++ replicate p.spot.size 0)
-      → e ≡ take (p.used - p.spot.size) s ++ (element k tree ++ drop (p.used - p.spot.size + (3 + length tree)) s)
+  pub save_there : (tree : List ℕ) → TreeRead tree → p.used - size_in p.spot + (3 + length tree) ≤ length o → (s e : List ℕ) (k : ℕ) → k ≡ tag_for n
+      → s ≡ store_of (length o) rest
+      → e ≡ take (p.used - size_in p.spot) s ++ (element k tree ++ drop (p.used - size_in p.spot + (3 + length tree)) s)
       → record { answer = 0; memory = e } ≡ save_of o n tree
   unfolding save_of
-  save_there tree x h s e k j a b =
+  save_there tree x h s e k j q b =
       let m : length (field_bytes rest) + (3 + length tree) ≤ length o = omega (arith, opened_room.others) in
-      let q : s ≡ store_of (length o) rest = a ∙ opened_room.closed in
       let g : e ≡ store_of (length o) (rest ++ (element (tag_for n) tree ∷ [])) = b
       ∙ rw (opened_room.others, q, j) (put_store (length o) rest (element (tag_for n) tree) (3 + length tree) (omega arith) m) in
       rw (r.reads, r.named, x.reads, le-ltb (length o) (length (field_bytes rest) + (3 + length tree)) m, g)

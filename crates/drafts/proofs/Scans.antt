@@ -5,34 +5,27 @@ use native.Mathlib.Omega.{arith}
 use native.Mathlib.Numerals.{add-one}
 use mathlib.Core.Bool.{Bool, true, false}
 use mathlib.Core.List.{List, [], ◌∷◌, ◌++◌}
-use mathlib.Core.Option.{Option, some, none}
+use mathlib.Core.Option.{Option as Maybe, some, none}
+use Rattle.std.specs.Prelude.{Option, Some, None}
+use Rattle.std.specs.Bool.{then_some}
 use lib.ListN.{length, get_or, set, take, drop, replicate, length-append, length-drop, length-set, drop_of_length-le, get_or-replicate}
 use lib.Seq.{drop-cons, drop-drop, get_or-set_same, get_or-set_other, length-take-le, get_or-take}
 use borrow.Author.Rules.{part_to_end}
 use lib.Dec.{ltb, leb, eqb}
-use borrow.Author.Tests.{le-ltb, lt-ltb, le-leb, lt-leb, ne_eqb, eq-eqb, ltb-true, ltb-false, leb-true, eqb-true, eqb-false}
+use borrow.Author.Tests.{ne_eqb, eq-eqb, ltb-true, ltb-false, leb-true, eqb-true, eqb-false}
 use Rattle.common.specs.Choice.{pick}
 use Rattle.tree.specs.Bytes.{length_at}
 use Rattle.drafts.specs.Store.{is_tag, all_zero, tag_in, has_tag, whole_field, field_then, read_fields, fields_of, field_bytes}
-use Rattle.drafts.specs.Clauses.{field_size, no_field, next_field, field_from, no_scan, end_scan, scan_of}
+use Rattle.drafts.specs.Clauses.{field_size, field_from, scan_of}
 use Rattle.drafts.specs.declared.scan.FieldAt.{FieldAt}
-use Rattle.drafts.specs.declared.scan.Scan.{Scan}
 use Rattle.drafts.proofs.Fields.{fields_last, joined_last, absent}
 use Rattle.drafts.specs.Promises.{Field, Fields}
 
 -- ---- zero bytes
 
-pub zero_here : (s : List ℕ) (i : ℕ) → i < length s → get_or s i 0 ≡ 0 → all_zero (drop i s) ≡ all_zero (drop (i + 1) s)
+zero_here : (s : List ℕ) (i : ℕ) → i < length s → get_or s i 0 ≡ 0 → all_zero (drop i s) ≡ all_zero (drop (i + 1) s)
 unfolding all_zero
 zero_here s i h e = rw (drop-cons s i 0 h, add-one i, e)
-
-pub zero_not : (s : List ℕ) (i : ℕ) → i < length s → (get_or s i 0 ≡ 0 → ⊥) → all_zero (drop i s) ≡ false
-unfolding all_zero
-zero_not s i h e = rw (drop-cons s i 0 h, ne_eqb (get_or s i 0) 0 e)
-
-pub zero_end : (s : List ℕ) (i : ℕ) → length s ≤ i → all_zero (drop i s) ≡ true
-unfolding all_zero
-zero_end s i h = rw (drop_of_length-le s h)
 
 -- ---- what one byte leads to
 
@@ -57,11 +50,11 @@ field_at f (b ∷ s) d e = at_field f b s d e
 
 -- ---- fields done, before others
 
-unfoldable pub all_then : List (List ℕ) → Option (List (List ℕ)) → Option (List (List ℕ))
+unfoldable pub all_then : List (List ℕ) → Maybe (List (List ℕ)) → Maybe (List (List ℕ))
 all_then [] x = x
 all_then (f ∷ fs) x = field_then f (all_then fs x)
 
-onto_last : (fs : List (List ℕ)) (g : List ℕ) (x : Option (List (List ℕ))) → all_then (fs ++ (g ∷ [])) x ≡ all_then fs (field_then g x)
+onto_last : (fs : List (List ℕ)) (g : List ℕ) (x : Maybe (List (List ℕ))) → all_then (fs ++ (g ∷ [])) x ≡ all_then fs (field_then g x)
 unfolding all_then
 onto_last [] g x = refl
 onto_last (f ∷ fs) g x = ap (field_then f) (onto_last fs g x)
@@ -76,11 +69,11 @@ unfolding all_then
 onto_done [] k = refl
 onto_done (f ∷ fs) k = ap (field_then f) (onto_done fs k.2) ∙ rw k.1
 
-abbrev Holds : ℕ → Option (List (List ℕ)) → Type 0
+abbrev Holds : ℕ → Maybe (List (List ℕ)) → Type 0
 Holds k none = Unit {0}
 Holds k (some fs) = has_tag k fs ≡ true
 
-then_holds : (f : List ℕ) (x : Option (List (List ℕ))) → Holds (tag_in f) (field_then f x)
+then_holds : (f : List ℕ) (x : Maybe (List (List ℕ))) → Holds (tag_in f) (field_then f x)
 unfolding has_tag
 then_holds f none = tt
 then_holds f (some fs) = go (has_tag (tag_in f) fs)
@@ -89,7 +82,7 @@ then_holds f (some fs) = go (has_tag (tag_in f) fs)
     go true = tt
     go false = rw (eq-eqb (tag_in f) (tag_in f) refl)
 
-then_keeps : (k : ℕ) (f : List ℕ) (x : Option (List (List ℕ))) → Holds k x → Holds k (field_then f x)
+then_keeps : (k : ℕ) (f : List ℕ) (x : Maybe (List (List ℕ))) → Holds k x → Holds k (field_then f x)
 unfolding has_tag
 then_keeps k f none h = tt
 then_keeps k f (some fs) h = go (has_tag (tag_in f) fs)
@@ -102,16 +95,16 @@ then_keeps k f (some fs) h = go (has_tag (tag_in f) fs)
     go true = tt
     go false = either (eqb (tag_in f) k)
 
-onto_holds : (k : ℕ) (fs : List (List ℕ)) (x : Option (List (List ℕ))) → Holds k x → Holds k (all_then fs x)
+onto_holds : (k : ℕ) (fs : List (List ℕ)) (x : Maybe (List (List ℕ))) → Holds k x → Holds k (all_then fs x)
 unfolding all_then
 onto_holds k [] x h = h
 onto_holds k (f ∷ fs) x h = then_keeps k f (all_then fs x) (onto_holds k fs x h)
 
-then_none : (f : List ℕ) (x : Option (List (List ℕ))) → Holds (tag_in f) x → field_then f x ≡ none
+then_none : (f : List ℕ) (x : Maybe (List (List ℕ))) → Holds (tag_in f) x → field_then f x ≡ none
 then_none f none h = refl
 then_none f (some fs) h = rw h
 
-onto_again : (fs : List (List ℕ)) (g : List ℕ) (x : Option (List (List ℕ))) → has_tag (tag_in g) fs ≡ true → all_then fs (field_then g x) ≡ none
+onto_again : (fs : List (List ℕ)) (g : List ℕ) (x : Maybe (List (List ℕ))) → has_tag (tag_in g) fs ≡ true → all_then fs (field_then g x) ≡ none
 unfolding has_tag all_then
 onto_again [] g x h = let z : ◌≡◌ {A = ℕ} 0 1 = cc in absurd (omega arith)
 onto_again (f ∷ fs) g x h = go (eqb (tag_in f) (tag_in g)) refl h (onto_again fs g x)
@@ -126,6 +119,9 @@ onto_again (f ∷ fs) g x h = go (eqb (tag_in f) (tag_in g)) refl h (onto_again 
 
 -- ---- the place of a field
 
+abbrev pub next_field : Option FieldAt → Bool → ℕ → ℕ → Option FieldAt
+next_field p is at size = pick is (Some (record { at = at; size = size })) p
+
 field_from_last : (k i : ℕ) (fs : List (List ℕ)) (g : List ℕ) → has_tag (tag_in g) fs ≡ false
     → field_from k i (fs ++ (g ∷ [])) ≡ next_field (field_from k i fs) (eqb (tag_in g) k) (i + length (field_bytes fs)) (length g)
 unfolding field_from field_bytes has_tag
@@ -136,8 +132,8 @@ field_from_last k i (f ∷ fs) g h = go (eqb (tag_in f) k) refl (absent (tag_in 
         → (has_tag (tag_in g) fs ≡ false
         → field_from k (i + length f) (fs ++ (g ∷ []))
         ≡ next_field (field_from k (i + length f) fs) (eqb (tag_in g) k) (i + length f + length (field_bytes fs)) (length g))
-        → pick c (record { found = true; at = i; size = length f }) (field_from k (i + length f) (fs ++ (g ∷ [])))
-        ≡ next_field (pick c (record { found = true; at = i; size = length f }) (field_from k (i + length f) fs)) (eqb (tag_in g) k)
+        → pick c (Some (record { at = i; size = length f })) (field_from k (i + length f) (fs ++ (g ∷ [])))
+        ≡ next_field (pick c (Some (record { at = i; size = length f })) (field_from k (i + length f) fs)) (eqb (tag_in g) k)
         (i + length (f ++ field_bytes fs)) (length g)
     go true e a r = let d : tag_in f ≡ k = eqb-true (tag_in f) k e in rw (ne_eqb (tag_in g) k (λ z. a.0 (d ∙ sym z)))
     go false e a r =
@@ -155,48 +151,40 @@ tag_range b h = go (ltb b 32) (ltb b 40) refl refl h
     go false false e q h = let z : ◌≡◌ {A = ℕ} 0 1 = cc in absurd (omega arith)
     go false true e q h = (ltb-false b 32 e, ltb-true b 40 q)
 
-pub record FrontField (s : List ℕ) : Type 0 where
+-- a whole field of n bytes
+pub record FrontField (s : List ℕ) (n : ℕ) : Type 0 where
   pub whole : whole_field s ≡ true
   pub tag : is_tag (tag_in s) ≡ true
-  pub size_is : field_size s ≡ 3 + length_at s
+  pub size_is : n ≡ 3 + length_at s
   pub fits : 3 + length_at s ≤ length s
 
-pub front_of : (s : List ℕ) → (field_size s ≡ 0 → ⊥) → FrontField s
+pub front_of : (s : List ℕ) → whole_field s ≡ true → FrontField s (3 + length_at s)
 unfolding whole_field
-front_of s d = go (ltb (length s) 3) (is_tag (tag_in s)) (leb (3 + length_at s) (length s)) refl refl refl
+front_of s h = go (ltb (length s) 3) (is_tag (tag_in s)) (leb (3 + length_at s) (length s)) refl refl refl h
   where
-    go : (a b c : Bool) → ltb (length s) 3 ≡ a → is_tag (tag_in s) ≡ b → leb (3 + length_at s) (length s) ≡ c → FrontField s
-    go true b c p q r = absurd (d (rw p))
-    go false false c p q r = absurd (d (rw (p, q)))
-    go false true false p q r = absurd (d (rw (p, q, r)))
-    go false true true p q r = record { whole = rw (p, q, r); tag = q; size_is = rw (p, q, r); fits = leb-true (3 + length_at s) (length s) r }
+    go : (a b c : Bool) → ltb (length s) 3 ≡ a → is_tag (tag_in s) ≡ b → leb (3 + length_at s) (length s) ≡ c
+        → pick a false (pick b c false) ≡ true → FrontField s (3 + length_at s)
+    go true b c p q r h = absurd (cc)
+    go false false c p q r h = absurd (cc)
+    go false true false p q r h = absurd (cc)
+    go false true true p q r h = record { whole = rw (p, q, r); tag = q; size_is = refl; fits = leb-true (3 + length_at s) (length s) r }
 
-module _ (s : List ℕ) where
-  pub size_short : length s < 3 → 0 ≡ field_size s
-  unfolding whole_field
-  size_short h = rw (lt-ltb (length s) 3 h)
+pub field_there : (s : List ℕ) (n : ℕ) → field_size s ≡ Some n → FrontField s n
+field_there s n e = go (whole_field s) refl e
+  where
+    go : (c : Bool) → whole_field s ≡ c → pick c (Some (3 + length_at s)) None ≡ Some n → FrontField s n
+    go true h e = let m : 3 + length_at s ≡ n = cc in rw m at (front_of s h)
+    go false h e = absurd (cc)
 
-  pub size_tag : 3 ≤ length s → is_tag (tag_in s) ≡ false → 0 ≡ field_size s
-  unfolding whole_field
-  size_tag h e = rw (le-ltb (length s) 3 h, e)
-
-  pub size_whole : (n : ℕ) → 3 ≤ length s → is_tag (tag_in s) ≡ true → n ≡ length_at s → 3 + n ≤ length s → 3 + n ≡ field_size s
-  unfolding whole_field
-  size_whole n h e q l = let m : 3 + length_at s ≤ length s = omega arith in rw (le-ltb (length s) 3 h, e, le-leb (3 + length_at s) (length s) m, q)
-
-  pub size_past : (n : ℕ) → 3 ≤ length s → is_tag (tag_in s) ≡ true → n ≡ length_at s → length s < 3 + n → 0 ≡ field_size s
-  unfolding whole_field
-  size_past n h e q l = let m : length s < 3 + length_at s = omega arith in rw (le-ltb (length s) 3 h, e, lt-leb (3 + length_at s) (length s) m)
-
-pub not_whole : (s : List ℕ) → field_size s ≡ 0 → whole_field s ≡ false
+pub not_whole : (s : List ℕ) → field_size s ≡ None → whole_field s ≡ false
 not_whole s e = go (whole_field s) e
   where
-    go : (c : Bool) → pick c (3 + length_at s) 0 ≡ 0 → c ≡ false
-    go true e = absurd (omega arith)
+    go : (c : Bool) → pick c (Some (3 + length_at s)) None ≡ None → c ≡ false
+    go true e = absurd (cc)
     go false e = refl
 
-pub taken_field : (s : List ℕ) → FrontField s → Field (take (3 + length_at s) s)
-taken_field s k =
+pub taken_field : (s : List ℕ) {n : ℕ} → FrontField s n → Field (take (3 + length_at s) s)
+taken_field s {n} k =
     let e₀ : get_or (take (3 + length_at s) s) 0 0 ≡ get_or s 0 0 = get_or-take (3 + length_at s) s 0 0 (omega arith) in
     let e₁ : get_or (take (3 + length_at s) s) 1 0 ≡ get_or s 1 0 = get_or-take (3 + length_at s) s 1 0 (omega arith) in
     let e₂ : get_or (take (3 + length_at s) s) 2 0 ≡ get_or s 2 0 = get_or-take (3 + length_at s) s 2 0 (omega arith) in
@@ -219,7 +207,7 @@ has_same n (f ∷ fs) g d = rw (has_same n fs g d)
 
 -- ---- the loop
 
-pub record Scanning (o : List ℕ) (k : ℕ) (seen : List Bool) (p : FieldAt) (i : ℕ) : Type 0 where
+pub record Scanning (o : List ℕ) (k : ℕ) (seen : List Bool) (p : Option FieldAt) (i : ℕ) : Type 0 where
   pub done : List (List ℕ)
   pub fuel : ℕ
   pub good : Fields done
@@ -231,7 +219,7 @@ pub record Scanning (o : List ℕ) (k : ℕ) (seen : List Bool) (p : FieldAt) (i
   pub spot : p ≡ field_from k 0 done
   pub reads : fields_of o ≡ all_then done (read_fields fuel (drop i o))
 
-pub scanning_none : (o : List ℕ) (k : ℕ) → Scanning o k (replicate 8 false) no_field 0
+pub scanning_none : (o : List ℕ) (k : ℕ) → Scanning o k (replicate 8 false) None 0
 unfolding field_bytes has_tag field_from all_then fields_of
 scanning_none o k = record {
   done = [];
@@ -241,20 +229,14 @@ scanning_none o k = record {
   enough = omega arith;
   within = omega arith;
   eight = refl;
-  marks = marks;
+  marks = λ j h. get_or-replicate 8 j false false h;
   spot = refl;
   reads = refl;
 }
-  where
-    marks : (j : ℕ) → j < 8 → get_or (replicate 8 false) j false ≡ false
-    marks j h = get_or-replicate 8 j false false h
 
-module _ (o : List ℕ) (k : ℕ) (seen : List Bool) (p : FieldAt) (i : ℕ) (x : Scanning o k seen p i) where
-  ended : all_then x.done (some []) ≡ some x.done
-  ended = onto_done x.done x.good
-
-  scanned : (b : Bool) → fields_of o ≡ all_then x.done (pick b (some []) none) → end_scan b i p ≡ scan_of k (fields_of o)
-  scanned true e = rw (e, ended, x.long, x.spot)
+module _ (o : List ℕ) (k : ℕ) (seen : List Bool) (p : Option FieldAt) (i : ℕ) (x : Scanning o k seen p i) where
+  scanned : (b : Bool) → fields_of o ≡ all_then x.done (pick b (some []) none) → then_some b (record { used = i; spot = p }) ≡ scan_of k (fields_of o)
+  scanned true e = let d = onto_done x.done x.good in rw (e, d, x.long, x.spot)
   scanned false e = rw (e, onto_none x.done)
 
   fuelled : (P : ℕ → Type 0) → ((f : ℕ) → length o < i + suc f → P (suc f)) → P x.fuel
@@ -264,49 +246,54 @@ module _ (o : List ℕ) (k : ℕ) (seen : List Bool) (p : FieldAt) (i : ℕ) (x 
       go zero h = absurd (omega (arith, x.within))
       go (suc f) h = g f h
 
-  pub scanning_end : length o ≤ i → end_scan true i p ≡ scan_of k (fields_of o)
+  pub scan_end : length o ≤ i → Some (record { used = i; spot = p }) ≡ scan_of k (fields_of o)
   unfolding read_fields
-  scanning_end h = scanned true (x.reads ∙ ap (all_then x.done) (rw (drop_of_length-le o h) (fuelled (λ f. read_fields f [] ≡ some []) (λ f l. refl))))
+  scan_end h = scanned true (x.reads ∙ ap (all_then x.done) (rw (drop_of_length-le o h) (fuelled (λ f. read_fields f [] ≡ some []) (λ f l. refl))))
 
   module _ (h : i < length o) where
     rest : drop i o ≡ get_or o i 0 ∷ drop (i + 1) o
     rest = rw (add-one i) (drop-cons o i 0 h)
 
-    pub scanning_zero : get_or o i 0 ≡ 0 → end_scan (all_zero (drop i o)) i p ≡ scan_of k (fields_of o)
-    scanning_zero e =
-        scanned (all_zero (drop i o))
-        (x.reads ∙ ap (all_then x.done)
-        (fuelled (λ f. read_fields f (drop i o) ≡ pick (all_zero (drop i o)) (some []) none)
-        (λ f l. rw (zero_here o i h e) (ap (read_fields (suc f)) rest ∙ at_zero f (get_or o i 0) (drop (i + 1) o) e))))
+    -- a part from i on, as the code lends it
+    part : take (length o - i) (drop i o) ≡ drop i o
+    part = part_to_end o i
 
-    pub scanning_bad : (get_or o i 0 ≡ 0 → ⊥) → field_size (drop i o) ≡ 0 → no_scan ≡ scan_of k (fields_of o)
-    scanning_bad d e =
-        let r : whole_field (get_or o i 0 ∷ drop (i + 1) o) ≡ false = rw rest at (not_whole (drop i o) e) in
+    pub scan_zero : (z : Bool) → z ≡ all_zero (take (length o - i) (drop i o)) → get_or o i 0 ≡ 0
+        → then_some z (record { used = i; spot = p }) ≡ scan_of k (fields_of o)
+    scan_zero z a e =
+        scanned z
+        (x.reads ∙ ap (all_then x.done)
+        (fuelled (λ f. read_fields f (drop i o) ≡ pick z (some []) none)
+        (λ f l. rw (a, part, zero_here o i h e) (ap (read_fields (suc f)) rest ∙ at_zero f (get_or o i 0) (drop (i + 1) o) e))))
+
+    pub scan_bad : (get_or o i 0 ≡ 0 → ⊥) → None ≡ field_size (take (length o - i) (drop i o)) → None ≡ scan_of k (fields_of o)
+    scan_bad d e =
+        let r : whole_field (get_or o i 0 ∷ drop (i + 1) o) ≡ false = rw rest at (not_whole (drop i o) (sym (e ∙ ap field_size part))) in
         scanned false
         (x.reads ∙ ap (all_then x.done)
         (fuelled (λ f. read_fields f (drop i o) ≡ none) (λ f l. ap (read_fields (suc f)) rest ∙ at_bad f (get_or o i 0) (drop (i + 1) o) d r)))
 
-    module _ (d : get_or o i 0 ≡ 0 → ⊥) (q : field_size (drop i o) ≡ 0 → ⊥) where
-      front : FrontField (drop i o)
-      front = front_of (drop i o) q
+    module _ (d : get_or o i 0 ≡ 0 → ⊥) (n : ℕ) (a : Some n ≡ field_size (take (length o - i) (drop i o))) where
+      front : FrontField (drop i o) n
+      front = field_there (drop i o) n (sym (a ∙ ap field_size part))
 
       tag_is : tag_in (drop i o) ≡ get_or o i 0
       tag_is = ap tag_in rest
 
-      pub tag_bounds : (32 ≤ get_or o i 0) × (get_or o i 0 < 40)
-      tag_bounds = tag_range (get_or o i 0) (rw tag_is at front.tag)
+      pub scan_tag : (32 ≤ get_or o i 0) × (get_or o i 0 < 40)
+      scan_tag = tag_range (get_or o i 0) (rw tag_is at front.tag)
 
       abbrev g : List ℕ
       g = take (3 + length_at (drop i o)) (drop i o)
 
-      g_long : length g ≡ field_size (drop i o)
+      g_long : length g ≡ n
       g_long = length-take-le (3 + length_at (drop i o)) (drop i o) front.fits ∙ sym front.size_is
 
-      next : (f : ℕ) → read_fields (suc f) (drop i o) ≡ field_then g (read_fields f (drop (i + field_size (drop i o)) o))
+      next : (f : ℕ) → read_fields (suc f) (drop i o) ≡ field_then g (read_fields f (drop (i + n) o))
       next f =
-          let e : i + (3 + length_at (drop i o)) ≡ i + field_size (drop i o) = ap (λ (n : ℕ). i + n) (sym front.size_is) in
+          let e : i + (3 + length_at (drop i o)) ≡ i + n = ap (λ (m : ℕ). i + m) (sym front.size_is) in
           field_at f (drop i o) (λ z. d (sym tag_is ∙ z)) front.whole
-          ∙ ap (λ (y : List ℕ). field_then g (read_fields f y)) (drop-drop (3 + length_at (drop i o)) i o ∙ ap (λ (n : ℕ). drop n o) e)
+          ∙ ap (λ (y : List ℕ). field_then g (read_fields f y)) (drop-drop (3 + length_at (drop i o)) i o ∙ ap (λ (m : ℕ). drop m o) e)
 
       g_tag : tag_in g ≡ get_or o i 0
       g_tag = get_or-take (3 + length_at (drop i o)) (drop i o) 0 0 (omega arith) ∙ tag_is
@@ -315,31 +302,31 @@ module _ (o : List ℕ) (k : ℕ) (seen : List Bool) (p : FieldAt) (i : ℕ) (x 
       g_field = taken_field (drop i o) front
 
       seen_is : get_or seen (get_or o i 0 - 32) false ≡ has_tag (tag_in g) x.done
-      seen_is = let b = tag_bounds in let e : 32 + (get_or o i 0 - 32) ≡ get_or o i 0 = omega arith in x.marks (get_or o i 0 - 32) (omega arith)
-          ∙ ap (λ (n : ℕ). has_tag n x.done) (e ∙ sym g_tag)
+      seen_is = let b = scan_tag in let e : 32 + (get_or o i 0 - 32) ≡ get_or o i 0 = omega arith in x.marks (get_or o i 0 - 32) (omega arith)
+          ∙ ap (λ (m : ℕ). has_tag m x.done) (e ∙ sym g_tag)
 
-      pub scanning_again : get_or seen (get_or o i 0 - 32) false ≡ true → no_scan ≡ scan_of k (fields_of o)
-      scanning_again e =
+      pub scan_again : get_or seen (get_or o i 0 - 32) false ≡ true → None ≡ scan_of k (fields_of o)
+      scan_again e =
           scanned false
           (x.reads ∙ fuelled (λ f. all_then x.done (read_fields f (drop i o)) ≡ all_then x.done none)
-          (λ f l. ap (all_then x.done) (next f) ∙ onto_again x.done g (read_fields f (drop (i + field_size (drop i o)) o)) (sym seen_is ∙ e)
+          (λ f l. ap (all_then x.done) (next f) ∙ onto_again x.done g (read_fields f (drop (i + n) o)) (sym seen_is ∙ e)
           ∙ sym (onto_none x.done)))
 
       placed : next_field (field_from k 0 x.done) (eqb (tag_in g) k) (0 + length (field_bytes x.done)) (length g)
-          ≡ next_field (field_from k 0 x.done) (eqb (get_or o i 0) k) i (field_size (drop i o))
+          ≡ next_field (field_from k 0 x.done) (eqb (get_or o i 0) k) i n
       placed =
           let z : 0 + length (field_bytes x.done) ≡ i = omega (arith, x.long) in
-          ap₂ (λ (t n : ℕ). next_field (field_from k 0 x.done) (eqb t k) n (length g)) g_tag z
-          ∙ ap (λ (n : ℕ). next_field (field_from k 0 x.done) (eqb (get_or o i 0) k) i n) g_long
+          ap₂ (λ (t m : ℕ). next_field (field_from k 0 x.done) (eqb t k) m (length g)) g_tag z
+          ∙ ap (λ (m : ℕ). next_field (field_from k 0 x.done) (eqb (get_or o i 0) k) i m) g_long
 
-      pub scanning_more : length seen ≡ 8 → get_or seen (get_or o i 0 - 32) false ≡ false
-          → Scanning o k (set seen (get_or o i 0 - 32) true) (next_field p (eqb (get_or o i 0) k) i (field_size (drop i o))) (i + field_size (drop i o))
-      scanning_more eight e =
+      pub scan_more : get_or seen (get_or o i 0 - 32) false ≡ false
+          → Scanning o k (set seen (get_or o i 0 - 32) true) (next_field p (eqb (get_or o i 0) k) i n) (i + n)
+      scan_more e =
           fuelled (λ f. fields_of o ≡ all_then x.done (read_fields f (drop i o))
-          → Scanning o k (set seen (get_or o i 0 - 32) true) (next_field p (eqb (get_or o i 0) k) i (field_size (drop i o))) (i + field_size (drop i o)))
+          → Scanning o k (set seen (get_or o i 0 - 32) true) (next_field p (eqb (get_or o i 0) k) i n) (i + n))
           (λ f l r.
           let gone : has_tag (tag_in g) x.done ≡ false = sym seen_is ∙ e in
-          let big : 3 ≤ field_size (drop i o) = omega (arith, front.size_is) in
+          let big : 3 ≤ n = omega (arith, front.size_is) in
           record {
             done = x.done ++ (g ∷ []);
             fuel = f;
@@ -347,51 +334,32 @@ module _ (o : List ℕ) (k : ℕ) (seen : List Bool) (p : FieldAt) (i : ℕ) (x 
             long = joined_last x.done g ∙ ap₂ (λ (a b : ℕ). a + b) x.long g_long;
             enough = omega arith;
             within = omega (arith, front.size_is, front.fits, length-drop i o);
-            eight = length-set seen (get_or o i 0 - 32) true ∙ eight;
-            marks = marks gone eight;
+            eight = length-set seen (get_or o i 0 - 32) true ∙ x.eight;
+            marks = marks;
             spot = rw x.spot (sym (field_from_last k 0 x.done g gone ∙ placed));
-            reads = r ∙ ap (all_then x.done) (next f) ∙ sym (onto_last x.done g (read_fields f (drop (i + field_size (drop i o)) o)));
+            reads = r ∙ ap (all_then x.done) (next f) ∙ sym (onto_last x.done g (read_fields f (drop (i + n) o)));
           })
           x.reads
         where
-          marks : has_tag (tag_in g) x.done ≡ false → length seen ≡ 8 → (j : ℕ) → j < 8
-              → get_or (set seen (get_or o i 0 - 32) true) j false ≡ has_tag (32 + j) (x.done ++ (g ∷ []))
-          marks gone eight j m = go (eqb j (get_or o i 0 - 32)) refl
+          marks : (j : ℕ) → j < 8 → get_or (set seen (get_or o i 0 - 32) true) j false ≡ has_tag (32 + j) (x.done ++ (g ∷ []))
+          marks j m = go (eqb j (get_or o i 0 - 32)) refl
             where
               go : (c : Bool) → eqb j (get_or o i 0 - 32) ≡ c → get_or (set seen (get_or o i 0 - 32) true) j false ≡ has_tag (32 + j) (x.done ++ (g ∷ []))
               go true z =
-                  let b = tag_bounds in
+                  let b = scan_tag in
                   let y : j ≡ get_or o i 0 - 32 = eqb-true j (get_or o i 0 - 32) z in
-                  rw y (get_or-set_same seen (get_or o i 0 - 32) true false (omega arith)) ∙ sym (has_new (32 + j) x.done g (g_tag ∙ omega arith))
+                  rw y (get_or-set_same seen (get_or o i 0 - 32) true false (omega (arith, x.eight))) ∙ sym (has_new (32 + j) x.done g (g_tag ∙ omega arith))
               go false z =
-                  let b = tag_bounds in
+                  let b = scan_tag in
                   let y : j ≡ get_or o i 0 - 32 → ⊥ = eqb-false j (get_or o i 0 - 32) z in
                   get_or-set_other seen (get_or o i 0 - 32) j true false y ∙ x.marks j m
                   ∙ sym (has_same (32 + j) x.done g (λ w. y (omega (arith, sym g_tag ∙ w))))
 
--- ---- the same, of what the code has: the part from i on, and the answers of the functions that it calls
+      -- the same by cases: the field looked for, or another
+      pub scan_found : get_or seen (get_or o i 0 - 32) false ≡ false → get_or o i 0 ≡ k
+          → Scanning o k (set seen (get_or o i 0 - 32) true) (Some (record { at = i; size = n })) (i + n)
+      scan_found e m = rw (eq-eqb (get_or o i 0) k m) at (scan_more e)
 
-module _ (o : List ℕ) (k : ℕ) (seen : List Bool) (p : FieldAt) (i : ℕ) (x : Scanning o k seen p i) (h : i < length o) where
-  pub scan_zero : (z : Bool) (r : Scan) → r ≡ end_scan z i p → z ≡ all_zero (take (length o - i) (drop i o)) → get_or o i 0 ≡ 0 → r ≡ scan_of k (fields_of o)
-  scan_zero z r e a q = e ∙ ap (λ (b : Bool). end_scan b i p) (a ∙ ap all_zero (part_to_end o i)) ∙ scanning_zero o k seen p i x h q
-
-  module _ (n : ℕ) (a : n ≡ field_size (take (length o - i) (drop i o))) (d : get_or o i 0 ≡ 0 → ⊥) where
-    size : n ≡ field_size (drop i o)
-    size = a ∙ ap field_size (part_to_end o i)
-
-    pub scan_bad : (r : Scan) → r ≡ no_scan → n ≡ 0 → r ≡ scan_of k (fields_of o)
-    scan_bad r e z = e ∙ scanning_bad o k seen p i x h d (sym size ∙ z)
-
-    module _ (q : n ≡ 0 → ⊥) (w : ℕ) (b : w ≡ get_or o i 0) where
-      some_field : field_size (drop i o) ≡ 0 → ⊥
-      some_field z = q (size ∙ z)
-
-      pub scan_tag : (32 ≤ w) × (w - 32 < 8)
-      scan_tag = let t = tag_bounds o k seen p i x h d some_field in (omega arith, omega arith)
-
-      pub scan_again : (r : Scan) → r ≡ no_scan → get_or seen (w - 32) false ≡ true → r ≡ scan_of k (fields_of o)
-      scan_again r e s = e ∙ scanning_again o k seen p i x h d some_field (rw b at s)
-
-      pub scan_more : get_or seen (w - 32) false ≡ false → (p' : FieldAt) → p' ≡ next_field p (eqb (get_or o i 0) k) i n
-          → Scanning o k (set seen (w - 32) true) p' (i + n)
-      scan_more s p' e = rw (e, b, size) (scanning_more o k seen p i x h d some_field x.eight (rw b at s))
+      pub scan_other : get_or seen (get_or o i 0 - 32) false ≡ false → (get_or o i 0 ≡ k → ⊥)
+          → Scanning o k (set seen (get_or o i 0 - 32) true) p (i + n)
+      scan_other e m = rw (ne_eqb (get_or o i 0) k m) at (scan_more e)

@@ -47,7 +47,7 @@ pub record EntryRoom (i : ℕ) (p : Spot) (k : CutPair) (h v : List ℕ) (len : 
   pub taken : k.taken < 65536
 
 -- after the first i numbers of the list, which was l₀, comes e up to r
-pub record Put (i : ℕ) (e : List ℕ) (r : ℕ) (l₀ l : List ℕ) : Type 0 where
+pub record PutEntry (i : ℕ) (e : List ℕ) (r : ℕ) (l₀ l : List ℕ) : Type 0 where
   pub end_is : r ≡ i + length e
   pub front_is : take r l ≡ take i l₀ ++ e
 
@@ -81,7 +81,7 @@ pub data Listing (s : Settings) (stride : ℕ) (tree list : List ℕ) : List Pla
 pub record WroteEntries (s : Settings) (stride : ℕ) (tree list : List ℕ) (i : ℕ) (l₀ : List ℕ) (r : ℕ) (l : List ℕ) (ls : List Placed) : Type 0 where
   pub entries : List ℕ
   pub listing : Listing s stride tree list ls entries
-  pub put : Put i entries r l₀ l
+  pub put : PutEntry i entries r l₀ l
 
 -- ---- finding one of them
 

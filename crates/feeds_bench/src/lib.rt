@@ -7,20 +7,15 @@ fn answer(longest: usize, lines: usize) -> u64 {
     (longest % 65536 * 65536 + lines % 65536) as u64
 }
 
-fn next(n: usize) -> usize {
-    std::num::wrapping_add_usize(n, 1)
-}
-
 // The line feeds alone, byte by byte.
 #[unsafe(no_mangle)]
 pub extern "C" fn leg_count_plain(text: &[u8]) -> u64 {
-    let mut feeds = 0;
-    let mut i = 0;
-    while i < text.len() {
-        if text[i] == 10 {
-            feeds = next(feeds);
+    // A loop, since `filter` and `count` compile to more instructions.
+    let mut feeds: usize = 0;
+    for &b in text {
+        if b == b'\n' {
+            feeds = feeds.wrapping_add(1);
         }
-        i += 1;
     }
     feeds as u64
 }
@@ -29,17 +24,15 @@ pub extern "C" fn leg_count_plain(text: &[u8]) -> u64 {
 #[unsafe(no_mangle)]
 pub extern "C" fn leg_measure_plain(text: &[u8]) -> u64 {
     let mut longest = 0;
-    let mut lines = 1;
-    let mut n = 0;
-    let mut i = 0;
-    while i < text.len() {
-        n = next(n);
-        if text[i] == 10 {
-            lines = next(lines);
+    let mut lines: usize = 1;
+    let mut n: usize = 0;
+    for &b in text {
+        n = n.wrapping_add(1);
+        if b == b'\n' {
+            lines = lines.wrapping_add(1);
             n = 0;
         }
-        longest = common::max(longest, n);
-        i += 1;
+        longest = longest.max(n);
     }
     answer(longest, lines)
 }
@@ -49,10 +42,8 @@ fn is_plain(text: &[u8], from: usize) -> bool
     requires { from + 16 ≤ length text.now }
 {
     let mut plain = true;
-    let mut i = 0;
-    while i < 16 {
-        plain = common::both(plain, text[from + i] != 10);
-        i += 1;
+    for &b in &text[from..from + 16] {
+        plain &= b != b'\n';
     }
     plain
 }
@@ -62,6 +53,7 @@ fn skip_plain(text: &[u8], from: usize) -> usize
     requires { from ≤ length text.now }
     ensures { (from ≤ result) × (result ≤ length text.now) }
 {
+    // By hand: `bench/run feeds` times this search as it was.
     let mut i = from;
     while 16 <= text.len() - i {
         if !is_plain(text, i) {
@@ -77,14 +69,12 @@ fn line_end(text: &[u8], from: usize) -> usize
     requires { from ≤ length text.now }
     ensures { (from ≤ result) × (result ≤ length text.now) }
 {
-    let mut i = skip_plain(text, from);
-    while i < text.len() {
-        if text[i] == 10 {
+    for i in skip_plain(text, from)..text.len() {
+        if text[i] == b'\n' {
             return i;
         }
-        i += 1;
     }
-    i
+    text.len()
 }
 
 // The measure before request 3 of document 02: it finds the end of one line after the other, 16 bytes at a time and then byte by byte.
@@ -96,8 +86,8 @@ fn search(text: &[u8]) -> u64
     let mut from = 0;
     while from <= text.len() {
         let end = line_end(text, from);
-        width = common::max(width, end - from);
-        lines = next(lines);
+        width = width.max(end - from);
+        lines += 1;
         from = end + 1;
     }
     answer(width, lines)

@@ -47,12 +47,10 @@ pub record SmallRun (n : ℕ) (r : Run) : Type 0 where
   pub height : r.height ≤ 65536 * n
   pub width : r.width < 65536
 
--- what `next_run` requires
-pub record ReadyNext (r : Run) (g w h : ℕ) : Type 0 where
+-- what `Run::next` requires
+pub record ReadyNext (r : Run) (g : ℕ) : Type 0 where
   pub run : SmallRun 200 r
   pub thin : g ≤ 1
-  pub wide : w < 65536
-  pub tall : h < 65536
 
 -- the cells' natural sizes in two lists, of widths and of heights: 1 to 200 of them; g is the separator's width
 pub record Cells (ws hs : List ℕ) (g : ℕ) : Type 0 where

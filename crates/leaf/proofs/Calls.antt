@@ -1,6 +1,6 @@
 -- What both calls answer, from the sizes that were measured, the walk and the leaf that was found.
 use mathlib.Core.Path.{◌≡◌, refl, sym, ap, ◌∙◌}
-use Prim.Native.Nat.{ℕ, ◌≤◌}
+use Prim.Native.Nat.{ℕ, ◌-◌, ◌≤◌}
 use native.Mathlib.Omega.{arith}
 use mathlib.Core.Bool.{true, false}
 use mathlib.Core.List.{List, ◌++◌, append_assoc}
@@ -11,7 +11,7 @@ use Rattle.settings.specs.declared.Settings.{Settings}
 use Rattle.tree.specs.Tree.{Tree}
 use Rattle.sizes.specs.declared.Measured.{Measured}
 use Rattle.sizes.specs.Sizes.{sep}
-use Rattle.sizes.specs.Input.{given, input_of}
+use Rattle.sizes.specs.Input.{Input, given, input_of}
 use Rattle.sizes.specs.Clauses.{measured_of}
 use Rattle.sizes.proofs.MeasuredInput.{refuses}
 use Rattle.layout.specs.Walk.{Placed, leaves}
@@ -22,9 +22,10 @@ use Rattle.entries.specs.Clauses.{Lists, FindsEntry, BeginsEntry, entry_of}
 use Rattle.frame.specs.Frame.{too_large}
 use Rattle.walk.specs.Clauses.{WalksTree}
 use Rattle.walk.proofs.Inputs.{call_takes, FitsSheet, walk_ready, entries_listed}
-use Rattle.leaf.specs.declared.Sought.{Sought}
 use Rattle.leaf.specs.Answers.{leaf_numbered, leaf_record_of, leaf_print_of}
-use Rattle.leaf.specs.Clauses.{no_sought, Refuses, ShowsLeaf, Meets, Seeks}
+use Rattle.leaf.specs.Clauses.{Refuses, ShowsLeaf, Meets, Leads}
+use Rattle.leaf.proofs.Parts.{part_of}
+use Rattle.leaf.proofs.Records.{shows_part}
 use Rattle.leaf.proofs.LeafNumbers.{numbered_is, numbered_every}
 
 -- ---- what is refused
@@ -47,10 +48,6 @@ module _ (bs ts : List ℕ) (n : ℕ) where
         → Meets (input_of bs ts) n tree list es s
     unfolding leaf_record_of leaf_print_of
     meets_leaf h tree list es x e = record { shows = x; record_is = rw (i, h, e); print_is = λ o. rw (i, h, e) }
-
-  pub seeks_none : (tree list l : List ℕ) (k : ℕ) (r : Sought) → r ≡ no_sought k → (k ≡ 0 → ⊥) → Refuses (input_of bs ts) n k
-      → Seeks (input_of bs ts) n tree r list l
-  seeks_none tree list l k r e z q = rw e (record { refuses = λ _. q; meets = λ d. absurd (z d); within = omega arith })
 
 -- ---- as the calls have it: the sheet is small enough, and the entries were written
 
@@ -108,10 +105,16 @@ module _ {bs ts : List ℕ} {m : Measured} {list : List ℕ} {stride : ℕ} (k :
         miss_case none e y g = refuses_none bs ts n m.settings k.took.tree k.took.input k.large e
         miss_case (some p) e y g = let z : true ≡ false = sym y.hit ∙ g in let d : ◌≡◌ {A = ℕ} 0 1 = cc in absurd (omega arith)
 
-        pub seeks_hit : f.hit ≡ true → Seeks (input_of bs ts) n ts (record { number = 0; settings = m.settings; entry = f.entry }) list l
+        pub seeks_hit : f.hit ≡ true → Leads (input_of bs ts) n ts (record { settings = m.settings; entry = f.entry }) list l
         seeks_hit g =
             let x = hit_case (leaf_numbered n (leaves m.settings k.took.tree)) refl fe₁ g in
-            record { refuses = λ z. absurd (z refl); meets = λ _. x.1; within = x.0 }
+            record { meets = x.1; within = x.0 }
 
         pub misses : f.hit ≡ false → Refuses (input_of bs ts) n 9
         misses g = miss_case (leaf_numbered n (leaves m.settings k.took.tree)) refl fe₁ g
+
+-- ---- the leaf in the part of the entries that begins with its own
+
+pub met : {i : Input} {n : ℕ} {tree list : List ℕ} {s : Settings} (es : List ℕ) (e len : ℕ) → length es ≡ len → Meets i n tree list (drop e es) s
+    → Meets i n tree list (take (len - e) (drop e es)) s
+met es e len h m = record { shows = shows_part _ (part_of es e len h) m.shows; record_is = m.record_is; print_is = m.print_is }

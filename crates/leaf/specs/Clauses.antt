@@ -1,7 +1,6 @@
 -- What the functions of both calls require and ensure.
-use Rattle.std.specs.Prelude.{◌≡◌, ℕ, ◌+◌, ◌*◌, ◌-◌, ◌≤◌, ◌<◌, List, length, drop}
+use Rattle.std.specs.Prelude.{◌≡◌, ℕ, ◌+◌, ◌*◌, ◌-◌, ◌≤◌, ◌<◌, List, length, drop, Result, MatchResult}
 use Rattle.settings.specs.declared.Settings.{Settings}
-use Rattle.settings.specs.Reading.{blank}
 use Rattle.text.specs.Text.{join_lines}
 use Rattle.sizes.specs.declared.Size.{Size}
 use Rattle.sizes.specs.Sizes.{leaf_size}
@@ -19,9 +18,6 @@ use Rattle.leaf.specs.Answers.{no_leaf_record, placed_record, leaf_record_of, le
 unfoldable pub block_bytes : Settings → Size → Flags → ℕ
 unfolding block_height block_width
 block_bytes s z f = block_height s z f * (block_width s z f + 1) - 1
-
-abbrev pub no_sought : ℕ → Sought
-no_sought k = record { number = k; settings = blank; entry = 0 }
 
 -- both calls refuse with that number
 pub record Refuses (i : Input) (n k : ℕ) : Type 0 where
@@ -42,7 +38,10 @@ pub record Meets (i : Input) (n : ℕ) (tree list es : List ℕ) (s : Settings) 
   pub record_is : leaf_record_of i n ≡ placed_record shows.leaf
   pub print_is : (o : List ℕ) → leaf_print_of i n o ≡ print_to (join_lines (block s (leaf_of shows.leaf))) o
 
-pub record Seeks (i : Input) (n : ℕ) (tree : List ℕ) (r : Sought) (list leaves : List ℕ) : Type 0 where
-  pub refuses : (r.number ≡ 0 → ⊥) → Refuses i n r.number
-  pub meets : r.number ≡ 0 → Meets i n tree list (drop r.entry leaves) r.settings
+-- and its entry begins there
+pub record Leads (i : Input) (n : ℕ) (tree : List ℕ) (r : Sought) (list leaves : List ℕ) : Type 0 where
+  pub meets : Meets i n tree list (drop r.entry leaves) r.settings
   pub within : r.entry ≤ length leaves
+
+abbrev pub Seeks : Input → ℕ → List ℕ → Result Sought ℕ → List ℕ → List ℕ → Type 0
+Seeks i n tree r list leaves = MatchResult r (λ q. Leads i n tree q list leaves) (λ k. Refuses i n k)

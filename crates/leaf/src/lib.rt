@@ -8,9 +8,10 @@ ghost use Rattle.block.specs.Block as blocks;
 ghost use Rattle.layout.specs.Walk.{leaf_of};
 ghost use Rattle.frame.specs.Printer.{print_to};
 ghost use Rattle.leaf.specs.Answers.{no_leaf_record, placed_record, leaf_record_of, leaf_print_of};
-ghost use Rattle.leaf.specs.Clauses.{no_sought, ShowsLeaf, Seeks};
+ghost use Rattle.leaf.specs.Clauses.{ShowsLeaf, Seeks};
 
 use block::Flags;
+use common::refusal::Refusal;
 use entries::entry::{BASE, FRONT, entry_at};
 use entries::{find_leaf, paint_leaves};
 use frame::Written;
@@ -38,20 +39,16 @@ pub struct LeafRecord {
 fn no_record(number: u8) -> LeafRecord
     ensures { result ≡ no_leaf_record number }
 {
-    let h = splits::no_pieces();
-    let v = splits::no_pieces();
-    let flags = block::no_flags();
-    let size = Size {
-        width: 0,
-        height: 0,
-    };
     LeafRecord {
-        number: number,
+        number,
         node: 0,
-        size: size,
-        horizontal: h,
-        vertical: v,
-        flags: flags,
+        size: Size {
+            width: 0,
+            height: 0,
+        },
+        horizontal: splits::no_pieces(),
+        vertical: splits::no_pieces(),
+        flags: block::no_flags(),
         pair: CutPair { taken: 0, rest: 0 },
     }
 }
@@ -62,73 +59,56 @@ fn record_at(tree: &[u8], list: &[u16], leaf: &[u16], s: Settings) -> LeafRecord
     ensures { (q : ShowsLeaf tree.now list.now leaf.now s) → result ≡ placed_record q.leaf }
 {
     let e = entry_at(leaf);
-    let p = e.spot;
-    let h = list_at(leaf, FRONT, e.horizontal);
-    let v = list_at(leaf, FRONT + e.horizontal, e.vertical);
-    let size = allotted_at(list, p.node);
-    let flags = layout::flags_of(p.flags);
-    let pair = e.pair;
+    let node = e.spot.node;
     LeafRecord {
         number: 0,
-        node: p.node,
-        size: size,
-        horizontal: h,
-        vertical: v,
-        flags: flags,
-        pair: pair,
+        node,
+        size: allotted_at(list, node),
+        horizontal: list_at(leaf, FRONT, e.horizontal),
+        vertical: list_at(leaf, FRONT + e.horizontal, e.vertical),
+        flags: layout::flags_of(e.spot.flags),
+        pair: e.pair,
     }
 }
 
-// A leaf that was sought: number 0, the settings, and where its entry begins; or a refusal.
+// A leaf that was sought: the settings, and where its entry begins.
 #[derive(Clone, Copy)]
 pub struct Sought {
-    pub number: u8,
     pub settings: Settings,
     pub entry: usize,
 }
 
-fn none_sought(number: u8) -> Sought
-    ensures { result ≡ no_sought number }
-{
-    let s = Settings::blank();
-    Sought {
-        number: number,
-        settings: s,
-        entry: 0,
-    }
-}
-
-// The leaf with that number: 1, 2 to 5, 6, 9. The sizes go to `list`, the entries of all leaves to `leaves`.
+// The leaf with that number, or the number of a refusal: 1, 2 to 5, 6, 9. The sizes go to `list`, the entries of all leaves to `leaves`.
 fn seek_leaf(
     settings: &[u8],
     tree: &[u8],
     node: usize,
     list: &mut [u16; 2048],
     leaves: &mut [u16],
-) -> Sought
+) -> Result<Sought, u8>
     requires { 5120 ≤ length leaves.old }
     ensures seeks { Seeks (input_of settings.now tree.now) node tree.now result list.new leaves.new }
     ensures long { length list.new ≡ length list.old }
 {
     let m = sizes::measure_tree(settings, tree, list);
     if m.number != 0 {
-        return none_sought(m.number);
+        return Err(m.number);
     }
     let s = m.settings;
     let f = frame::frame_of(s, natural_at(list, 0));
     if frame::is_large(f) {
-        return none_sought(6);
+        return Err(Refusal::TooLarge.number());
     }
     let n = walk::walk_tree(tree, list, separator(s), f.stride, leaves);
     let found = find_leaf(&leaves[..n], node);
     if found.hit {
-        return Sought {
-            number: 0,
+        Ok(Sought {
             settings: s,
             entry: found.entry,
-        };
+        })
+    } else {
+        Err(Refusal::NoLeaf.number())
     }
-    none_sought(9)
 }
 
 // The record of the leaf with that number.
@@ -137,13 +117,10 @@ pub fn leaf_record(settings: &[u8], tree: &[u8], node: usize) -> LeafRecord
 {
     let mut list = [0u16; 2048];
     let mut leaves = [0u16; 5120];
-    let q = seek_leaf(settings, tree, node, &mut list, &mut leaves);
-    if q.number != 0 {
-        return no_record(q.number);
+    match seek_leaf(settings, tree, node, &mut list, &mut leaves) {
+        Ok(leaf) => record_at(tree, &list, &leaves[leaf.entry..], leaf.settings),
+        Err(number) => no_record(number),
     }
-    let i = q.entry;
-    let s = q.settings;
-    record_at(tree, &list, &leaves[i..], s)
 }
 
 // The block of the leaf whose entry is at the front of `leaf`, its lines joined by 0A, at the start of the output; or 8. It is painted as the only leaf of a
@@ -161,7 +138,7 @@ fn print_block(tree: &[u8], list: &[u16], leaf: &mut [u16], s: Settings, out: &m
     let width = block::block_width(s, size, flags);
     let stride = width + 1;
     let height = block::block_height(s, size, flags);
-    let n = common::saturating_dec(height * stride);
+    let n = (height * stride).saturating_sub(1);
     if out.len() < n {
         return frame::refused(8);
     }
@@ -181,11 +158,8 @@ pub fn print_leaf(settings: &[u8], tree: &[u8], node: usize, out: &mut [u8]) -> 
 {
     let mut list = [0u16; 2048];
     let mut leaves = [0u16; 5120];
-    let q = seek_leaf(settings, tree, node, &mut list, &mut leaves);
-    if q.number != 0 {
-        return frame::refused(q.number);
+    match seek_leaf(settings, tree, node, &mut list, &mut leaves) {
+        Ok(leaf) => print_block(tree, &list, &mut leaves[leaf.entry..], leaf.settings, out),
+        Err(number) => frame::refused(number),
     }
-    let i = q.entry;
-    let s = q.settings;
-    print_block(tree, &list, &mut leaves[i..], s, out)
 }

@@ -3,38 +3,36 @@
 // Where reading or writing fails, a line on standard error reports it; the exit status is 0 all the same.
 #![tactic(auto)]
 
-ghost use Rattle.std.specs.Prelude.{IsTrue, IfSome};
+ghost use Rattle.std.specs.Prelude.{OnOk, IfSome};
 ghost use Rattle.std.specs.Io.KnownBytes.{Appends};
 ghost use Rattle.program.specs.Program.{program_of};
 
-use standard_streams::input::StandardInput;
+use standard_streams::input::read_input;
+use standard_streams::output::{report, write_answer};
+use std::io;
 use std::io::{Read, Write};
 
-// Whether the whole answer was written.
-fn print<W: Write, E: Write>(input: &[u8], output: &mut W, errors: &mut E) -> bool
-    ensures { IsTrue result → Appends (W.contents output.old) (W.contents output.new) (program_of input.now) }
+// Writes the whole answer.
+fn print<W: Write>(input: &[u8], output: &mut W) -> io::Result<()>
+    ensures { OnOk result (Appends (W.contents output.old) (W.contents output.new) (program_of input.now)) }
 {
     let mut out = [0u8; program::ANSWER_BYTES];
     let n = program::leg_sheet::answer(input, &mut out);
-    standard_streams::output::write_answer(output, errors, b"leg_sheet", &out[..n])
+    write_answer(output, &out[..n])
 }
 
-// Whether the whole answer was written. Of an input whose bytes are known it is the answer to all of them, also where the buffer has no room for the last.
-fn run<R: Read, W: Write, E: Write>(input: &mut R, output: &mut W, errors: &mut E) -> bool
-    ensures { IsTrue result → IfSome (R.remaining input.old)
-        (λ xs. Appends (W.contents output.old) (W.contents output.new) (program_of xs)) }
+// Writes the whole answer. Of an input whose bytes are known it is the answer to all of them, also where the buffer has no room for the last.
+fn run<R: Read, W: Write>(input: &mut R, output: &mut W) -> io::Result<()>
+    ensures { OnOk result (IfSome (R.remaining input.old)
+        (λ xs. Appends (W.contents output.old) (W.contents output.new) (program_of xs))) }
 {
     let mut buffer = program::leg_sheet::input_buffer();
-    match standard_streams::input::read_input(input, &mut buffer) {
-        StandardInput::Whole(n) => print(&buffer[..n], output, errors),
-        StandardInput::Failed(e) => {
-            standard_streams::output::fail(errors, b"leg_sheet", e);
-            false
-        }
-    }
+    let n = read_input(input, &mut buffer)?;
+    print(&buffer[..n], output)
 }
 
 fn main(rt: HostRuntime) {
-    // A failure is told by now.
-    let _ = run(&mut rt.stdin(), &mut rt.stdout(), &mut rt.stderr());
+    if let Err(e) = run(&mut rt.stdin(), &mut rt.stdout()) {
+        report(&mut rt.stderr(), "leg_sheet", &e);
+    }
 }

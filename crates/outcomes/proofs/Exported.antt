@@ -38,7 +38,7 @@ use Rattle.outcomes.specs.Promises.{Among, Answers, input_in, of_share, of_sizes
 use Rattle.outcomes.specs.Promises.{ExportNumbers}
 use Rattle.outcomes.specs.Figures.{leg_settings_met, leg_margin_met, leg_sizes_met, leg_record_met, leg_place_met, leg_splits3_met, leg_lent_met}
 use Rattle.outcomes.specs.Figures.{leg_splits_met, leg_share_met}
-use Rattle.outcomes.proofs.Numbers.{call_numbers, number_of, input_among}
+use Rattle.outcomes.proofs.Numbers.{call_numbers, number_chosen, input_among}
 
 -- ---- a call's answer, packed
 
@@ -105,7 +105,7 @@ module _ (ns : List ℕ) (s : small ns ≡ true) where
   offered_among : (count : ℕ) (numbers o : List ℕ) → Among 0 ns → Among 8 ns → Among (number_in (offered count numbers o).answer) ns
   unfolding offered refusal written
   offered_among count numbers o z e =
-      number_of (λ (g : Outcome ℕ (List ℕ)). number_in g.answer) ns (ltb (length o) (length numbers)) (refusal 8 o) (written count numbers o)
+      number_chosen (λ (g : Outcome ℕ (List ℕ)). number_in g.answer) ns (ltb (length o) (length numbers)) (refusal 8 o) (written count numbers o)
       (word_among 8 0 e)
       (word_among 0 count z)
 
@@ -114,7 +114,7 @@ module _ (ns : List ℕ) (s : small ns ≡ true) where
       → Among (number_in (pick (eqb n 0) (offered count numbers o) (refusal n o)).answer) ns
   unfolding refusal
   given_among n count numbers o z e h =
-      number_of (λ (g : Outcome ℕ (List ℕ)). number_in g.answer) ns (eqb n 0) (offered count numbers o) (refusal n o) (offered_among count numbers o z e)
+      number_chosen (λ (g : Outcome ℕ (List ℕ)). number_in g.answer) ns (eqb n 0) (offered count numbers o) (refusal n o) (offered_among count numbers o z e)
       (word_among n 0 h)
 
 read_among : (count : ℕ) (numbers : Settings → List ℕ) (p : Parsed) (o : List ℕ) → Among (number_in (read_given count numbers p o).answer) of_leg_settings
@@ -162,7 +162,7 @@ refused_among held n room needed = go (ltb 512 n) (ltb held n) (ltb room needed)
 unless_among : {T : Type 0} (word : T → ℕ) (k : ℕ) (refuse : ℕ → T) (x : T) → Among k of_leg_cut → ((j : ℕ) → word (refuse j) ≡ packed j 0)
     → Among (number_in (word x)) of_leg_cut → Among (number_in (word (unless k refuse x))) of_leg_cut
 unfolding small one_of
-unless_among word k refuse x h e g = number_of (λ y. number_in (word y)) of_leg_cut (eqb k 0) x (refuse k) g (rw (e k) (word_among of_leg_cut refl k 0 h))
+unless_among word k refuse x h e g = number_chosen (λ y. number_in (word y)) of_leg_cut (eqb k 0) x (refuse k) g (rw (e k) (word_among of_leg_cut refl k 0 h))
 
 splits3_among : (s : List ℕ) (n w : ℕ) (o : List ℕ) → Among (number_in (splits3_given s n w o).answer) of_leg_cut
 unfolding splits3_given refusal written one_of

@@ -81,9 +81,9 @@ use Rattle.outcomes.specs.TypedFigures.{typed_met}
 -- ---- cases
 
 -- of two answers
-pub number_of : {T : Type 0} (g : T → ℕ) (ns : List ℕ) (b : Bool) (x y : T) → Among (g x) ns → Among (g y) ns → Among (g (pick b x y)) ns
-number_of g ns true x y p q = p
-number_of g ns false x y p q = q
+pub number_chosen : {T : Type 0} (g : T → ℕ) (ns : List ℕ) (b : Bool) (x y : T) → Among (g x) ns → Among (g y) ns → Among (g (pick b x y)) ns
+number_chosen g ns true x y p q = p
+number_chosen g ns false x y p q = q
 
 -- 1 to 5
 five : (P : ℕ → Type 0) → P 1 → P 2 → P 3 → P 4 → P 5 → (k : ℕ) → 1 ≤ k → k ≤ 5 → P k
@@ -122,12 +122,12 @@ tree_case ts (ReadOne.one t z n) e = refl
 
 cut_number : (list : SplitList) (w : ℕ) → Among (cut_of list w).number of_cut
 unfolding cut_of one_of
-cut_number list w = number_of (λ (r : CutParts). r.number) of_cut (leb list.count 512) (cut_answered (short_splits3 (list_of list) w)) refused_cut refl refl
+cut_number list w = number_chosen (λ (r : CutParts). r.number) of_cut (leb list.count 512) (cut_answered (short_splits3 (list_of list) w)) refused_cut refl refl
 
 short_number : (list : SplitList) (w : ℕ) → Among (short_of list w).number of_cut
 unfolding short_of one_of
 short_number list w =
-    number_of (λ (r : ShortParts). r.number) of_cut (leb list.count 512) (answered_short (short_splits (list_of list) w)) refused_short refl refl
+    number_chosen (λ (r : ShortParts). r.number) of_cut (leb list.count 512) (answered_short (short_splits (list_of list) w)) refused_short refl refl
 
 kept_number : (list : SplitList) (w : ℕ) → Among (in_place_cut list w).answer.number of_cut
 unfolding in_place_cut
@@ -136,7 +136,7 @@ kept_number list w = cut_number list w
 share_number : (spare n : ℕ) (p : Priority) (i : ℕ) → Among (share_of spare n p i).number of_share
 unfolding one_of
 share_number spare n p i =
-    number_of (λ (r : Shared). r.number) of_share (ltb i n) (record { number = 0; part = share spare n p i }) (record { number = 11; part = 0 }) refl refl
+    number_chosen (λ (r : Shared). r.number) of_share (ltb i n) (record { number = 0; part = share spare n p i }) (record { number = 11; part = 0 }) refl refl
 
 -- ---- the calls on settings and tree: by what these are
 
@@ -146,7 +146,7 @@ printed p = p.answer.number
 
 to_number : (ns bytes o : List ℕ) → Among 8 ns → Among 0 ns → Among (print_to bytes o).answer.number ns
 to_number ns bytes o p q =
-    number_of printed ns (ltb (length o) (length bytes)) (no_print 8 o)
+    number_chosen printed ns (ltb (length o) (length bytes)) (no_print 8 o)
     (record { answer = record { number = 0; count = length bytes }; memory = bytes ++ drop (length bytes) o }) p q
 
 module _ (bs ts : List ℕ) where
@@ -154,7 +154,7 @@ module _ (bs ts : List ℕ) where
   unfolding collect_of one_of
   collect_in l (refused k) e = input_among of_sizes refl refl refl refl refl bs ts k e
   collect_in l (given s t) e =
-      number_of (λ (c : Outcome Collected (List SizeRecord)). c.answer.number) of_sizes (ltb (length l) (nodes t))
+      number_chosen (λ (c : Outcome Collected (List SizeRecord)). c.answer.number) of_sizes (ltb (length l) (nodes t))
       (record { answer = no_collected 8; memory = l })
       (record { answer = record { number = 0; count = nodes t }; memory = records_of s t ++ drop (nodes t) l }) refl refl
 
@@ -167,7 +167,7 @@ module _ (bs ts : List ℕ) where
   unfolding leaf_record_of one_of
   record_in n (refused k) e = input_among of_record refl refl refl refl refl bs ts k e
   record_in n (given s t) e =
-      number_of (λ (r : LeafRecord). r.number) of_record (too_large s t) (no_leaf_record 6) (record_found (leaf_numbered n (leaves s t))) refl
+      number_chosen (λ (r : LeafRecord). r.number) of_record (too_large s t) (no_leaf_record 6) (record_found (leaf_numbered n (leaves s t))) refl
       (found_record (leaf_numbered n (leaves s t)))
 
   found_print : (s : Settings) (o : List ℕ) (x : Option Placed) → Among (print_found s o x).answer.number of_leaf
@@ -179,13 +179,13 @@ module _ (bs ts : List ℕ) where
   unfolding leaf_print_of one_of
   leaf_in n o (refused k) e = input_among of_leaf refl refl refl refl refl bs ts k e
   leaf_in n o (given s t) e =
-      number_of printed of_leaf (too_large s t) (no_print 6 o) (print_found s o (leaf_numbered n (leaves s t))) refl
+      number_chosen printed of_leaf (too_large s t) (no_print 6 o) (print_found s o (leaf_numbered n (leaves s t))) refl
       (found_print s o (leaf_numbered n (leaves s t)))
 
   sheet_in : (o : List ℕ) (x : Input) → input_of bs ts ≡ x → Among (sheet_of x o).answer.number of_sheet
   unfolding sheet_of one_of
   sheet_in o (refused k) e = input_among of_sheet refl refl refl refl refl bs ts k e
-  sheet_in o (given s t) e = number_of printed of_sheet (too_large s t) (no_print 6 o) (print_to (sheet s t) o) refl
+  sheet_in o (given s t) e = number_chosen printed of_sheet (too_large s t) (no_print 6 o) (print_to (sheet s t) o) refl
       (to_number of_sheet (sheet s t) o refl refl)
 
   -- ---- places
@@ -205,7 +205,7 @@ module _ (bs ts : List ℕ) where
     place_among : (l k : ℕ) → Among (leaf_place_in s t l k).number ns
     unfolding leaf_place_in
     place_among l k =
-        number_of (λ (r : LeafPlace). r.number) ns (eqb (fault_of s t l k) 0) (leaf_place_found l k (owner_of (areas s t) l k))
+        number_chosen (λ (r : LeafPlace). r.number) ns (eqb (fault_of s t l k) 0) (leaf_place_found l k (owner_of (areas s t) l k))
         (no_leaf_place (fault_of s t l k))
         (owned (owner_of (areas s t) l k)) (fault_among l k)
       where
@@ -217,14 +217,14 @@ module _ (bs ts : List ℕ) where
     unfolding first_fault
     first_among [] = z
     first_among (x ∷ ps) =
-        number_of (λ (n : ℕ). n) ns (eqb (leaf_place_in s t (line_of x) (column_of x)).number 0) (first_fault s t ps)
+        number_chosen (λ (n : ℕ). n) ns (eqb (leaf_place_in s t (line_of x) (column_of x)).number 0) (first_fault s t ps)
         (leaf_place_in s t (line_of x) (column_of x)).number (first_among ps) (place_among (line_of x) (column_of x))
 
   place_in : (l k : ℕ) (x : Input) → input_of bs ts ≡ x → Among (leaf_place_of x l k).number of_place
   unfolding leaf_place_of one_of
   place_in l k (refused n) e = input_among of_place refl refl refl refl refl bs ts n e
   place_in l k (given s t) e =
-      number_of (λ (r : LeafPlace). r.number) of_place (too_large s t) (no_leaf_place 6) (leaf_place_in s t l k) refl
+      number_chosen (λ (r : LeafPlace). r.number) of_place (too_large s t) (no_leaf_place 6) (leaf_place_in s t l k) refl
       (place_among of_place refl refl refl s t l k)
 
   finds_in_lem : (ps fs : List ℕ) (x : Input) → input_of bs ts ≡ x → Among (finds_of x ps fs).answer.number of_places
@@ -232,11 +232,11 @@ module _ (bs ts : List ℕ) where
   finds_in_lem ps fs (refused n) e = input_among of_places refl refl refl refl refl bs ts n e
   finds_in_lem ps fs (given s t) e =
       let g : Outcome FoundPlaces (List ℕ) → ℕ = λ r. r.answer.number in
-      number_of g of_places (too_large s t) (no_finds 6 fs) (finds_in s t ps fs) refl
-      (number_of g of_places (ltb 256 (length ps)) (no_finds 14 fs)
+      number_chosen g of_places (too_large s t) (no_finds 6 fs) (finds_in s t ps fs) refl
+      (number_chosen g of_places (ltb 256 (length ps)) (no_finds 14 fs)
       (pick (eqb (first_fault s t ps) 0) (finds_to s t ps fs) (no_finds (first_fault s t ps) fs)) refl
-      (number_of g of_places (eqb (first_fault s t ps) 0) (finds_to s t ps fs) (no_finds (first_fault s t ps) fs)
-      (number_of g of_places (ltb (length fs) (length ps)) (no_finds 8 fs)
+      (number_chosen g of_places (eqb (first_fault s t ps) 0) (finds_to s t ps fs) (no_finds (first_fault s t ps) fs)
+      (number_chosen g of_places (ltb (length fs) (length ps)) (no_finds 8 fs)
       (record { answer = record { number = 0; count = length ps; steps = (located s t).steps }; memory = map (word_of s t) ps ++ drop (length ps) fs }) refl
       refl)
       (first_among of_places refl refl refl s t ps)))
@@ -251,9 +251,9 @@ module _ (bs ts : List ℕ) where
       let zs = naturals s (listed_trees t) in
       let f = find s w zs budget in
       let cs = columns s f.best zs in
-      number_of g of_fold (list? t) (fold_cells s w budget zs l) (no_folds 15 l)
-      (number_of g of_fold (ltb w (greatest (map size_width zs))) (no_folds 16 l) (finds s zs l f) refl
-      (number_of g of_fold (ltb (length l) (length cs)) (no_folds 8 l)
+      number_chosen g of_fold (list? t) (fold_cells s w budget zs l) (no_folds 15 l)
+      (number_chosen g of_fold (ltb w (greatest (map size_width zs))) (no_folds 16 l) (finds s zs l f) refl
+      (number_chosen g of_fold (ltb (length l) (length cs)) (no_folds 8 l)
       (record {
         answer = record { number = 0; columns = length cs; height = f.best; tries = f.tries; miss = missed s zs f };
         memory = counts cs ++ drop (length cs) l;
@@ -271,8 +271,8 @@ module _ (bs ts : List ℕ) where
         answer = record { number = 0; count = length l };
         memory = (nodes_of l ++ drop (length l) ns, letters_of l ++ drop (length l) ls);
       } in
-      number_of g of_sizes (ltb (length ns) (length l)) (no_nearest 8 ns ls) (pick (ltb (length ls) (length l)) (no_nearest 8 ns ls) all) refl
-      (number_of g of_sizes (ltb (length ls) (length l)) (no_nearest 8 ns ls) all refl refl)
+      number_chosen g of_sizes (ltb (length ns) (length l)) (no_nearest 8 ns ls) (pick (ltb (length ls) (length l)) (no_nearest 8 ns ls) all) refl
+      (number_chosen g of_sizes (ltb (length ls) (length l)) (no_nearest 8 ns ls) all refl refl)
 
   plan_in : (p : Parsed) (x : PlanOne) → read_plan ts ≡ x → Among (planned_of (plan_settings_input p x)).number of_plan
   unfolding one_of
@@ -297,14 +297,14 @@ save_number o n tree = go (fields_of o)
     read : (fs : List (List ℕ)) (y : ReadOne) → read_tree tree ≡ y → Among (save_tree o fs (tag_for n) tree y).answer of_save
     read fs (ReadOne.refused k) e = tree_among of_save refl refl refl refl tree k e
     read fs (ReadOne.one t z w) e =
-        number_of (λ (r : Outcome ℕ (List ℕ)). r.answer) of_save (ltb (length o) (length (field_bytes (without_tag (tag_for n) fs)) + (3 + length tree)))
+        number_chosen (λ (r : Outcome ℕ (List ℕ)). r.answer) of_save (ltb (length o) (length (field_bytes (without_tag (tag_for n) fs)) + (3 + length tree)))
         (record
         { answer = 20; memory = o })
         (record { answer = 0; memory = store_of (length o) (without_tag (tag_for n) fs ++ (element (tag_for n) tree ∷ [])) }) refl refl
 
     go : (x : Option (List (List ℕ))) → Among (save_in o x n tree).answer of_save
     go none = refl
-    go (some fs) = number_of (λ (r : Outcome ℕ (List ℕ)). r.answer) of_save (is_name n) (save_tree o fs (tag_for n) tree (read_tree tree)) (record
+    go (some fs) = number_chosen (λ (r : Outcome ℕ (List ℕ)). r.answer) of_save (is_name n) (save_tree o fs (tag_for n) tree (read_tree tree)) (record
         { answer = 19; memory = o }) (read fs (read_tree tree) refl) refl
 
 forget_number : (o : List ℕ) (n : ℕ) → Among (forget_of o n).answer of_forget
@@ -316,8 +316,8 @@ forget_number o n = go (fields_of o)
     go (some fs) =
         let g : Outcome ℕ (List ℕ) → ℕ = λ r. r.answer in
         let gone : Outcome ℕ (List ℕ) = record { answer = 0; memory = store_of (length o) (without_tag (tag_for n) fs) } in
-        number_of g of_forget (is_name n) (pick (has_tag (tag_for n) fs) gone (record { answer = 19; memory = o })) (record { answer = 19; memory = o })
-        (number_of g of_forget (has_tag (tag_for n) fs) gone (record { answer = 19; memory = o }) refl refl) refl
+        number_chosen g of_forget (is_name n) (pick (has_tag (tag_for n) fs) gone (record { answer = 19; memory = o })) (record { answer = 19; memory = o })
+        (number_chosen g of_forget (has_tag (tag_for n) fs) gone (record { answer = 19; memory = o }) refl refl) refl
 
 return_number : (o : List ℕ) (n : ℕ) (out : List ℕ) → Among (return_of o n out).answer.number of_return
 unfolding return_of one_of
@@ -326,13 +326,13 @@ return_number o n out = go (fields_of o)
     found : (x : Option (List ℕ)) → Among (return_found x out).answer.number of_return
     found none = refl
     found (some tree) =
-        number_of (λ (r : Outcome Returned (List ℕ)). r.answer.number) of_return (ltb (length out) (length tree)) (no_return 8 out) (record
+        number_chosen (λ (r : Outcome Returned (List ℕ)). r.answer.number) of_return (ltb (length out) (length tree)) (no_return 8 out) (record
         { answer = record { number = 0; count = length tree }; memory = tree ++ drop (length tree) out }) refl refl
 
     go : (x : Option (List (List ℕ))) → Among (return_in x n out).answer.number of_return
     go none = refl
     go (some fs) =
-        number_of (λ (r : Outcome Returned (List ℕ)). r.answer.number) of_return (is_name n) (return_found (draft_of (tag_for n) fs) out) (no_return 19 out)
+        number_chosen (λ (r : Outcome Returned (List ℕ)). r.answer.number) of_return (is_name n) (return_found (draft_of (tag_for n) fs) out) (no_return 19 out)
         (found (draft_of (tag_for n) fs)) refl
 
 -- ---- question papers
@@ -343,8 +343,8 @@ blank_in_lem tree ns o (ReadOne.refused k) e = tree_among of_blank refl refl ref
 blank_in_lem tree ns o (ReadOne.one t z n) e =
     let g : Outcome Blanked (List ℕ) → ℕ = λ r. r.answer.number in
     let bytes = bytes_of (blanked (dots_for ns) 0 t) in
-    number_of g of_blank (all_cells (cell_flags t) ns) (blank_to bytes o) (no_blank 9 o)
-    (number_of g of_blank (ltb (length o) (length bytes)) (no_blank 8 o)
+    number_chosen g of_blank (all_cells (cell_flags t) ns) (blank_to bytes o) (no_blank 9 o)
+    (number_chosen g of_blank (ltb (length o) (length bytes)) (no_blank 8 o)
     (record { answer = record { number = 0; count = length bytes }; memory = bytes ++ drop (length bytes) o }) refl refl) refl
 
 blank_number : (tree ns o : List ℕ) → Among (blank_of tree ns o).answer.number of_blank

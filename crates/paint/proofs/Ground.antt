@@ -18,7 +18,7 @@ use Rattle.block.proofs.Dimensions.{Dims, paired_same, dims_append, dims_lines, 
 use Rattle.paint.specs.declared.body.BodyRows.{BodyRows}
 use Rattle.paint.specs.Clauses.{pasted, Room, space_lines, clear, ground, ground_lines, Blank, Turned, LaidOver}
 use Rattle.paint.proofs.Pasted.{pasted_append, sets_pasted, pasted_beside, pasted_over}
-use Rattle.paint.proofs.Room.{room_head, room_next, room_tail}
+use Rattle.paint.proofs.Room.{room_head, room_tail}
 use Rattle.paint.proofs.BodyRows.{BodyFits}
 
 -- ---- the ground
@@ -112,9 +112,6 @@ module _ {g : List ℕ} {f : List ℕ → List ℕ} {ls : List (List ℕ)} {at p
   module _ {l : List ℕ} {rs : List (List ℕ)} (k : Still g f ls (l ∷ rs) at p stride w o₀ o) where
     pub still_room : p + w ≤ length o
     still_room = omega (arith, room_head k.room, k.long)
-
-    pub still_next : p + stride < 18446744073709551616
-    still_next = room_next k.room
 
     pub still_step : (q : ℕ) → q + length l ≤ p + stride → ((b : List ℕ) → sets (sets b p g) q l ≡ sets b p (f l))
         → Still g f ls rs at (p + stride) stride w o₀ (sets o q l)

@@ -9,7 +9,7 @@ use Rattle.common.proofs.Stores.{sets_append}
 use Rattle.common.specs.Writing.{Wrote}
 use Rattle.paint.specs.Clauses.{pasted, Room}
 use Rattle.paint.proofs.Pasted.{pasted_append}
-use Rattle.paint.proofs.Room.{room_head, room_next, room_tail}
+use Rattle.paint.proofs.Room.{room_tail}
 
 -- the lines y are still to be written over the bytes o from p on; then the bytes are `all`, and p is `end`
 pub record LinesLeft (all : List ℕ) (len end : ℕ) (o : List ℕ) (p stride w : ℕ) (y : List (List ℕ)) : Type 0 where
@@ -31,13 +31,6 @@ module _ {all : List ℕ} {len end : ℕ} {o : List ℕ} {p stride w : ℕ} wher
   unfolding pasted
   left_done k = record { end_is = omega (arith, k.end_is); out_is = k.same }
 
-module _ {all : List ℕ} {len end : ℕ} {o : List ℕ} {p stride w : ℕ} {l : List ℕ} {y : List (List ℕ)} (k : LinesLeft all len end o p stride w (l ∷ y)) where
-  pub line_room : p + w ≤ length o
-  line_room = omega (arith, room_head k.room, k.long)
-
-  pub left_next : p + stride < 18446744073709551616
-  left_next = room_next k.room
-
 -- ---- equal lines: i of n are written
 
 module _ {all : List ℕ} {len end : ℕ} {o : List ℕ} {p stride w : ℕ} (l : List ℕ) (n i : ℕ) where
@@ -52,10 +45,6 @@ module _ {all : List ℕ} {len end : ℕ} {o : List ℕ} {p stride w : ℕ} (l :
 pub record RowsLeft (all : List ℕ) (len end : ℕ) (o : List ℕ) (p stride w : ℕ) (l : List ℕ) : Type 0 where
   pub count : ℕ
   pub left : LinesLeft all len end o p stride w (replicate count l)
-
-pub rows_start : (o : List ℕ) (at stride n w : ℕ) (l : List ℕ) → Room at stride n w (length o)
-    → RowsLeft (pasted o at stride (replicate n l)) (length o) (at + n * stride) o at stride w l
-rows_start o at stride n w l r = record { count = n; left = left_start o at stride n w (replicate n l) (length-replicate n l) r }
 
 module _ {all : List ℕ} {len end : ℕ} {o : List ℕ} {p stride w : ℕ} {l : List ℕ} where
   -- before the end a line is to come

@@ -1,6 +1,6 @@
 -- The block from its parts: the room of each, and that together they are the block.
 use mathlib.Core.Path.{◌≡◌, refl, sym, ap, ◌∙◌}
-use Prim.Native.Nat.{ℕ, ◌+◌, ◌*◌, ◌≤◌, ◌<◌}
+use Prim.Native.Nat.{ℕ, ◌+◌, ◌*◌, ◌≤◌}
 use native.Mathlib.Omega.{arith}
 use mathlib.Core.Bool.{Bool, true, false}
 use mathlib.Core.List.{List, [], ◌∷◌, ◌++◌, append-nil}
@@ -31,15 +31,6 @@ use Rattle.paint.proofs.Places.{paintable_fits}
 
 -- the marks before the body: the top line, the left marks
 module _ {b : Borders} {z : Size} {h v : List ℕ} {base stride len : ℕ} (k : Lined b z h v base stride len) where
-  pub top_room : base + columns_in b z ≤ len
-  top_room = omega (arith, k.room.fits)
-
-  pub body_start : base + stride + 1 < 18446744073709551616
-  body_start = omega (arith, k.room.small)
-
-  pub left_room : {len' : ℕ} → len' ≡ len → Room (base + stride) stride z.height (1 + z.width) len'
-  left_room l = record { fits = omega (arith, k.room.fits); small = omega (arith, k.room.small) }
-
   -- those after it
   pub rest_room : (p : Begun) → p.at ≡ base + (stride + 1) → p.next ≡ base + stride + z.height * stride → {len' : ℕ} → len' ≡ len → Rest b z p stride len'
   rest_room p e n {len' = len'} l = record {

@@ -42,9 +42,3 @@ module _ {at stride n w len : ℕ} (k : ℕ) (h : k < n) (r : Room at stride n w
 
   pub room_at : at + k * stride + w ≤ len
   room_at = omega (arith, below, r.fits)
-
-  pub room_mul : k * stride < 18446744073709551616
-  room_mul = omega (arith, below, r.small)
-
-  pub room_add : at + k * stride < 18446744073709551616
-  room_add = omega (arith, below, r.small)

@@ -20,6 +20,7 @@ struct BodyRows {
 }
 
 // All differences at once (`indent_vertical`, `indent_horizontal`).
+#[tactic(auto, unfolding(crate::specs::Clauses::body_rows_of))]
 fn plan_body(s: Settings, natural: Size, size: Size) -> BodyRows
     requires { Fits natural size × (s.left + s.right ≤ natural.width) }
     ensures { result ≡ body_rows_of s natural size }
@@ -57,16 +58,7 @@ fn rows_twice(
 fn is_blank(fills: [u8; 4]) -> bool
     ensures { result ≡ true → Blank fills }
 {
-    if fills[0] != 32 {
-        return false;
-    }
-    if fills[1] != 32 {
-        return false;
-    }
-    if fills[2] != 32 {
-        return false;
-    }
-    fills[3] == 32
+    fills == *b"    "
 }
 
 // n lines with the left and the right padding, and spaces between them; the answer is where the next line begins.
@@ -85,7 +77,7 @@ fn paint_sides(
     let text = at + s.left;
     let right = text + inner;
     bytes::rows(out, at, stride, n, s.left, s.fills[0]);
-    bytes::rows(out, text, stride, n, inner, 32);
+    bytes::rows(out, text, stride, n, inner, b' ');
     bytes::rows(out, right, stride, n, s.right, s.fills[1]);
     at + n * stride
 }
@@ -104,9 +96,9 @@ fn paint_padded(
     requires room { Room at stride (ground_lines s plan n) w (length out.old) }
     ensures { out.new ≡ pasted out.old at stride (ground s plan n w) }
 {
-    let p = rows_twice(out, at, stride, w, plan.above, 32, s.top, s.fills[2]);
+    let p = rows_twice(out, at, stride, w, plan.above, b' ', s.top, s.fills[2]);
     let q = paint_sides(out, p, stride, s, plan.inner, n);
-    rows_twice(out, q, stride, w, s.bottom, s.fills[3], plan.below, 32);
+    rows_twice(out, q, stride, w, s.bottom, s.fills[3], plan.below, b' ');
 }
 
 // The same over spaces: nothing where every padding is of spaces.
@@ -123,11 +115,9 @@ fn paint_ground(
     requires room { Room at stride size.height size.width (length out.old) }
     ensures { Turned (space_lines size.height size.width) (ground s plan n size.width) at stride out.old out.new }
 {
-    let fills = s.fills;
-    if is_blank(fills) {
-        return;
+    if !is_blank(s.fills) {
+        paint_padded(out, at, stride, s, plan, n, size.width);
     }
-    paint_padded(out, at, stride, s, plan, n, size.width);
 }
 
 // Over spaces the padding, and over both the text.

@@ -18,27 +18,34 @@ pub struct Borders {
     pub bottom: bool,
 }
 
-// The leaf's corners, in a copy of the marks: a later test overrules an earlier one.
+// The leaf's corners, in a copy of the marks.
+#[tactic(auto, unfolding(crate::specs::Clauses::borders_of, block::specs::Block::mark))]
 pub fn config_borders(s: Settings, f: Flags) -> Borders
     ensures value { result ≡ borders_of s f }
     ensures fifteen { length s.marks ≡ 15 }
 {
     let mut m = s.marks;
-    let below = common::both(f.first_col, !f.first_row);
-    let first = common::pick_byte(below, m[marks::LEFT_INTERSECTION], m[marks::TOP_LEFT]);
-    let lean = common::pick_byte(f.lean_top, m[marks::TOP_INTERSECTION], first);
-    let left = common::pick_byte(f.top_left, m[marks::LEFT_INTERSECTION], lean);
-    let top_left = common::pick_byte(f.top_intersection, m[marks::INTERSECTION], left);
-    let top_right = common::pick_byte(
-        f.first_row,
-        m[marks::TOP_RIGHT],
-        m[marks::RIGHT_INTERSECTION],
-    );
-    let bottom_left = common::pick_byte(
-        f.first_col,
-        m[marks::BOTTOM_LEFT],
-        m[marks::BOTTOM_INTERSECTION],
-    );
+    let top_left = if f.top_intersection {
+        m[marks::INTERSECTION]
+    } else if f.top_left {
+        m[marks::LEFT_INTERSECTION]
+    } else if f.lean_top {
+        m[marks::TOP_INTERSECTION]
+    } else if f.first_col && !f.first_row {
+        m[marks::LEFT_INTERSECTION]
+    } else {
+        m[marks::TOP_LEFT]
+    };
+    let top_right = if f.first_row {
+        m[marks::TOP_RIGHT]
+    } else {
+        m[marks::RIGHT_INTERSECTION]
+    };
+    let bottom_left = if f.first_col {
+        m[marks::BOTTOM_LEFT]
+    } else {
+        m[marks::BOTTOM_INTERSECTION]
+    };
     m[marks::TOP_LEFT] = top_left;
     m[marks::TOP_RIGHT] = top_right;
     m[marks::BOTTOM_LEFT] = bottom_left;
@@ -84,6 +91,7 @@ pub fn print_top_line(out: &mut [u8], at: usize, w: usize, b: Borders, pieces: &
     );
 }
 
+#[tactic(auto, unfolding(crate::specs::Clauses::bottom_of))]
 pub fn print_bottom_line(out: &mut [u8], at: usize, w: usize, b: Borders)
     requires { at + (1 + (w + pick b.right 1 0)) ≤ length out.old }
     ensures { out.new ≡ sets out.old at (bottom_of b w) }

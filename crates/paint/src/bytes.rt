@@ -3,28 +3,27 @@ ghost use Rattle.std.specs.Prelude.{◌≡◌, ◌+◌, ◌-◌, ◌*◌, ◌<�
 ghost use Rattle.std.proofs.lemmas.List.Edits.{sets};
 ghost use Rattle.splits.specs.Splits.{named};
 ghost use Rattle.common.specs.Writing.{Wrote};
-ghost use Rattle.paint.specs.Clauses.{pasted, fed, Room, crossed, four_bytes};
+ghost use Rattle.paint.specs.Clauses.{pasted, fed, Room, crossed};
 
-// The n bytes from `at` on become `byte`.
+use common::copy::copy;
+
+// The n bytes from `at` on become `byte`. No `fill`: that stores the last byte apart, which is slower here.
 fn run(out: &mut [u8], at: usize, n: usize, byte: u8)
     requires { at + n ≤ length out.old }
     ensures { out.new ≡ sets out.old at (replicate n byte) }
 {
-    let end = at + n;
-    let mut i = at;
-    while i < end {
+    for i in at..at + n {
         out[i] = byte;
-        i += 1;
     }
 }
 
-// The same of k to 2 k bytes, by two runs of k that may overlap: where k is a number in the code, each is a store or two.
-fn two_runs(out: &mut [u8], at: usize, n: usize, k: usize, byte: u8)
-    requires { (at + n ≤ length out.old) × (k ≤ n) × (n ≤ k + k) }
+// The same of K to 2 K bytes, by two runs of K that may overlap, each a store or two.
+fn two_runs<const K: usize>(out: &mut [u8], at: usize, n: usize, byte: u8)
+    requires { (at + n ≤ length out.old) × (K ≤ n) × (n ≤ K + K) }
     ensures { out.new ≡ sets out.old at (replicate n byte) }
 {
-    run(out, at, k, byte);
-    run(out, at + (n - k), k, byte);
+    run(out, at, K, byte);
+    run(out, at + (n - K), K, byte);
 }
 
 // The same of up to three bytes: the first, the last, and the one between.
@@ -47,21 +46,15 @@ fn fill_run(out: &mut [u8], at: usize, n: usize, byte: u8)
 {
     if n < 4 {
         few(out, at, n, byte);
-        return;
+    } else if n <= 8 {
+        two_runs::<4>(out, at, n, byte);
+    } else if n <= 16 {
+        two_runs::<8>(out, at, n, byte);
+    } else if n <= 32 {
+        two_runs::<16>(out, at, n, byte);
+    } else {
+        run(out, at, n, byte);
     }
-    if n <= 8 {
-        two_runs(out, at, n, 4, byte);
-        return;
-    }
-    if n <= 16 {
-        two_runs(out, at, n, 8, byte);
-        return;
-    }
-    if n <= 32 {
-        two_runs(out, at, n, 16, byte);
-        return;
-    }
-    run(out, at, n, byte);
 }
 
 // The n bytes from `at` on become `byte`; the answer is where they end.
@@ -73,69 +66,25 @@ pub fn fill(out: &mut [u8], at: usize, n: usize, byte: u8) -> usize
     at + n
 }
 
-// Four bytes: where all are read before one is written, they are taken together.
-#[derive(Clone, Copy)]
-struct Four {
-    a: u8,
-    b: u8,
-    c: u8,
-    d: u8,
-}
-
-// The four bytes of `line` from `from` on.
-fn four_at(line: &[u8], from: usize) -> Four
-    requires { from + 4 ≤ length line.now }
-    ensures { four_bytes result ≡ take 4 (drop from line.now) }
+// The N bytes from `at` on become those of `line` from `from` on. All are read before one is written, so each is a load and a store, even if the compiler
+// can't know that both lists are apart.
+fn copy_fixed<const N: usize>(out: &mut [u8], at: usize, line: &[u8], from: usize)
+    requires { (at + N ≤ length out.old) × (from + N ≤ length line.now) }
+    ensures { out.new ≡ sets out.old at (take N (drop from line.now)) }
 {
-    Four {
-        a: line[from],
-        b: line[from + 1],
-        c: line[from + 2],
-        d: line[from + 3],
-    }
+    let mut bytes = [0u8; N];
+    bytes.copy_from_slice(&line[from..from + N]);
+    copy(out, at, &bytes);
 }
 
-// The four bytes from `at` on become these.
-fn put_four(out: &mut [u8], at: usize, x: Four)
-    requires { at + 4 ≤ length out.old }
-    ensures { out.new ≡ sets out.old at (four_bytes x) }
-{
-    out[at] = x.a;
-    out[at + 1] = x.b;
-    out[at + 2] = x.c;
-    out[at + 3] = x.d;
-}
-
-// The four bytes from `at` on become those of `line` from `from` on.
-fn copy_four(out: &mut [u8], at: usize, line: &[u8], from: usize)
-    requires { (at + 4 ≤ length out.old) × (from + 4 ≤ length line.now) }
-    ensures { out.new ≡ sets out.old at (take 4 (drop from line.now)) }
-{
-    put_four(out, at, four_at(line, from));
-}
-
-// The same of eight bytes.
-fn copy_eight(out: &mut [u8], at: usize, line: &[u8], from: usize)
-    requires { (at + 8 ≤ length out.old) × (from + 8 ≤ length line.now) }
-    ensures { out.new ≡ sets out.old at (take 8 (drop from line.now)) }
-{
-    let x = four_at(line, from);
-    let y = four_at(line, from + 4);
-    put_four(out, at, x);
-    put_four(out, at + 4, y);
-}
-
-// The bytes from `at` on become those of `line`.
-fn copy_run(out: &mut [u8], at: usize, line: &[u8])
-    requires { at + length line.now ≤ length out.old }
+// The bytes from `at` on become those of `line`, N to 2 N, by two copies that may overlap.
+fn two_copies<const N: usize>(out: &mut [u8], at: usize, line: &[u8])
+    requires { (at + length line.now ≤ length out.old) × (N ≤ length line.now) × (length line.now ≤ N + N) }
     ensures { out.new ≡ sets out.old at line.now }
 {
-    let n = line.len();
-    let mut i = 0;
-    while i < n {
-        out[at + i] = line[i];
-        i += 1;
-    }
+    let last = line.len() - N;
+    copy_fixed::<N>(out, at, line, 0);
+    copy_fixed::<N>(out, at + last, line, last);
 }
 
 // The same of up to three bytes: the first, the last, and the one between.
@@ -152,23 +101,18 @@ fn copy_few(out: &mut [u8], at: usize, line: &[u8])
     out[at + n / 2] = line[n / 2];
 }
 
-// The same of up to 16 bytes: 4 and more by two copies that may overlap.
+// The same of up to 16 bytes.
 pub fn copy_short(out: &mut [u8], at: usize, line: &[u8])
     requires { (at + length line.now ≤ length out.old) × (length line.now ≤ 16) }
     ensures { out.new ≡ sets out.old at line.now }
 {
-    let n = line.len();
-    if 8 <= n {
-        copy_eight(out, at, line, 0);
-        copy_eight(out, at + (n - 8), line, n - 8);
-        return;
+    if 8 <= line.len() {
+        two_copies::<8>(out, at, line);
+    } else if 4 <= line.len() {
+        two_copies::<4>(out, at, line);
+    } else {
+        copy_few(out, at, line);
     }
-    if 4 <= n {
-        copy_four(out, at, line, 0);
-        copy_four(out, at + (n - 4), line, n - 4);
-        return;
-    }
-    copy_few(out, at, line);
 }
 
 // The same of any number, short lines without a loop.
@@ -177,10 +121,10 @@ pub fn copy_line(out: &mut [u8], at: usize, line: &[u8])
     ensures { out.new ≡ sets out.old at line.now }
 {
     if 16 < line.len() {
-        copy_run(out, at, line);
-        return;
+        copy(out, at, line);
+    } else {
+        copy_short(out, at, line);
     }
-    copy_short(out, at, line);
 }
 
 // n lines of w bytes, the first at `at`, each `stride` after the one before; the answer is where the next line begins.
@@ -189,11 +133,9 @@ pub fn rows(out: &mut [u8], at: usize, stride: usize, n: usize, w: usize, byte: 
     ensures { Wrote result (at + n * stride) out.new (pasted out.old at stride (replicate n (replicate w byte))) }
 {
     let mut p = at;
-    let mut i = 0;
-    while i < n {
+    for _ in 0..n {
         fill(out, p, w, byte);
         p += stride;
-        i += 1;
     }
     p
 }
@@ -208,7 +150,7 @@ pub fn marked_rows(out: &mut [u8], at: usize, stride: usize, n: usize, w: usize,
     let mut p = at;
     while p < end {
         out[p] = mark;
-        fill(out, p + 1, w, 32);
+        fill(out, p + 1, w, b' ');
         p += stride;
     }
     p
@@ -220,21 +162,20 @@ pub fn stack(out: &mut [u8], at: usize, stride: usize, n: usize, byte: u8) -> us
     ensures { Wrote result (at + n * stride) out.new (pasted out.old at stride (replicate n (byte ∷ []))) }
 {
     let mut p = at;
-    let mut i = 0;
-    while i < n {
+    for _ in 0..n {
         out[p] = byte;
         p += stride;
-        i += 1;
     }
     p
 }
 
 // A 0A behind each but the last of n lines of w bytes, which follow one another from the start on.
+#[tactic(auto, unfolding(crate::specs::Clauses::fed))]
 pub fn end_lines(out: &mut [u8], w: usize, n: usize)
     requires { Room w (w + 1) (n - 1) 1 (length out.old) }
     ensures { out.new ≡ fed w n out.old }
 {
-    stack(out, w, w + 1, common::saturating_dec(n), 10);
+    stack(out, w, w + 1, n.saturating_sub(1), b'\n');
 }
 
 // The places of n, `step` apart from `at` on, that the squashed list names become `byte` (`short_splits`, `squash_splits`).
@@ -244,9 +185,8 @@ pub fn cross(out: &mut [u8], at: usize, step: usize, n: usize, pieces: &[u16], b
     ensures { out.new ≡ crossed out.old at step n (named n pieces.now) byte }
 {
     let mut pos = 0;
-    let mut i = 0;
-    while i < pieces.len() {
-        pos += common::wide16(pieces[i]);
+    for (i, piece) in pieces.iter().enumerate() {
+        pos += usize::from(*piece);
         if n <= pos {
             return;
         }
@@ -254,6 +194,5 @@ pub fn cross(out: &mut [u8], at: usize, step: usize, n: usize, pieces: &[u16], b
         if k < n {
             out[at + k * step] = byte;
         }
-        i += 1;
     }
 }

@@ -49,13 +49,16 @@ fn paint_before(
         let h = size.height;
         borders::print_top_line(out, base, size.width, b, horizontal);
         let next = borders::print_left(out, base + stride, stride, h, size.width, b, vertical);
-        let at = base + stride + 1;
-        return Begun { at: at, next: next };
-    }
-    bytes::rows(out, base, stride, size.height, size.width, 32);
-    Begun {
-        at: base,
-        next: base,
+        Begun {
+            at: base + stride + 1,
+            next,
+        }
+    } else {
+        bytes::rows(out, base, stride, size.height, size.width, b' ');
+        Begun {
+            at: base,
+            next: base,
+        }
     }
 }
 
@@ -89,12 +92,8 @@ pub fn paint_block(
         ≡ pasted out.old base stride
         (block s (leaf_with text.now x.size x.flags horizontal.now vertical.now)) }
 {
-    let natural = x.natural;
-    let size = x.size;
-    let f = x.flags;
-    let b = borders::config_borders(s, f);
-    let lines = s.lines;
-    let p = paint_before(out, base, stride, lines, b, size, horizontal, vertical);
-    body::paint_body(out, p.at, stride, s, text, natural, size);
-    paint_after(out, p, stride, lines, b, size);
+    let b = borders::config_borders(s, x.flags);
+    let p = paint_before(out, base, stride, s.lines, b, x.size, horizontal, vertical);
+    body::paint_body(out, p.at, stride, s, text, x.natural, x.size);
+    paint_after(out, p, stride, s.lines, b, x.size);
 }

@@ -1,7 +1,6 @@
 // A leaf's text, line by line.
 ghost use Rattle.std.specs.Prelude.{◌≡◌, ◌+◌, ◌-◌, ◌<◌, ◌≤◌, true, length, drop};
 ghost use Rattle.std.proofs.lemmas.List.Edits.{sets};
-ghost use Rattle.common.specs.Choice.{pick};
 ghost use Rattle.text.specs.Clauses.{first_feed};
 ghost use Rattle.text.specs.Text.{lines, text_width, text_height};
 ghost use Rattle.block.specs.Block.{slack_before, indent, text_line};
@@ -14,6 +13,7 @@ use settings::{Alignment, Settings};
 const SHORT: usize = 16;
 
 // The part of the space that is before the text (`indent_left`, `indent_top`).
+#[tactic(auto, unfolding(block::specs::Block::slack_before))]
 pub fn indent_start(al: Alignment, available: usize, real: usize) -> usize
     requires { real ≤ available }
     ensures value { result ≡ slack_before al (available - real) }
@@ -27,22 +27,15 @@ pub fn indent_start(al: Alignment, available: usize, real: usize) -> usize
     }
 }
 
-// The width that a line is indented by: its own in line mode 1 (`allow_lines_alignment`), else the widest line's.
-fn line_width(line_mode: bool, own: usize, widest: usize) -> usize
-    ensures { result ≡ pick line_mode own widest }
-{
-    if line_mode { own } else { widest }
-}
-
-// The spaces before a line.
+// The spaces before a line: by its own width in line mode 1 (`allow_lines_alignment`), else by the widest line's.
+#[tactic(auto, unfolding(block::specs::Block::indent))]
 fn line_indent(s: Settings, inner: usize, widest: usize, line: &[u8]) -> usize
     requires { (length line.now ≤ widest) × (widest ≤ inner) }
     ensures value { result ≡ indent s inner widest line.now }
     ensures within { result + length line.now ≤ inner }
 {
-    let w = line_width(s.line_mode, line.len(), widest);
-    let al = s.horizontal;
-    indent_start(al, inner, w)
+    let width = if s.line_mode { line.len() } else { widest };
+    indent_start(s.horizontal, inner, width)
 }
 
 // One line of the text, over spaces and padding.
@@ -54,9 +47,9 @@ fn text_line(out: &mut [u8], at: usize, s: Settings, inner: usize, widest: usize
     let left = s.left + line_indent(s, inner, widest, line);
     if widest <= SHORT {
         bytes::copy_short(out, at + left, line);
-        return;
+    } else {
+        bytes::copy_line(out, at + left, line);
     }
-    bytes::copy_line(out, at + left, line);
 }
 
 // Where the line that starts at `from` ends; the last one ends with the text, and needs no search.
@@ -65,12 +58,12 @@ fn end_of_line(text: &[u8], from: usize, widest: usize, last: bool) -> usize
     ensures { result ≡ from + first_feed (drop from text.now) }
 {
     if last {
-        return text.len();
+        text.len()
+    } else if widest <= SHORT {
+        text::next_feed_near(text, from)
+    } else {
+        text::next_feed(text, from)
     }
-    if widest <= SHORT {
-        return text::next_feed_near(text, from);
-    }
-    text::next_feed(text, from)
 }
 
 // All n lines of the text, one under another, over spaces and padding.
@@ -91,12 +84,10 @@ pub fn text_lines(
 {
     let mut p = at;
     let mut from = 0;
-    let mut more = n;
-    while 0 < more {
-        let end = end_of_line(text, from, widest, more == 1);
+    for after in (0..n).rev() {
+        let end = end_of_line(text, from, widest, after == 0);
         text_line(out, p, s, inner, widest, &text[from..end]);
         p += stride;
         from = end + 1;
-        more -= 1;
     }
 }

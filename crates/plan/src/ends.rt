@@ -36,9 +36,11 @@ fn range_end(settings: Settings, s: &[u8], most: bool) -> Size
     requires { (length s.now ≡ 4) × ShortSize (end_of settings most s.now) }
     ensures { result ≡ end_of settings most s.now }
 {
-    let w = common::wide(common::pick_byte(most, s[1], s[0]));
-    let h = common::wide(common::pick_byte(most, s[3], s[2]));
-    padded(settings, w, h)
+    if most {
+        padded(settings, usize::from(s[1]), usize::from(s[3]))
+    } else {
+        padded(settings, usize::from(s[0]), usize::from(s[2]))
+    }
 }
 
 // Adds what is around a root of the size z: W and H.
@@ -49,13 +51,9 @@ fn outer_size(settings: Settings, z: Size) -> Size
 {
     let marks = 2 * separator(settings);
     let m = settings.margin;
-    let left = common::wide(m.left);
-    let right = common::wide(m.right);
-    let top = common::wide(m.top);
-    let bottom = common::wide(m.bottom);
     Size {
-        width: left + (z.width + marks) + right,
-        height: top + (z.height + marks) + bottom,
+        width: usize::from(m.left) + (z.width + marks) + usize::from(m.right),
+        height: usize::from(m.top) + (z.height + marks) + usize::from(m.bottom),
     }
 }
 
@@ -66,14 +64,14 @@ fn end_node(s: &[u8], settings: Settings, most: bool) -> Size
     ensures { (q : ReadyPlan settings most s.now) → result ≡ end_size settings most q.plan }
 {
     let t = tree::front::read_front(s);
-    let end = t.end;
+    let contents = &s[3..t.end];
     if s[0] == 4 {
-        return range_end(settings, &s[3..end], most);
+        range_end(settings, contents, most)
+    } else if t.leaf {
+        text_end(settings, contents)
+    } else {
+        end_group(contents, settings, most, t.across)
     }
-    if t.leaf {
-        return text_end(settings, &s[3..end]);
-    }
-    end_group(&s[3..end], settings, most, t.across)
 }
 
 // The size of a group of the plans of `s`, at least one.
@@ -82,7 +80,7 @@ fn end_group(s: &[u8], settings: Settings, most: bool, across: bool) -> Size
     requires { ReadyPlans settings most across s.now }
     ensures { (q : ReadyPlans settings most across s.now) → result ≡ end_size settings most (Plan.group (axis_of across) q.plans) }
 {
-    let mut at: usize = 0;
+    let mut at = 0;
     let mut g = Span {
         along: 0,
         beside: 0,
@@ -93,10 +91,9 @@ fn end_group(s: &[u8], settings: Settings, most: bool, across: bool) -> Size
         let used = 3 + tree::front::length_at(rest);
         let z = end_node(rest, settings, most);
         g = with_child(g, across, z);
-        at = at + used;
+        at += used;
     }
-    let gap = separator(settings);
-    span_size(gap, across, g)
+    span_size(separator(settings), across, g)
 }
 
 // W and H at that end of the plan whose bytes are `s`.
@@ -105,6 +102,5 @@ pub fn sheet_end(s: &[u8], settings: Settings, most: bool) -> Size
     ensures value { (q : ReadyPlan settings most s.now) → result ≡ outer settings (end_size settings most q.plan) }
     ensures wide { Wide result }
 {
-    let z = end_node(s, settings, most);
-    outer_size(settings, z)
+    outer_size(settings, end_node(s, settings, most))
 }

@@ -24,7 +24,7 @@ fn refused(number: u8) -> Planned
     ensures { result ≡ no_planned number }
 {
     Planned {
-        number: number,
+        number,
         least_width: 0,
         greatest_width: 0,
         least_height: 0,

@@ -1,10 +1,10 @@
 -- Words, numbers and places of faults, put one after the other.
 use mathlib.Core.Path.{◌≡◌, refl, sym, ◌∙◌}
-use Prim.Native.Nat.{ℕ, zero, suc, ◌+◌, ◌-◌, ◌/◌, ◌%◌, ◌≤◌, ◌<◌, min}
+use Prim.Native.Nat.{ℕ, zero, suc, ◌+◌, ◌-◌, ◌/◌, ◌%◌, ◌≤◌, ◌<◌}
 use native.Mathlib.Omega.{arith}
 use mathlib.Core.Bool.{Bool, true, false}
 use mathlib.Core.List.{List, [], ◌∷◌, ◌++◌, append_assoc}
-use lib.ListN.{length, take, drop, get_or, set, length-append}
+use lib.ListN.{length, set, length-append}
 use lib.Seq.{sets}
 use lib.Dec.{eqb, ltb}
 use borrow.Author.Tests.{ne_eqb, lt-ltb, le-ltb}
@@ -12,7 +12,7 @@ use Rattle.common.specs.Choice.{pick}
 use Rattle.common.specs.Writing.{Wrote}
 use Rattle.common.proofs.Stores.{sets_append}
 use Rattle.common.proofs.Copies.{then_wrote}
-use Rattle.program.specs.Words.{digits, decimal, words30, words31, words32, words33, words34, words35, words36, words37, words38, words39, words_large}
+use Rattle.program.specs.Words.{digits, decimal, words_large}
 use Rattle.program.specs.Words.{fault_words, line_text, column_text, colon_text, place_text, fault_text}
 
 -- ---- digits
@@ -51,47 +51,8 @@ module _ (o : List ℕ) (at : ℕ) where
 
 -- ---- words
 
--- f at 0 to n - 1
-unfoldable values : {A : Type 0} → (ℕ → A) → ℕ → List A
-values f zero = []
-values f (suc n) = f 0 ∷ values (λ i. f (suc i)) n
-
-same_values : {A : Type 0} (f g : ℕ → A) (n : ℕ) → values f n ≡ values g n → (i : ℕ) → i < n → f i ≡ g i
-unfolding values
-same_values f g zero e i h = absurd (omega arith)
-same_values f g (suc n) e zero h = cc
-same_values f g (suc n) e (suc i) h = same_values (λ i. f (suc i)) (λ i. g (suc i)) n (cc) i (omega arith)
-
--- the words of the faults 30 to 39, one after the other
-abbrev table : List ℕ
-table = words30 ++ (words31 ++ (words32 ++ (words33 ++ (words34 ++ (words35 ++ (words36 ++ (words37 ++ (words38 ++ words39))))))))
-
--- where each of them begins, and where the last ends
-abbrev start : ℕ → ℕ
-start i = get_or (0 ∷ 31 ∷ 111 ∷ 161 ∷ 231 ∷ 279 ∷ 361 ∷ 375 ∷ 407 ∷ 474 ∷ 530 ∷ []) i 0
-
--- the words of fault k are a part of the table, 100 bytes at the most
-pub record Row (k : ℕ) : Type 0 where
-  pub rises : start (k - 30) ≤ start (k - 30 + 1)
-  pub within : start (k - 30 + 1) ≤ 530
-  pub short : start (k - 30 + 1) ≤ start (k - 30) + 100
-  pub words : take (start (k - 30 + 1) - start (k - 30)) (drop (start (k - 30)) table) ≡ fault_words k
-
--- all ten, computed
-row_at : (i : ℕ) → i < 10 → Row (30 + i)
-unfolding values fault_words
-row_at i h =
-    let f = same_values (λ i. min (start i) (start (i + 1))) (λ i. start i) 10 refl i h in
-    let g = same_values (λ i. min (start (i + 1)) (min 530 (start i + 100))) (λ i. start (i + 1)) 10 refl i h in
-    let w = same_values (λ i. take (start (i + 1) - start i) (drop (start i) table)) (λ i. fault_words (30 + i)) 10 refl i h in
-    let e : 30 + i - 30 ≡ i = omega arith in
-    record { rises = rw e (omega arith); within = rw e (omega arith); short = rw e (omega arith); words = rw e w }
-
-pub row : (k : ℕ) → 30 ≤ k → k ≤ 39 → Row k
-row k low high = let e : 30 + (k - 30) ≡ k = omega arith in rw e at (row_at (k - 30) (omega arith))
-
 -- the number is none of 30 to 39
-words_left : (k : ℕ) → ((i : ℕ) → i < 10 → k ≡ 30 + i → ⊥) → fault_words k ≡ words_large
+pub words_left : (k : ℕ) → ((i : ℕ) → i < 10 → k ≡ 30 + i → ⊥) → fault_words k ≡ words_large
 unfolding fault_words
 words_left k other =
     let f : (i : ℕ) → i < 10 → eqb k (30 + i) ≡ false = λ i h. ne_eqb k (30 + i) (other i h) in
@@ -107,12 +68,6 @@ words_left k other =
       f 8 (omega arith),
       f 9 (omega arith),
     )
-
-pub words_below : (k : ℕ) → k < 30 → fault_words k ≡ words_large
-words_below k h = words_left k (λ i b e. omega arith)
-
-pub words_above : (k : ℕ) → 39 < k → fault_words k ≡ words_large
-words_above k h = words_left k (λ i b e. omega arith)
 
 -- ---- one text after another
 

@@ -5,7 +5,7 @@ ghost use Rattle.common.specs.Writing.{Wrote};
 ghost use Rattle.program.specs.Program.{refused_text, program_of};
 
 use crate::{ANSWER_BYTES, print_ended};
-use common::copy::copy_bytes;
+use common::copy::copy;
 
 // One byte more than the settings with a margin, 42 bytes, and the longest tree, 32,768.
 pub const INPUT_BYTES: usize = 32811;
@@ -24,7 +24,7 @@ fn refuse(number: u8, out: &mut [u8; ANSWER_BYTES]) -> usize
 {
     let mut text = *b"refused 0\n";
     text[8] = b'0' + number;
-    copy_bytes(out, 0, &text)
+    copy(out, 0, &text)
 }
 
 // The program's whole output is written to the front of `out`, and its length is answered; the bytes past it stay.
@@ -35,8 +35,9 @@ pub fn answer(input: &[u8], out: &mut [u8; ANSWER_BYTES]) -> usize
 {
     let end = settings::settings_end(input);
     let w = print_ended(&input[..end], &input[end..], out);
-    if w.number != 0 {
-        return refuse(w.number, out);
+    if w.number == 0 {
+        w.count
+    } else {
+        refuse(w.number, out)
     }
-    w.count
 }

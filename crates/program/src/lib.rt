@@ -23,10 +23,9 @@ fn print_ended(settings: &[u8], tree: &[u8], out: &mut [u8]) -> Written
     if w.number != 0 {
         return w;
     }
-    let n = w.count;
-    out[n] = b'\n';
+    out[w.count] = b'\n';
     Written {
         number: 0,
-        count: n + 1,
+        count: w.count + 1,
     }
 }

@@ -29,10 +29,11 @@ fn print_tree(tree: &[u8], out: &mut [u8; ANSWER_BYTES]) -> usize
         tree,
         out,
     );
-    if w.number != 0 {
-        return words::tell(w.number, 0, 0, out);
+    if w.number == 0 {
+        w.count
+    } else {
+        words::tell(w.number, 0, 0, out)
     }
-    w.count
 }
 
 // The program's whole output is written to the front of `out`, and its length is answered; the bytes past it stay.
@@ -43,9 +44,9 @@ pub fn answer_typed(text: &[u8], out: &mut [u8; ANSWER_BYTES]) -> usize
 {
     let mut tree = [0u8; TREE_BYTES];
     let t = typed::read_typed(text, &mut tree);
-    if t.number != 0 {
-        return words::tell(t.number, t.line, t.column, out);
+    if t.number == 0 {
+        print_tree(&tree[..t.count], out)
+    } else {
+        words::tell(t.number, t.line, t.column, out)
     }
-    let n = t.count;
-    print_tree(&tree[..n], out)
 }

@@ -77,7 +77,7 @@ module _ (lines : Bool) (l : List ℕ) (e : within (low lines) (high lines) l �
   second : (b : Bool) (k : List ℕ) (s : Settings) → (b ≡ true → Edges (margin_of k)) → pick b (read (settings_of lines (margin_of k) l)) refused ≡ read s
       → Ranges s
   second true k s g p = let z : settings_of lines (margin_of k) l ≡ s = cc in rw z at (ranges (margin_of k) (g refl))
-  second false k s g p = let z : ◌≡◌ {A = ℕ} 0 1 = cc in absurd (omega arith)
+  second false k s g p = cc
 
   behind : (k : List ℕ) (s : Settings) → read_behind lines l k ≡ read s → Ranges s
   unfolding read_behind

@@ -22,7 +22,7 @@ margin_long lines l k s true h d e p =
     let tag = within_at margin_low margin_high k e 0 (omega arith) in
     let first : get_or k 0 0 ≡ get_or l 31 0 = sym (ap (λ (x : List ℕ). get_or x 0 0) d) ∙ get_or-drop 31 l 0 0 in
     inr (omega (arith, length-drop 31 l, ap length d), omega (arith, tag.0, tag.1))
-margin_long lines l k s false h d e p = let z : ◌≡◌ {A = ℕ} 0 1 = cc in absurd (omega arith)
+margin_long lines l k s false h d e p = cc
 
 behind_long : (lines : Bool) (l k : List ℕ) (s : Settings) → 31 ≤ length l → drop 31 l ≡ k → read_behind lines (take 31 l) k ≡ read s → Long l
 unfolding read_behind

@@ -2,41 +2,28 @@
 use mathlib.Core.Path.{◌≡◌, refl, ap, ◌∙◌}
 use mathlib.Core.Bool.{Bool, true, false}
 use mathlib.Core.List.{List, [], ◌∷◌}
-use Prim.Native.Nat.{ℕ, zero, suc, ◌+◌, ◌≤◌, ◌<◌}
+use Prim.Native.Nat.{ℕ, zero, suc, ◌≤◌, ◌<◌}
 use native.Mathlib.Omega.{arith}
-use native.Mathlib.Numerals.{add-one}
-use lib.ListN.{length, get_or, take, drop, length-take, drop_of_length-le}
-use lib.Seq.{drop-cons, get_or-take}
+use lib.ListN.{length, get_or, take, drop, length-take}
+use lib.Seq.{get_or-take}
 use lib.Dec.{ltb}
 use borrow.Author.Tests.{ltb-false}
 use Rattle.common.specs.Choice.{pick}
 use Rattle.settings.specs.declared.Settings.{Settings}
 use Rattle.settings.specs.Reading.{low, high, within, Parsed, refused, read, read_behind, read_form, or_else, read_settings}
 
--- a byte is tested, then those after it
-pub within_next : (ls hs bs : List ℕ) (i : ℕ) → i < length ls → i < length hs → i < length bs
-    → within (drop i ls) (drop i hs) (drop i bs)
-    ≡ pick (ltb (get_or bs i 0) (get_or ls i 0)) false
-    (pick (ltb (get_or hs i 0) (get_or bs i 0)) false (within (drop (i + 1) ls) (drop (i + 1) hs) (drop (i + 1) bs)))
-unfolding within
-within_next ls hs bs i p q r = rw (drop-cons ls i 0 p, drop-cons hs i 0 q, drop-cons bs i 0 r, add-one)
-
-pub within_end : (ls hs bs : List ℕ) (i : ℕ) → length ls ≤ i → length hs ≤ i → length bs ≤ i → within (drop i ls) (drop i hs) (drop i bs) ≡ true
-unfolding within
-within_end ls hs bs i p q r = rw (drop_of_length-le ls p, drop_of_length-le hs q, drop_of_length-le bs r)
-
 passed : (b : Bool) {y : Bool} → pick b false y ≡ true → (b ≡ false) × (y ≡ true)
-passed true e = let z : ◌≡◌ {A = ℕ} 0 1 = cc in absurd (omega arith)
+passed true e = cc
 passed false e = (refl, e)
 
 pub within_length : (ls hs bs : List ℕ) → within ls hs bs ≡ true → length bs ≡ length ls
 unfolding within
 within_length [] [] [] e = refl
 within_length (l ∷ ls) (h ∷ hs) (b ∷ bs) e = ap suc (within_length ls hs bs (passed (ltb h b) (passed (ltb b l) e).1).1)
-within_length [] [] (b ∷ bs) e = let z : ◌≡◌ {A = ℕ} 0 1 = cc in absurd (omega arith)
-within_length [] (h ∷ hs) bs e = let z : ◌≡◌ {A = ℕ} 0 1 = cc in absurd (omega arith)
-within_length (l ∷ ls) [] bs e = let z : ◌≡◌ {A = ℕ} 0 1 = cc in absurd (omega arith)
-within_length (l ∷ ls) (h ∷ hs) [] e = let z : ◌≡◌ {A = ℕ} 0 1 = cc in absurd (omega arith)
+within_length [] [] (b ∷ bs) e = cc
+within_length [] (h ∷ hs) bs e = cc
+within_length (l ∷ ls) [] bs e = cc
+within_length (l ∷ ls) (h ∷ hs) [] e = cc
 
 not-true : (b : Bool) → (b ≡ true → ⊥) → b ≡ false
 not-true true f = absurd (f refl)
@@ -48,8 +35,8 @@ within_other ls hs bs f = not-true (within ls hs bs) (λ e. f (within_length ls 
 pub within_at : (ls hs bs : List ℕ) → within ls hs bs ≡ true → (i : ℕ) → i < length ls → (get_or ls i 0 ≤ get_or bs i 0) × (get_or bs i 0 ≤ get_or hs i 0)
 unfolding within
 within_at [] hs bs e i p = absurd (omega arith)
-within_at (l ∷ ls) [] bs e i p = let z : ◌≡◌ {A = ℕ} 0 1 = cc in absurd (omega arith)
-within_at (l ∷ ls) (h ∷ hs) [] e i p = let z : ◌≡◌ {A = ℕ} 0 1 = cc in absurd (omega arith)
+within_at (l ∷ ls) [] bs e i p = cc
+within_at (l ∷ ls) (h ∷ hs) [] e i p = cc
 within_at (l ∷ ls) (h ∷ hs) (b ∷ bs) e zero p = (ltb-false b l (passed (ltb b l) e).0, ltb-false h b (passed (ltb h b) (passed (ltb b l) e).1).0)
 within_at (l ∷ ls) (h ∷ hs) (b ∷ bs) e (suc i) p = within_at ls hs bs (passed (ltb h b) (passed (ltb b l) e).1).1 i (omega arith)
 
@@ -103,4 +90,4 @@ form_front lines l s e = go (within (low lines) (high lines) (take 31 l)) refl e
     go : (b : Bool) → within (low lines) (high lines) (take 31 l) ≡ b → pick b (read_behind lines (take 31 l) (drop 31 l)) refused ≡ read s
         → (within (low lines) (high lines) (take 31 l) ≡ true) × (read_behind lines (take 31 l) (drop 31 l) ≡ read s)
     go true w e = (w, e)
-    go false w e = let z : ◌≡◌ {A = ℕ} 0 1 = cc in absurd (omega arith)
+    go false w e = cc

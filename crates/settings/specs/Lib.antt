@@ -1,4 +1,5 @@
 pub mod Reading
+pub mod Clauses
 pub mod Defaults
 pub mod Figures
 pub mod Promises

@@ -38,7 +38,7 @@ use Rattle.sizes.proofs.MeasuredInput.{refuses}
 use Rattle.walk.proofs.Inputs.{Taken, call_takes, call_large, call_frame, call_stride, FitsSheet}
 use Rattle.sheet.specs.Sheet.{sheet}
 use Rattle.sheet.specs.Answers.{sheet_of}
-use Rattle.sheet.specs.Clauses.{refusal_of, left_side, top_side, inside_at, Framed, before_of, after_of}
+use Rattle.sheet.specs.Clauses.{frame_refusal, left_side, top_side, inside_at, Framed, before_of, after_of}
 use Rattle.sheet.proofs.Bytes.{sheet_length}
 use Rattle.sheet.proofs.Painted.{painted_all, sheet_painted}
 use Rattle.sheet.proofs.Refusals.{planned_no, planned_yes}
@@ -166,13 +166,13 @@ module _ {bs ts : List ℕ} {m : Measured} {sizes : List ℕ} (k : Taken bs ts m
       unfolding sheet_of
       sheet_is = rw (k.input, large_of_lem, known)
 
-      pub sheet_no : (n : ℕ) → n ≡ refusal_of f (length o) → (n ≡ 0 → ⊥) → sheet_of (input_of bs ts) o ≡ no_print n o
-      unfolding refusal_of
+      pub sheet_no : (n : ℕ) → n ≡ frame_refusal f (length o) → (n ≡ 0 → ⊥) → sheet_of (input_of bs ts) o ≡ no_print n o
+      unfolding frame_refusal
       sheet_no n e h = sheet_is ∙ planned_no (large_of f) (ltb (length o) f.bytes) o n whole e h
 
-      module _ (none : refusal_of f (length o) ≡ 0) where
+      module _ (none : frame_refusal f (length o) ≡ 0) where
         passed : (large_of f ≡ false) × (ltb (length o) f.bytes ≡ false)
-        unfolding refusal_of
+        unfolding frame_refusal
         passed = planned_yes (large_of f) (ltb (length o) f.bytes) none
 
         within : f.bytes ≤ length o

@@ -7,8 +7,8 @@ use Rattle.frame.specs.declared.Frame.{Frame}
 use Rattle.frame.specs.Clauses.{large_of}
 
 -- 6 and 8 in this order, for an output of len bytes; 0 where the sheet is printed
-unfoldable pub refusal_of : Frame → ℕ → ℕ
-refusal_of f len = pick (large_of f) 6 (pick (ltb len f.bytes) 8 0)
+unfoldable pub frame_refusal : Frame → ℕ → ℕ
+frame_refusal f len = pick (large_of f) 6 (pick (ltb len f.bytes) 8 0)
 
 -- ---- the margin's four sides: n lines of one byte
 

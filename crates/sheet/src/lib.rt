@@ -2,28 +2,30 @@
 #![tactic(auto)]
 
 ghost use Rattle.std.specs.Prelude.{◌≡◌, length};
+ghost use Rattle.common.specs.Refusals.{answer_number};
 ghost use Rattle.common.specs.Writing.{Wrote};
 ghost use Rattle.sizes.specs.Input.{input_of};
 ghost use Rattle.sheet.specs.Answers.{sheet_of};
-ghost use Rattle.sheet.specs.Clauses.{refusal_of, Framed, inside_at, before_of, after_of};
+ghost use Rattle.sheet.specs.Clauses.{frame_refusal, Framed, inside_at, before_of, after_of};
 
+use common::refusal::Refusal;
 use frame::{Frame, Written};
 use paint::bytes::rows;
 use settings::Margin;
 use sizes::axis::separator;
 use sizes::lists::natural_at;
 
-// 6 and 8 in this order, for an output of `len` bytes; 0 where the sheet is printed.
-fn refusal_of(f: Frame, len: usize) -> u8
-    ensures { result ≡ refusal_of f len }
+// 6 and 8 in this order, for an output of `len` bytes.
+fn check_room(f: Frame, len: usize) -> Result<(), Refusal>
+    ensures { answer_number result ≡ frame_refusal f len }
 {
     if frame::is_large(f) {
-        return 6;
+        return Err(Refusal::TooLarge);
     }
     if len < f.bytes {
-        return 8;
+        return Err(Refusal::TooShort);
     }
-    0
+    Ok(())
 }
 
 // The left and the top margin; the answer is where the rectangle inside starts.
@@ -31,9 +33,9 @@ fn margin_before(out: &mut [u8], m: Margin, f: Frame) -> usize
     requires { Framed m f (length out.old) }
     ensures { Wrote result (inside_at m f.stride) out.new (before_of m f out.old) }
 {
-    let left = common::wide(m.left);
+    let left = usize::from(m.left);
     rows(out, 0, f.stride, f.lines, left, m.fills[0]);
-    rows(out, left, f.stride, common::wide(m.top), f.wide, m.fills[2])
+    rows(out, left, f.stride, usize::from(m.top), f.wide, m.fills[2])
 }
 
 // The bottom and the right margin; the rectangle inside starts at `base`.
@@ -45,16 +47,16 @@ fn margin_after(out: &mut [u8], m: Margin, f: Frame, base: usize)
         out,
         base + f.tall * f.stride,
         f.stride,
-        common::wide(m.bottom),
+        usize::from(m.bottom),
         f.wide,
         m.fills[3],
     );
     rows(
         out,
-        common::wide(m.left) + f.wide,
+        usize::from(m.left) + f.wide,
         f.stride,
         f.lines,
-        common::wide(m.right),
+        usize::from(m.right),
         m.fills[1],
     );
 }
@@ -71,9 +73,8 @@ pub fn print_sheet(settings: &[u8], tree: &[u8], out: &mut [u8]) -> Written
     }
     let s = m.settings;
     let f = frame::frame_of(s, natural_at(&list, 0));
-    let number = refusal_of(f, out.len());
-    if number != 0 {
-        return frame::refused(number);
+    if let Err(refusal) = check_room(f, out.len()) {
+        return frame::refused(refusal.number());
     }
     paint::bytes::end_lines(out, f.columns, f.lines);
     let margin = s.margin;

@@ -14,7 +14,6 @@ use Rattle.sizes.specs.declared.natural.Node.{Node}
 use Rattle.sizes.specs.declared.natural.Span.{Span}
 use Rattle.sizes.specs.declared.natural.Around.{Around}
 use Rattle.sizes.specs.declared.allot.GroupShare.{GroupShare}
-use Rattle.sizes.specs.declared.allot.Priorities.{Priorities}
 use Rattle.sizes.specs.declared.Measured.{Measured}
 use Rattle.sizes.specs.Sizes.{along, beside, sized, sep, natural, priority, spare_of, child_size, sizes, tree_sizes, allot, Sizes}
 use Rattle.sizes.specs.Listed.{flat, allotted_at}
@@ -128,9 +127,6 @@ natural_at l node = record { width = get_or l (4 * node) 0; height = get_or l (4
 abbrev pub Holds : List Size → ℕ → List ℕ → Type 0
 Holds zs node l = Each (λ z n. natural_at l n ≡ z) zs node
 
-abbrev pub sharing_of : Settings → Priorities
-sharing_of s = record { width = s.width_priority; height = s.height_priority }
-
 pub record ReadyCount (bytes : List ℕ) : Type 0 where
   pub trees : Trees
   pub are : EncodesAll trees bytes
@@ -167,14 +163,12 @@ pub record Fits (n z : Size) : Type 0 where
   pub tall : n.height ≤ z.height
 
 -- the children, at least one, of the group `node`, allotted the size z: the list has their natural sizes
-pub record ReadyTrees (p : Priorities) (bytes : List ℕ) (a : Bool) (node : ℕ) (z : Size) (l : List ℕ) : Type 0 where
-  pub settings : Settings
-  pub sharing : p ≡ sharing_of settings
+pub record ReadyTrees (s : Settings) (bytes : List ℕ) (a : Bool) (node : ℕ) (z : Size) (l : List ℕ) : Type 0 where
   pub trees : Trees
   pub are : EncodesAll trees bytes
   pub some : empty? trees ≡ false
-  pub holds : Holds (natural_sizes settings (group (axis_of a) trees)) node l
-  pub fits : Fits (natural settings (group (axis_of a) trees)) z
+  pub holds : Holds (natural_sizes s (group (axis_of a) trees)) node l
+  pub fits : Fits (natural s (group (axis_of a) trees)) z
   pub small : SmallSize z
   pub room : node + nodes (group (axis_of a) trees) ≤ 512
 

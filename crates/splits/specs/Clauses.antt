@@ -2,7 +2,7 @@
 use Rattle.std.specs.Prelude.{ℕ, ◌+◌, ◌≤◌, ◌<◌, ◌≡◌, List, length, take, drop, get_or}
 use Rattle.splits.specs.declared.SplitList.{SplitList}
 use Rattle.splits.specs.declared.cut.CutAt.{CutAt}
-use Rattle.splits.specs.declared.short.Listed.{Listed}
+use Rattle.splits.specs.declared.Positions.{Positions}
 use Rattle.splits.specs.Splits.{reach, short_splits3, pair_of}
 use Rattle.splits.specs.Lists.{list_of, position_list}
 
@@ -25,6 +25,6 @@ pub record CutsIn (w : ℕ) (r : CutAt) (s₀ s : List ℕ) : Type 0 where
   pub within : r.gone ≤ length s₀
 
 -- what the loop of `short_splits` answers
-pub record PositionsListed (w : ℕ) (list : SplitList) (r : Listed) : Type 0 where
-  pub stops : Stops 0 w list.count list.pieces r.positions.count r.pos
-  pub listed : r.positions ≡ position_list (reach 0 w (list_of list) 0).positions
+pub record PositionsListed (w : ℕ) (list : SplitList) (positions : Positions) (pos : ℕ) : Type 0 where
+  pub stops : Stops 0 w list.count list.pieces positions.count pos
+  pub listed : positions ≡ position_list (reach 0 w (list_of list) 0).positions

@@ -9,122 +9,75 @@
 mod libraries;
 
 use libraries::Library;
-use standard_streams::input;
-use standard_streams::input::StandardInput;
+use std::alloc::Global;
 use std::env::{Env, FillError};
 use std::fs::Files;
 use std::io::{ErrorKind, Read};
 use std::{fs, io, str};
 use test_lines::given::Given;
-use test_lines::{contents, given, tell};
+use test_lines::{contents, given, report};
 
 // A file has fewer bytes than this.
-const MOST: usize = 131072;
+const MOST: u64 = 131072;
 
-// Room for settings or a store of drafts; for a tree, or a typed list of one byte more than allowed; for what a line expects, of which a sheet of 64,159 bytes
-// is the longest.
-const SETTINGS: usize = 300;
-
-const TREE: usize = 131100;
-
-const WANT: usize = 66000;
+// Makes the call of a line with the inputs so far; a title is printed.
+fn ask(rt: &impl Print, alloc: Global, of: Library, kind: u8, given: &mut Given) -> io::Result<()> {
+    if kind == b'#' {
+        report::bytes(rt, &given.want.bytes)?;
+        return println!(rt);
+    }
+    if given::gives(kind) {
+        return Ok(());
+    }
+    of.ask(rt, alloc, kind, given)
+}
 
 // One line: the input that it sets, then its call.
 fn step(
     rt: &impl Print,
+    alloc: Global,
     of: Library,
     line: &[u8],
-    settings: &mut [u8],
-    tree: &mut [u8],
-    want: &mut [u8],
-    before: Given,
-) -> Given {
-    if line.len() < 2 {
-        tell::failed(rt, b"line without contents");
-        return before;
-    }
-    let kind = line[0];
-    let g = given::give(rt, kind, &line[2..], settings, tree, want, before);
-    ask(rt, of, kind, settings, tree, want, g);
-    given::left(kind, g)
-}
-
-// Makes the call of a line with the inputs so far; a title is printed.
-fn ask(
-    rt: &impl Print,
-    of: Library,
-    kind: u8,
-    settings: &mut [u8],
-    tree: &mut [u8],
-    want: &[u8],
-    g: Given,
-) {
-    let s = contents::within(g.settings, settings);
-    let t = contents::within(g.tree, tree);
-    let w = contents::within(g.want, want);
-    if kind == b'#' {
-        tell::line(rt, &want[0..w]);
-    } else if !given::gives(kind) {
-        libraries::ask(
-            rt,
-            of,
-            kind,
-            &mut settings[0..s],
-            &mut tree[0..t],
-            g.node,
-            &want[0..w],
-        );
-    }
-}
-
-// All lines from `first` on, split at each 0A.
-fn run_lines(
-    rt: &impl Print,
-    of: Library,
-    cases: &[u8],
-    first: usize,
-    settings: &mut [u8],
-    tree: &mut [u8],
-    want: &mut [u8],
-) {
-    let mut g = given::nothing();
-    let mut start = first;
-    while start < cases.len() {
-        let end = start + contents::find(&cases[start..], 10);
-        g = step(rt, of, &cases[start..end], settings, tree, want, g);
-        start = end + 1;
+    given: &mut Given,
+) -> io::Result<()> {
+    match line {
+        [kind, _, rest @ ..] => {
+            given.give(rt, *kind, rest)?;
+            ask(rt, alloc, of, *kind, given)?;
+            given.end_line(*kind);
+            Ok(())
+        }
+        _ => report::failed(rt, "line without contents"),
     }
 }
 
 // The lines of a file after its first.
-fn run_cases(rt: &impl Print, of: Library, cases: &[u8], first: usize) {
-    let mut settings = [0u8; SETTINGS];
-    let mut tree = [0u8; TREE];
-    let mut want = [0u8; WANT];
-    run_lines(rt, of, cases, first, &mut settings, &mut tree, &mut want);
+fn run_lines(rt: &impl Print, alloc: Global, of: Library, lines: &[u8]) -> io::Result<()> {
+    let mut given = Given::new(alloc);
+    for line in lines.split_inclusive(|b| *b == b'\n') {
+        let line = line.strip_suffix(b"\n").unwrap_or(line);
+        step(rt, alloc, of, line, &mut given)?;
+    }
+    Ok(())
 }
 
 // The bytes of a file, of which the first line names the library.
-fn run_bytes(rt: &impl Print, cases: &[u8]) {
-    let end = contents::find(cases, 10);
-    let of = libraries::named(&cases[0..end]);
-    match of {
-        Library::Unknown => tell::failed(rt, b": names no library"),
-        _ => {
-            tell::end(rt);
-            run_cases(rt, of, cases, end + 1);
+fn run_bytes(rt: &impl Print, alloc: Global, cases: &[u8]) -> io::Result<()> {
+    let end = contents::find(cases, b'\n');
+    match Library::named(&cases[..end]) {
+        None => report::failed(rt, ": names no library"),
+        Some(of) => {
+            println!(rt)?;
+            run_lines(rt, alloc, of, contents::past(cases, end))
         }
     }
 }
 
-// An open file, read and closed.
-fn run_open<F: Read + Drop>(rt: &impl Print, mut file: F) {
-    let mut cases = [0u8; MOST];
-    match input::read_input(&mut file, &mut cases) {
-        StandardInput::Whole(MOST) => tell::failed(rt, b": does not end"),
-        StandardInput::Whole(n) => run_bytes(rt, &cases[..n]),
-        StandardInput::Failed(_) => tell::failed(rt, b": cannot be read"),
-    }
+// The bytes of an open file, or as many as are too many.
+fn read<F: Read + Drop>(alloc: Global, file: F) -> io::Result<Vec<u8>> {
+    let mut bytes = Vec::new(alloc);
+    file.take(MOST).read_to_end(&mut bytes)?;
+    Ok(bytes)
 }
 
 fn open<R: Files>(rt: &R, name: &[u8]) -> io::Result<R::File> {
@@ -134,31 +87,28 @@ fn open<R: Files>(rt: &R, name: &[u8]) -> io::Result<R::File> {
     }
 }
 
-fn run_file(rt: &(impl Print + Files), name: &[u8]) {
-    tell::text(rt, b"file ");
-    tell::text(rt, name);
-    match open(rt, name) {
-        Ok(file) => run_open(rt, file),
-        Err(_) => tell::failed(rt, b": cannot be opened"),
+fn run_file(rt: &(impl Print + Files), alloc: Global, name: &[u8]) -> io::Result<()> {
+    print!(rt; "file ")?;
+    report::bytes(rt, name)?;
+    let Ok(file) = open(rt, name) else {
+        return report::failed(rt, ": cannot be opened");
+    };
+    match read(alloc, file) {
+        Ok(cases) if cases.len() as u64 == MOST => report::failed(rt, ": does not end"),
+        Ok(cases) => run_bytes(rt, alloc, &cases),
+        Err(_) => report::failed(rt, ": cannot be read"),
     }
 }
 
-// Runs the file that an argument names, if there is such an argument; an argument that is longer than any path names none.
-fn run_argument(rt: &(impl Print + Files + Env), i: usize) -> bool {
+// All files that the arguments name; an argument that is longer than any path names none.
+pub fn run(rt: &(impl Print + Files + Env), alloc: Global) -> io::Result<()> {
     let mut name = [0u8; 4096];
-    match rt.arg(i, &mut name) {
-        Ok(n) => run_file(rt, &name[..n]),
-        Err(FillError::TooLong) => run_file(rt, b""),
-        Err(FillError::NotPresent) => return false,
-    }
-    true
-}
-
-// All files that the arguments name.
-pub fn run(rt: &(impl Print + Files + Env)) {
     for i in 1..usize::MAX {
-        if !run_argument(rt, i) {
-            return;
+        match rt.arg(i, &mut name) {
+            Ok(n) => run_file(rt, alloc, &name[..n])?,
+            Err(FillError::TooLong) => run_file(rt, alloc, b"")?,
+            Err(FillError::NotPresent) => return Ok(()),
         }
     }
+    Ok(())
 }

@@ -5,15 +5,22 @@
 mod papers;
 mod stores;
 
-use test_lines::tell;
+use std::io;
+use test_lines::report;
 
 // Makes the call of a line and compares the answer.
-pub fn ask(rt: &impl Print, kind: u8, store: &mut [u8], tree: &[u8], want: &[u8]) {
+pub fn ask(
+    rt: &impl Print,
+    kind: u8,
+    store: &mut [u8],
+    tree: &[u8],
+    want: &[u8],
+) -> io::Result<()> {
     match kind {
         b's' => stores::save(rt, store, tree, want),
         b'f' => stores::forget(rt, store, want),
         b'r' => stores::give_back(rt, store, want),
         b'b' => papers::blanked(rt, tree, want),
-        _ => tell::unknown(rt),
+        _ => report::unknown(rt),
     }
 }

@@ -1,72 +1,52 @@
 // Drafts in a store, which each call leaves to the next. Saved and forgotten: NAME, NUMBER, and the store afterwards. Returned: NAME ROOM, NUMBER COUNT, and
 // the bytes copied.
-use drafts::Returned;
-use test_lines::compare::is_nth;
-use test_lines::{compare, contents, tell};
+use std::io;
+use test_lines::report::{is_nth, verdict};
+use test_lines::{compare, contents, report};
 
 // The most room of a line.
 const MOST: usize = 64;
 
 // Prints the call's name.
-fn name_in(rt: &impl Print, call: &[u8], want: &[u8]) -> u8 {
+fn name_in(rt: &impl Print, call: &str, want: &[u8]) -> io::Result<u8> {
     let name = contents::nth(want, 0);
-    tell::text(rt, call);
-    tell::number(rt, name);
-    (name % 256) as u8
+    print!(rt; "{call} {name}")?;
+    Ok((name % 256) as u8)
 }
 
 // Compares the number and the whole store with the line.
-fn judge_store(rt: &impl Print, number: u8, store: &[u8], want: &[u8]) {
-    let right = is_nth(rt, b": number ", number as usize, want, 1);
-    let from = contents::field(want, 2);
-    let size = store.len() == want.len() - from;
-    let bytes = compare::holds(store, &want[from..]);
-    tell::verdict(rt, right && size && bytes);
-    tell::end(rt);
+fn judge(rt: &impl Print, number: u8, store: &[u8], want: &[u8]) -> io::Result<()> {
+    let right = is_nth(rt, ": number ", usize::from(number), want, 1)?;
+    let bytes = &want[contents::field(want, 2)..];
+    println!(rt; "{}", verdict(right && store == bytes))
 }
 
-pub fn save(rt: &impl Print, store: &mut [u8], tree: &[u8], want: &[u8]) {
-    let name = name_in(rt, b"save ", want);
+pub fn save(rt: &impl Print, store: &mut [u8], tree: &[u8], want: &[u8]) -> io::Result<()> {
+    let name = name_in(rt, "save", want)?;
     let number = drafts::save_draft(store, name, tree);
-    judge_store(rt, number, store, want);
+    judge(rt, number, store, want)
 }
 
-pub fn forget(rt: &impl Print, store: &mut [u8], want: &[u8]) {
-    let name = name_in(rt, b"forget ", want);
+pub fn forget(rt: &impl Print, store: &mut [u8], want: &[u8]) -> io::Result<()> {
+    let name = name_in(rt, "forget", want)?;
     let number = drafts::forget_draft(store, name);
-    judge_store(rt, number, store, want);
+    judge(rt, number, store, want)
 }
 
-// Compares the answer and the whole buffer with the line.
-fn judge_return(rt: &impl Print, r: Returned, out: &[u8], want: &[u8]) {
-    tell::text(rt, b", lent ");
-    tell::number(rt, out.len());
-    let number = is_nth(rt, b": number ", r.number as usize, want, 2);
-    let count = is_nth(rt, b", bytes ", r.count, want, 3);
-    let from = contents::field(want, 2);
-    let size = r.count == want.len() - from;
-    let bytes = compare::holds(out, &want[from..]);
-    tell::verdict(rt, number && count && size && bytes);
-    tell::end(rt);
-}
-
-// The return into a buffer of that length.
-fn return_into(rt: &impl Print, store: &[u8], want: &[u8], out: &mut [u8]) {
-    let name = name_in(rt, b"return ", want);
-    let r = drafts::return_draft(store, name, out);
-    judge_return(rt, r, out, want);
-}
-
-fn return_in(rt: &impl Print, store: &[u8], want: &[u8], out: &mut [u8]) {
+// The return into a buffer of the line's room; compares the answer and the whole buffer with the line.
+pub fn give_back(rt: &impl Print, store: &[u8], want: &[u8]) -> io::Result<()> {
     let room = contents::nth(want, 1);
-    if out.len() < room {
-        tell::too_long(rt);
-        return;
+    if MOST < room {
+        return report::too_long(rt);
     }
-    return_into(rt, store, want, &mut out[0..room]);
-}
-
-pub fn give_back(rt: &impl Print, store: &[u8], want: &[u8]) {
     let mut out = [compare::MADE_OF; MOST];
-    return_in(rt, store, want, &mut out);
+    let out = &mut out[..room];
+    let name = name_in(rt, "return", want)?;
+    let r = drafts::return_draft(store, name, out);
+    print!(rt; ", lent {room}")?;
+    let number = is_nth(rt, ": number ", usize::from(r.number), want, 2)?;
+    let count = is_nth(rt, ", bytes ", r.count, want, 3)?;
+    let bytes = &want[contents::field(want, 2)..];
+    let written = r.count == bytes.len() && compare::holds(out, bytes);
+    println!(rt; "{}", verdict(number && count && written))
 }

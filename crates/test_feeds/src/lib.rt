@@ -6,14 +6,15 @@
 
 mod slices;
 
-use test_lines::{contents, tell};
+use std::io;
+use test_lines::{contents, report};
 
 // Makes the call of a line; `want` is its contents.
-pub fn ask(rt: &impl Print, kind: u8, slice: &mut [u8], want: &[u8]) {
+pub fn ask(rt: &impl Print, kind: u8, slice: &mut [u8], want: &[u8]) -> io::Result<()> {
     match kind {
         b'c' => slices::counted(rt, slice, contents::number(want), contents::second(want)),
         b'e' => slices::each_length(rt, contents::number(want), contents::second(want)),
         b'v' => slices::values(rt, slice, contents::number(want)),
-        _ => tell::unknown(rt),
+        _ => report::unknown(rt),
     }
 }

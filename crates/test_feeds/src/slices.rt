@@ -1,109 +1,66 @@
 // One case of each kind: what `count_feeds` answers, and whether that is right.
-use test_lines::{compare, contents, tell};
+use std::io;
+use test_lines::{compare, report};
 
 // The longest slice of an `e` line.
 const LONGEST: usize = 600;
 
-// 1 for a line feed.
-fn feed(b: u8) -> usize {
-    if b == 10 { 1 } else { 0 }
-}
-
-// The line feeds of `s`, byte by byte.
-fn plain_feeds(s: &[u8]) -> usize {
-    let mut n: usize = 0;
-    let mut i: usize = 0;
-    while i < s.len() {
-        n = std::num::wrapping_add_usize(n, feed(s[i]));
-        i = i + 1;
-    }
-    n
-}
-
-// The letters since the last line feed, with one byte more.
-fn letters(before: usize, b: u8) -> usize {
-    if b == 10 {
-        return 0;
-    }
-    std::num::wrapping_add_usize(before, 1)
-}
-
-// The longest line of `s`, byte by byte.
-fn plain_longest(s: &[u8]) -> usize {
-    let mut longest: usize = 0;
-    let mut n: usize = 0;
-    let mut i: usize = 0;
-    while i < s.len() {
-        n = letters(n, s[i]);
-        longest = common::max(longest, n);
-        i = i + 1;
-    }
-    longest
-}
-
+// Whether `count_feeds` answers for `s` what counting byte by byte gives.
 fn holds(s: &[u8]) -> bool {
-    let c = text::count_feeds(s);
-    c.feeds == plain_feeds(s) && c.longest == plain_longest(s)
+    let mut feeds: usize = 0;
+    let mut longest: usize = 0;
+    let mut letters: usize = 0;
+    for b in s {
+        if *b == b'\n' {
+            feeds = feeds.saturating_add(1);
+            letters = 0;
+        } else {
+            letters = letters.saturating_add(1);
+        }
+        longest = longest.max(letters);
+    }
+    let counted = text::count_feeds(s);
+    counted.feeds == feeds && counted.longest == longest
 }
 
 // Compares a slice's line feeds and its longest line with the numbers of the line.
-pub fn counted(rt: &impl Print, s: &[u8], count: usize, longest: usize) {
+pub fn counted(rt: &impl Print, s: &[u8], count: usize, longest: usize) -> io::Result<()> {
     let c = text::count_feeds(s);
-    tell::number(rt, s.len());
-    tell::text(rt, b" bytes: ");
-    tell::number(rt, c.feeds);
-    tell::text(rt, b" feeds, longest ");
-    tell::number(rt, c.longest);
-    tell::verdict(rt, c.feeds == count && c.longest == longest);
-    tell::end(rt);
+    let verdict = report::verdict(c.feeds == count && c.longest == longest);
+    println!(rt;
+        "{} bytes: {} feeds, longest {}{verdict}",
+        s.len(),
+        c.feeds,
+        c.longest
+    )
 }
 
 // How many of the slices are right: one without a line feed, and one with it at each place.
 fn places(s: &mut [u8]) -> usize {
     compare::renew(s);
-    let mut right: usize = 0;
-    if holds(s) {
-        right = 1;
-    }
-    let mut i: usize = 0;
-    while i < s.len() {
-        s[i] = 10;
-        if holds(s) {
-            right = std::num::wrapping_add_usize(right, 1);
-        }
+    let mut right = usize::from(holds(s));
+    for i in 0..s.len() {
+        s[i] = b'\n';
+        right = right.saturating_add(usize::from(holds(s)));
         s[i] = compare::MADE_OF;
-        i = i + 1;
     }
     right
 }
 
 // All slices of the lengths `first` to `last`: of each length one more than it has bytes.
-fn lengths(rt: &impl Print, room: &mut [u8], first: usize, last: usize) {
+pub fn each_length(rt: &impl Print, first: usize, last: usize) -> io::Result<()> {
+    let mut room = [0u8; LONGEST];
     let mut all: usize = 0;
     let mut right: usize = 0;
-    let end = contents::within(last, room);
-    let mut n = contents::within(first, room);
-    while n <= end {
-        all = std::num::wrapping_add_usize(all, n + 1);
-        right = std::num::wrapping_add_usize(right, places(&mut room[0..n]));
-        n = n + 1;
+    for n in first.min(LONGEST)..=last.min(LONGEST) {
+        all = all.saturating_add(n + 1);
+        right = right.saturating_add(places(&mut room[..n]));
     }
-    told(rt, right, all);
+    told(rt, right, all)
 }
 
-// The same, in its own bytes.
-pub fn each_length(rt: &impl Print, first: usize, last: usize) {
-    let mut room = [0u8; LONGEST];
-    lengths(rt, &mut room, first, last);
-}
-
-fn told(rt: &impl Print, right: usize, all: usize) {
-    tell::number(rt, right);
-    tell::text(rt, b" of ");
-    tell::number(rt, all);
-    tell::text(rt, b" slices");
-    tell::verdict(rt, right == all);
-    tell::end(rt);
+fn told(rt: &impl Print, right: usize, all: usize) -> io::Result<()> {
+    println!(rt; "{right} of {all} slices{}", report::verdict(right == all))
 }
 
 // How many of the 256 slices with another byte at `at` are right; the byte is restored.
@@ -113,26 +70,19 @@ fn each_value(s: &mut [u8], at: usize) -> usize {
     }
     let before = s[at];
     let mut right: usize = 0;
-    let mut b: usize = 0;
-    while b < 256 {
-        s[at] = b as u8;
-        if holds(s) {
-            right = std::num::wrapping_add_usize(right, 1);
-        }
-        b = b + 1;
+    for b in 0..=u8::MAX {
+        s[at] = b;
+        right = right.saturating_add(usize::from(holds(s)));
     }
     s[at] = before;
     right
 }
 
 // Each byte value at each of the eight places from `at` on.
-pub fn values(rt: &impl Print, s: &mut [u8], at: usize) {
+pub fn values(rt: &impl Print, s: &mut [u8], at: usize) -> io::Result<()> {
     let mut right: usize = 0;
-    let mut k: usize = 0;
-    while k < 8 {
-        let r = each_value(s, std::num::wrapping_add_usize(at, k));
-        right = std::num::wrapping_add_usize(right, r);
-        k = k + 1;
+    for k in 0..8 {
+        right = right.saturating_add(each_value(s, at.wrapping_add(k)));
     }
-    told(rt, right, 2048);
+    told(rt, right, 2048)
 }

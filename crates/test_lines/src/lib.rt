@@ -4,4 +4,4 @@
 pub mod compare;
 pub mod contents;
 pub mod given;
-pub mod tell;
+pub mod report;

@@ -5,31 +5,28 @@
 
 mod marks;
 
-use test_lines::compare::is_nth;
-use test_lines::{contents, tell};
+use std::io;
+use test_lines::report::{is_nth, verdict};
+use test_lines::{contents, report};
 
 // The place of the first two numbers, and its answer, which is the other four.
-fn place(rt: &impl Print, settings: &[u8], tree: &[u8], want: &[u8]) {
+fn place(rt: &impl Print, settings: &[u8], tree: &[u8], want: &[u8]) -> io::Result<()> {
     let line = contents::nth(want, 0);
     let column = contents::nth(want, 1);
     let r = places::leaf_at(settings, tree, line, column);
-    tell::text(rt, b"place ");
-    tell::number(rt, line);
-    tell::text(rt, b" ");
-    tell::number(rt, column);
-    let number = is_nth(rt, b": number ", r.number as usize, want, 2);
-    let node = is_nth(rt, b", node ", r.node, want, 3);
-    let inside = is_nth(rt, b", line ", r.line, want, 4);
-    let across = is_nth(rt, b", column ", r.column, want, 5);
-    tell::verdict(rt, number && node && inside && across);
-    tell::end(rt);
+    print!(rt; "place {line} {column}")?;
+    let number = is_nth(rt, ": number ", usize::from(r.number), want, 2)?;
+    let node = is_nth(rt, ", node ", r.node, want, 3)?;
+    let inside = is_nth(rt, ", line ", r.line, want, 4)?;
+    let across = is_nth(rt, ", column ", r.column, want, 5)?;
+    println!(rt; "{}", verdict(number && node && inside && across))
 }
 
 // Makes the call of a line.
-pub fn ask(rt: &impl Print, kind: u8, settings: &[u8], tree: &[u8], want: &[u8]) {
+pub fn ask(rt: &impl Print, kind: u8, settings: &[u8], tree: &[u8], want: &[u8]) -> io::Result<()> {
     match kind {
         b'p' => place(rt, settings, tree, want),
         b'm' => marks::marked(rt, settings, tree, want),
-        _ => tell::unknown(rt),
+        _ => report::unknown(rt),
     }
 }

@@ -3,41 +3,29 @@
 //   a the whole output     y the whole output for a typed list
 #![tactic(auto)]
 
-use test_lines::{compare, tell};
+use std::io;
+use test_lines::{compare, report};
 
 // The longest output that is printed.
 const SHORT: usize = 200;
 
-// The n bytes of output, and past them the bytes from before.
-fn judge(rt: &impl Print, bytes: usize, n: usize, out: &[u8], want: &[u8]) {
-    tell::number(rt, bytes);
-    tell::text(rt, b" bytes of input, ");
-    tell::number(rt, n);
-    tell::text(rt, b" of output");
-    tell::verdict(rt, n == want.len() && compare::holds(out, want));
-    tell::end(rt);
-    if n <= SHORT {
-        tell::part(rt, out, n);
+// The output is as wanted, and past it are the bytes from before.
+fn judge(rt: &impl Print, input: &[u8], n: usize, out: &[u8], want: &[u8]) -> io::Result<()> {
+    let verdict = report::verdict(n == want.len() && compare::holds(out, want));
+    println!(rt; "{} bytes of input, {n} of output{verdict}", input.len())?;
+    match out.get(..n) {
+        Some(text) if n <= SHORT => report::bytes(rt, text),
+        _ => Ok(()),
     }
-}
-
-fn answered(rt: &impl Print, input: &[u8], want: &[u8]) {
-    let mut out = [compare::MADE_OF; program::ANSWER_BYTES];
-    let n = program::leg_sheet::answer(input, &mut out);
-    judge(rt, input.len(), n, &out, want);
-}
-
-fn typed(rt: &impl Print, text: &[u8], want: &[u8]) {
-    let mut out = [compare::MADE_OF; program::ANSWER_BYTES];
-    let n = program::typed_sheet::answer_typed(text, &mut out);
-    judge(rt, text.len(), n, &out, want);
 }
 
 // Makes the call of a line.
-pub fn ask(rt: &impl Print, kind: u8, input: &[u8], want: &[u8]) {
-    match kind {
-        b'a' => answered(rt, input, want),
-        b'y' => typed(rt, input, want),
-        _ => tell::unknown(rt),
-    }
+pub fn ask(rt: &impl Print, kind: u8, input: &[u8], want: &[u8]) -> io::Result<()> {
+    let mut out = [compare::MADE_OF; program::ANSWER_BYTES];
+    let n = match kind {
+        b'a' => program::leg_sheet::answer(input, &mut out),
+        b'y' => program::typed_sheet::answer_typed(input, &mut out),
+        _ => return report::unknown(rt),
+    };
+    judge(rt, input, n, &out, want)
 }

@@ -1,135 +1,90 @@
-// A leaf's record, and a node's sizes, as the test lines write them, in a lent buffer. Each call writes from `at` or `from` on, and answers where the next byte
-// goes.
+// A leaf's record, and a node's sizes, as the test lines write them.
 #![tactic(auto)]
 
 use block::Flags;
 use collector::SizeRecord;
 use leaf::LeafRecord;
-use sizes::Size;
 use splits::SplitList;
-use splits::cut::CutPair;
-use test_lines::contents::{byte, bytes};
-
-// A number's digits, from the first.
-fn decimal(rt: &impl Print, out: &mut [u8], from: usize, n: usize) -> usize {
-    let mut place: usize = 1;
-    while place <= n / 10 {
-        place = place * 10;
-    }
-    let mut at = from;
-    while 0 < place {
-        at = byte(rt, out, at, b'0' + (n / place % 10) as u8);
-        place = place / 10;
-    }
-    at
-}
-
-// Whether the entries past the count are 0.
-fn rest_is_zero(list: SplitList) -> bool {
-    let pieces = list.pieces;
-    let mut i: usize = 0;
-    while i < 512 {
-        if list.count <= i {
-            if pieces[i] != 0 {
-                return false;
-            }
-        }
-        i = i + 1;
-    }
-    true
-}
+use std::alloc::{AllocError, Global};
+use std::fmt;
 
 // A list; one with too many pieces, or with entries past them, is left out.
-fn list(rt: &impl Print, out: &mut [u8], from: usize, list: SplitList) -> usize {
-    let pieces = list.pieces;
-    let n = list.count;
-    if 512 < n {
-        return from;
+#[derive(Clone, Copy)]
+struct Pieces<'a>(&'a SplitList);
+
+impl Pieces<'_> {
+    // The pieces, where the entries past them are 0.
+    fn pieces(&self) -> Option<&[u16]> {
+        let n = self.0.count;
+        if 512 < n {
+            return None;
+        }
+        let (pieces, rest) = self.0.pieces.split_at(n);
+        if rest.iter().all(|piece| *piece == 0) {
+            Some(pieces)
+        } else {
+            None
+        }
     }
-    if !rest_is_zero(list) {
-        return from;
+}
+
+impl fmt::Display for Pieces<'_> {
+    fn fmt<W: fmt::Write>(&self, f: &mut fmt::Formatter<W>) -> fmt::Result {
+        match self.pieces() {
+            None => Ok(()),
+            Some([]) => f.write_str(" none"),
+            Some(pieces) => {
+                for piece in pieces {
+                    write!(f, " {piece}")?;
+                }
+                Ok(())
+            }
+        }
     }
-    if n == 0 {
-        return bytes(rt, out, from, b" none");
+}
+
+// Eight letters, in the order of the fields.
+#[derive(Clone, Copy)]
+struct Letters(Flags);
+
+impl fmt::Display for Letters {
+    fn fmt<W: fmt::Write>(&self, f: &mut fmt::Formatter<W>) -> fmt::Result {
+        let flags = self.0;
+        let letters = [
+            flags.first_row,
+            flags.last_row,
+            flags.first_col,
+            flags.last_col,
+            flags.no_right,
+            flags.lean_top,
+            flags.top_left,
+            flags.top_intersection,
+        ];
+        for yes in &letters {
+            f.write_str(if *yes { "y" } else { "n" })?;
+        }
+        Ok(())
     }
-    let mut at = from;
-    let mut i: usize = 0;
-    while i < n {
-        at = byte(rt, out, at, 32);
-        at = decimal(rt, out, at, common::wide16(pieces[i]));
-        i = i + 1;
-    }
-    at
-}
-
-fn letter(yes: bool) -> u8 {
-    if yes { b'y' } else { b'n' }
-}
-
-// Eight letters, in the order of the fields of `Flags`.
-fn letters(f: Flags) -> [u8; 8] {
-    [
-        letter(f.first_row),
-        letter(f.last_row),
-        letter(f.first_col),
-        letter(f.last_col),
-        letter(f.no_right),
-        letter(f.lean_top),
-        letter(f.top_left),
-        letter(f.top_intersection),
-    ]
-}
-
-fn size(rt: &impl Print, out: &mut [u8], from: usize, s: Size) -> usize {
-    let mut at = decimal(rt, out, from, s.width);
-    at = bytes(rt, out, at, b" by ");
-    decimal(rt, out, at, s.height)
-}
-
-fn lists(
-    rt: &impl Print,
-    out: &mut [u8],
-    from: usize,
-    across: SplitList,
-    down: SplitList,
-) -> usize {
-    let mut at = bytes(rt, out, from, b", across");
-    at = list(rt, out, at, across);
-    at = bytes(rt, out, at, b", down");
-    list(rt, out, at, down)
-}
-
-fn pair(rt: &impl Print, out: &mut [u8], from: usize, p: CutPair) -> usize {
-    let mut at = bytes(rt, out, from, b", pair ");
-    at = decimal(rt, out, at, p.taken);
-    at = byte(rt, out, at, 32);
-    decimal(rt, out, at, common::wide16(p.rest))
 }
 
 // A leaf's record: its size, the two lists, the flags, the pair of its cut.
-pub fn record(rt: &impl Print, out: &mut [u8], r: LeafRecord) -> usize {
-    let allotted = r.size;
-    let across = r.horizontal;
-    let down = r.vertical;
-    let f = r.flags;
-    let mut at = size(rt, out, 0, allotted);
-    at = lists(rt, out, at, across, down);
-    at = bytes(rt, out, at, b", ");
-    at = bytes(rt, out, at, &letters(f));
-    pair(rt, out, at, r.pair)
-}
-
-fn extent(rt: &impl Print, out: &mut [u8], from: usize, width: u16, height: u16) -> usize {
-    let mut at = decimal(rt, out, from, common::wide16(width));
-    at = bytes(rt, out, at, b" by ");
-    decimal(rt, out, at, common::wide16(height))
+pub fn record(alloc: Global, r: &LeafRecord) -> Result<String, AllocError> {
+    format!(in alloc;
+        "{} by {}, across{}, down{}, {}, pair {} {}",
+        r.size.width,
+        r.size.height,
+        Pieces(&r.horizontal),
+        Pieces(&r.vertical),
+        Letters(r.flags),
+        r.pair.taken,
+        r.pair.rest
+    )
 }
 
 // A node's sizes, the natural one and the allotted one, and the number of nodes below it.
-pub fn measured(rt: &impl Print, out: &mut [u8], z: SizeRecord) -> usize {
-    let mut at = extent(rt, out, 0, z.natural_width, z.natural_height);
-    at = bytes(rt, out, at, b", ");
-    at = extent(rt, out, at, z.width, z.height);
-    at = bytes(rt, out, at, b", below ");
-    decimal(rt, out, at, common::wide16(z.below))
+pub fn measured(alloc: Global, z: SizeRecord) -> Result<String, AllocError> {
+    format!(in alloc;
+        "{} by {}, {} by {}, below {}",
+        z.natural_width, z.natural_height, z.width, z.height, z.below
+    )
 }

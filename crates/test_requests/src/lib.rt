@@ -6,14 +6,15 @@ mod folds;
 mod nearest;
 mod plans;
 
-use test_lines::tell;
+use std::io;
+use test_lines::report;
 
 // Makes the call of a line and compares the answer.
-pub fn ask(rt: &impl Print, kind: u8, settings: &[u8], tree: &[u8], want: &[u8]) {
+pub fn ask(rt: &impl Print, kind: u8, settings: &[u8], tree: &[u8], want: &[u8]) -> io::Result<()> {
     match kind {
         b'c' => folds::fold(rt, settings, tree, want),
         b'e' => plans::plan(rt, settings, tree, want),
         b'n' => nearest::seek(rt, settings, tree, want),
-        _ => tell::unknown(rt),
+        _ => report::unknown(rt),
     }
 }

@@ -6,16 +6,18 @@
 #![tactic(auto)]
 
 mod lists;
+mod runs;
 mod shares;
 
-use test_lines::{contents, tell};
+use std::io;
+use test_lines::{contents, report};
 
 // Makes the call of a line; `want` is its contents.
-pub fn ask(rt: &impl Print, kind: u8, settings: &[u8], tree: &[u8], want: &[u8]) {
+pub fn ask(rt: &impl Print, kind: u8, settings: &[u8], tree: &[u8], want: &[u8]) -> io::Result<()> {
     match kind {
         b'l' => lists::lend(rt, settings, tree, contents::number(want)),
         b's' => shares::among(rt, settings, contents::number(want), contents::second(want)),
-        b'-' => {}
-        _ => tell::unknown(rt),
+        b'-' => Ok(()),
+        _ => report::unknown(rt),
     }
 }

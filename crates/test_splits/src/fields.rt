@@ -5,19 +5,16 @@ use test_lines::contents;
 
 // The list in field `k`.
 pub fn list(s: &[u8], k: usize) -> SplitList {
-    let from = contents::field(s, k);
-    let end = from + contents::find(&s[from..], b',');
-    lists::list(&s[from..end])
+    let rest = &s[contents::field(s, k)..];
+    lists::list(&rest[..contents::find(rest, b',')])
 }
 
 // The number after the word of field `k`; 0 where there is none.
 pub fn number(s: &[u8], k: usize) -> usize {
-    let from = contents::field(s, k);
-    contents::second(&s[from..])
+    contents::second(&s[contents::field(s, k)..])
 }
 
 // Whether field `k` says yes.
 pub fn yes(s: &[u8], k: usize) -> bool {
-    let from = contents::field(s, k);
-    from < s.len() && s[from] == b'y'
+    s.get(contents::field(s, k)) == Some(&b'y')
 }

@@ -9,24 +9,20 @@ mod cases;
 mod fields;
 mod lists;
 
-use test_lines::tell;
-
-// The name of a case's call.
-fn name(rt: &impl Print, kind: u8) {
-    match kind {
-        b'c' => tell::text(rt, b"cut "),
-        b'v' => tell::text(rt, b"value "),
-        b'l' => tell::text(rt, b"lent "),
-        b's' => tell::text(rt, b"short "),
-        b'j' => tell::text(rt, b"join "),
-        _ => tell::text(rt, b"unknown kind of line: "),
-    }
-}
+use std::io;
+use test_lines::report;
 
 // Makes the call of a line.
-pub fn ask(rt: &impl Print, kind: u8, case: &[u8]) {
-    name(rt, kind);
-    tell::text(rt, case);
-    tell::verdict(rt, cases::holds(kind, case));
-    tell::end(rt);
+pub fn ask(rt: &impl Print, kind: u8, case: &[u8]) -> io::Result<()> {
+    let name = match kind {
+        b'c' => "cut ",
+        b'v' => "value ",
+        b'l' => "lent ",
+        b's' => "short ",
+        b'j' => "join ",
+        _ => "unknown kind of line: ",
+    };
+    print!(rt; "{name}")?;
+    report::bytes(rt, case)?;
+    println!(rt; "{}", report::verdict(cases::holds(kind, case)))
 }

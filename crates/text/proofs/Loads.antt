@@ -1,54 +1,35 @@
 -- Words of bytes, and the line feeds marked in them.
-use Rattle.std.proofs.Common.{◌≡◌, ℕ, zero, suc, ◌+◌, ◌*◌, ◌/◌, ◌%◌, ◌<◌, ◌≤◌, Bool, true, false, List, [], ◌∷◌, ◌++◌, map, length, get_or, take, drop, sym}
-use Rattle.std.proofs.Common.{refl, ◌∙◌, add-suc, add-one, arith, length-drop, length-take-le, drop-cons, drop-drop, take-add}
+use Rattle.std.proofs.Common.{◌≡◌, ℕ, zero, suc, ◌+◌, ◌*◌, ◌/◌, ◌%◌, ◌<◌, ◌≤◌, Bool, true, false, List, [], ◌∷◌, map, length, get_or, take, drop, sym}
+use Rattle.std.proofs.Common.{refl, ◌∙◌, arith, length-drop, length-take-le}
+use lib.Seq.{get_or-drop}
+use Rattle.std.specs.Int.{w64, from_le_bytes}
 use Rattle.common.specs.Choice.{pick}
 use Rattle.text.specs.Feeds.{is_feed, feed_count}
 use Rattle.text.specs.Clauses.{word, Loaded, marked, flags}
 
 -- ---- a word from its bytes
 
-on : (s : List ℕ) (at k : ℕ) → at + k < length s → drop (at + k) s ≡ get_or s (at + k) 0 ∷ drop (at + suc k) s
-on s at k h = rw (add-suc at k) (drop-cons s (at + k) 0 h)
+small_front : (n : ℕ) (s : List ℕ) → ((k : ℕ) → get_or s k 0 < 256) → (k : ℕ) → get_or (take n s) k 0 < 256
+small_front zero s h k = omega arith
+small_front (suc n) [] h k = omega arith
+small_front (suc n) (b ∷ t) h zero = h 0
+small_front (suc n) (b ∷ t) h (suc k) = small_front n t (λ j. h (suc j)) k
 
-four : (s : List ℕ) (at : ℕ) → at + 4 ≤ length s → take 4 (drop at s) ≡ get_or s at 0 ∷ get_or s (at + 1) 0 ∷ get_or s (at + 2) 0 ∷ get_or s (at + 3) 0 ∷ []
-four s at h =
-    let e₀ : drop at s ≡ get_or s at 0 ∷ drop (at + 1) s = rw (add-one at) (drop-cons s at 0 (omega arith)) in
-    rw (e₀, on s at 1 (omega arith), on s at 2 (omega arith), on s at 3 (omega arith))
+pub small_part : (n at : ℕ) (s : List ℕ) → ((k : ℕ) → get_or s k 0 < 256) → (k : ℕ) → get_or (take n (drop at s)) k 0 < 256
+small_part n at s h = small_front n (drop at s) (λ k. rw (get_or-drop at s k 0) (h (at + k)))
 
-pub load_four : (s : List ℕ) (at r : ℕ) → at + 4 ≤ length s → get_or s at 0 ≤ 255 → get_or s (at + 1) 0 ≤ 255 → get_or s (at + 2) 0 ≤ 255
-    → get_or s (at + 3) 0 ≤ 255
-    → r ≡ get_or s at 0 + get_or s (at + 1) 0 * 256 + get_or s (at + 2) 0 * 65536 + get_or s (at + 3) 0 * 16777216 → Loaded (take 4 (drop at s)) r
+pub eight_loaded : (bs : List ℕ) (r : ℕ) → length bs ≡ 8 → ((k : ℕ) → get_or bs k 0 < 256) → r ≡ from_le_bytes w64 bs → Loaded bs r
 unfolding word
-load_four s at r h b₀ b₁ b₂ b₃ e = rw (four s at h) (record { is = omega arith; small = small })
-  where
-    small : (k : ℕ) → get_or (get_or s at 0 ∷ get_or s (at + 1) 0 ∷ get_or s (at + 2) 0 ∷ get_or s (at + 3) 0 ∷ []) k 0 < 256
-    small zero = omega arith
-    small (suc zero) = omega arith
-    small (suc (suc zero)) = omega arith
-    small (suc (suc (suc zero))) = omega arith
-    small (suc (suc (suc (suc k)))) = omega arith
-
-join_four : (a b : List ℕ) (x y : ℕ) → length a ≡ 4 → Loaded a x → Loaded b y → Loaded (a ++ b) (x + y * 4294967296)
-unfolding word
-join_four (b₀ ∷ b₁ ∷ b₂ ∷ b₃ ∷ []) b x y h p q = record { is = omega (arith, p.is, q.is); small = small }
-  where
-    small : (k : ℕ) → get_or (b₀ ∷ b₁ ∷ b₂ ∷ b₃ ∷ b) k 0 < 256
-    small zero = p.small 0
-    small (suc zero) = p.small 1
-    small (suc (suc zero)) = p.small 2
-    small (suc (suc (suc zero))) = p.small 3
-    small (suc (suc (suc (suc k)))) = q.small k
-join_four [] b x y h p q = absurd (omega arith)
-join_four (b₀ ∷ []) b x y h p q = absurd (omega arith)
-join_four (b₀ ∷ b₁ ∷ []) b x y h p q = absurd (omega arith)
-join_four (b₀ ∷ b₁ ∷ b₂ ∷ []) b x y h p q = absurd (omega arith)
-join_four (b₀ ∷ b₁ ∷ b₂ ∷ b₃ ∷ b₄ ∷ a) b x y h p q = absurd (omega arith)
-
-pub load_eight : (s : List ℕ) (at x y r : ℕ) → at + 8 ≤ length s → Loaded (take 4 (drop at s)) x → Loaded (take 4 (drop (at + 4) s)) y → r ≡ x + y * 4294967296
-    → Loaded (take 8 (drop at s)) r
-load_eight s at x y r h p q e =
-    let t : take 8 (drop at s) ≡ take 4 (drop at s) ++ take 4 (drop (at + 4) s) = take-add 4 4 (drop at s) ∙ rw drop-drop in
-    rw (t, e) (join_four (take 4 (drop at s)) (take 4 (drop (at + 4) s)) x y (length-take-le 4 (drop at s) (rw length-drop (omega arith))) p q)
+eight_loaded (b₀ ∷ b₁ ∷ b₂ ∷ b₃ ∷ b₄ ∷ b₅ ∷ b₆ ∷ b₇ ∷ []) r h small e = record { is = omega arith; small = small }
+eight_loaded [] r h small e = absurd (omega arith)
+eight_loaded (b₀ ∷ []) r h small e = absurd (omega arith)
+eight_loaded (b₀ ∷ b₁ ∷ []) r h small e = absurd (omega arith)
+eight_loaded (b₀ ∷ b₁ ∷ b₂ ∷ []) r h small e = absurd (omega arith)
+eight_loaded (b₀ ∷ b₁ ∷ b₂ ∷ b₃ ∷ []) r h small e = absurd (omega arith)
+eight_loaded (b₀ ∷ b₁ ∷ b₂ ∷ b₃ ∷ b₄ ∷ []) r h small e = absurd (omega arith)
+eight_loaded (b₀ ∷ b₁ ∷ b₂ ∷ b₃ ∷ b₄ ∷ b₅ ∷ []) r h small e = absurd (omega arith)
+eight_loaded (b₀ ∷ b₁ ∷ b₂ ∷ b₃ ∷ b₄ ∷ b₅ ∷ b₆ ∷ []) r h small e = absurd (omega arith)
+eight_loaded (b₀ ∷ b₁ ∷ b₂ ∷ b₃ ∷ b₄ ∷ b₅ ∷ b₆ ∷ b₇ ∷ b₈ ∷ bs) r h small e = absurd (omega arith)
 
 -- ---- the line feeds of a word
 

@@ -27,9 +27,5 @@ pub fn text_size(text: &[u8]) -> TextSize
 pub fn is_short(text: &[u8]) -> bool
     ensures { result ≡ true → text_size text.now ≡ record { width = length text.now; height = 1 } }
 {
-    let n = text.len();
-    if 8 <= n {
-        return false;
-    }
-    next_feed_bytewise(text, 0) == n
+    text.len() < 8 && next_feed_bytewise(text, 0) == text.len()
 }

@@ -3,31 +3,12 @@ ghost use Rattle.std.specs.Prelude.{◌≡◌, ◌+◌, ◌≤◌, map, length, 
 ghost use Rattle.text.specs.Feeds.{is_feed, feed_count};
 ghost use Rattle.text.specs.Clauses.{Loaded, marked, flags};
 
-fn wide(x: u8) -> u64
-    ensures value { result ≡ x }
-    ensures byte { result ≤ 255 }
-{
-    x as u64
-}
-
-// The four bytes from `at` on as one number, the first byte lowest.
-fn load_half(s: &[u8], at: usize) -> u64
-    requires { at + 4 ≤ length s.now }
-    ensures loaded { Loaded (take 4 (drop at s.now)) result }
-    ensures small { result ≤ 4294967295 }
-{
-    wide(s[at])
-        + wide(s[at + 1]) * 0x100
-        + wide(s[at + 2]) * 0x1_0000
-        + wide(s[at + 3]) * 0x100_0000
-}
-
-// The eight bytes from `at` on as one word.
+// The eight bytes from `at` on as one word, the first byte lowest.
 fn load(s: &[u8], at: usize) -> u64
     requires { at + 8 ≤ length s.now }
     ensures { Loaded (take 8 (drop at s.now)) result }
 {
-    load_half(s, at) + load_half(s, at + 4) * 0x1_0000_0000
+    u64::from_le_bytes(s[at..at + 8].try_into().unwrap())
 }
 
 // Hex 80 in each byte of the answer whose byte in `x` is a line feed, else 0. A byte of `y` is 0 where that of `x` is a line feed; where it
@@ -54,5 +35,5 @@ pub fn hint_at(s: &[u8], at: usize) -> u64
     requires { at + 8 ≤ length s.now }
     ensures { result ≡ 0 → feed_count (take 8 (drop at s.now)) ≡ 0 }
 {
-    std::num::wrapping_sub_u64(load(s, at), 0x0b0b_0b0b_0b0b_0b0b) & 0x8080_8080_8080_8080
+    load(s, at).wrapping_sub(0x0b0b_0b0b_0b0b_0b0b) & 0x8080_8080_8080_8080
 }

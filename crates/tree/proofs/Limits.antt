@@ -14,8 +14,7 @@ use Rattle.tree.specs.Promises.{contents, PlanEncodes, PlanEncodesAll}
 use Rattle.tree.specs.Reading.{is_text}
 use Rattle.tree.specs.Planning.{Plan, Plans, header_in, odd_range, last_tag, is_range, PlanOne, PlanAll, cell_in, range_in, group_in, more_in, element_in}
 use Rattle.tree.specs.Planning.{sequence_in, whole_in}
-use Rattle.tree.specs.declared.Header.{Header}
-use Rattle.tree.specs.declared.Header.TheVariants.{Fault, Element}
+use Rattle.tree.specs.Bytes.{Header, Fault, Element}
 use Rattle.tree.proofs.Fronts.{contents_length, tag_low, tag_high, axis_of_lem}
 use Rattle.tree.proofs.PlanSound.{plan_whole}
 

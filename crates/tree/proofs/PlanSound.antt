@@ -17,15 +17,14 @@ use Rattle.tree.specs.Planning.{Plan, Plans, header_in, odd_range, last_tag, is_
 use Rattle.tree.specs.Planning.{cell_in, range_in}
 use Rattle.tree.specs.Promises.{plan_nodes, plan_nodes*, plan_depth, plan_depth*, PlanEncodes, PlanEncodesAll, GoodRange, Allowed, Allowed*, GotPlan}
 use Rattle.tree.specs.Promises.{PlanRefusal}
-use Rattle.tree.specs.declared.Header.{Header}
-use Rattle.tree.specs.declared.Header.TheVariants.{Fault, Element}
+use Rattle.tree.specs.Bytes.{Header, Fault, Element}
 
 pub refusal_low : (planning : Bool) (k : ℕ) → PlanRefusal planning k → 2 ≤ k
 refusal_low planning k (inl h) = h.0
 refusal_low planning k (inr h) = omega (arith, h.1)
 
 -- what is shown of both answers of a test is shown of the one that it picks
-picked : {A : Type 0} (Q : A → Type 0) (b : Bool) {x y : A} → (b ≡ true → Q x) → (b ≡ false → Q y) → Q (pick b x y)
+pub picked : {A : Type 0} (Q : A → Type 0) (b : Bool) {x y : A} → (b ≡ true → Q x) → (b ≡ false → Q y) → Q (pick b x y)
 picked Q true p q = p refl
 picked Q false p q = q refl
 

@@ -12,18 +12,14 @@ use Rattle.tree.specs.Tree as tree
 use Rattle.tree.specs.Bytes.{length_at}
 use Rattle.tree.specs.Reading.{is_text, header_of, ReadOne, ReadAll, read_element, read_sequence, read_tree, cell_read, group_read, more_read, tree_answer}
 use Rattle.tree.specs.Planning.{Plan, header_in, odd_range, PlanOne, PlanAll, cell_in, range_in, group_in, more_in, element_in, sequence_in, whole_in}
-use Rattle.tree.specs.Clauses.{whole_answer, plan_answer}
-use Rattle.tree.specs.declared.Header.{Header}
-use Rattle.tree.specs.declared.Header.TheVariants.{Fault, Element}
+use Rattle.tree.specs.Clauses.{plan_answer}
+use Rattle.tree.specs.Bytes.{Header, Fault, Element}
 use Rattle.tree.specs.Promises.{tree_of, tree_read, trees_of}
+use Rattle.tree.proofs.PlanSound.{picked}
 
 abbrev pub trees_read : PlanAll → ReadAll
 trees_read (PlanAll.refused k) = ReadAll.refused k
 trees_read (PlanAll.all ps n) = ReadAll.all (trees_of ps) n
-
-picked : {A : Type 0} (P : A → Type 0) (b : Bool) {x y : A} → (b ≡ true → P x) → (b ≡ false → P y) → P (pick b x y)
-picked P true p q = p refl
-picked P false p q = q refl
 
 -- ---- the front
 
@@ -176,5 +172,5 @@ pub read_same : (s : List ℕ) → tree_read (whole_in false s) ≡ read_tree s
 unfolding whole_in read_tree
 read_same s = whole_case s (ltb 32768 (length s)) (eqb (3 + length_at s) (length s))
 
-pub whole_same : (s : List ℕ) → whole_answer false s ≡ tree_answer (read_tree s)
+pub whole_same : (s : List ℕ) → plan_answer (whole_in false s) ≡ tree_answer (read_tree s)
 whole_same s = answer_same (whole_in false s) ∙ ap tree_answer (read_same s)

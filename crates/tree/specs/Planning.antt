@@ -2,10 +2,8 @@
 use Rattle.std.specs.Prelude.{ℕ, zero, suc, ◌+◌, List, [], ◌∷◌, Bool, true, false, not, length, get_or, take, drop, ltb, leb, eqb}
 use Rattle.common.specs.Choice.{pick, both}
 use Rattle.tree.specs.Tree.{Axis}
-use Rattle.tree.specs.Bytes.{length_at, axis_of}
+use Rattle.tree.specs.Bytes.{length_at, axis_of, Header, Fault, Element}
 use Rattle.tree.specs.Reading.{is_text}
-use Rattle.tree.specs.declared.Header.{Header}
-use Rattle.tree.specs.declared.Header.TheVariants.{Fault, Element}
 
 -- a Cell, a range (least and greatest text width, least and greatest line count), or a group along an axis
 mutual

@@ -1,32 +1,37 @@
 -- What `read_typed` answers.
 use mathlib.Core.Path.{◌≡◌, refl, sym, ap, ◌∙◌}
-use Prim.Native.Nat.{ℕ, ◌≤◌, ◌<◌}
+use Prim.Native.Nat.{ℕ, zero, suc, ◌+◌, ◌-◌, ◌≤◌, ◌<◌}
 use native.Mathlib.Omega.{arith}
 use native.Mathlib.Nat.{zero-add}
 use mathlib.Core.Bool.{Bool, true, false}
 use mathlib.Core.List.{List, ◌++◌}
-use lib.ListN.{length, drop}
-use lib.Seq.{sets, sets-eq}
+use lib.ListN.{length, take, drop}
+use lib.Seq.{sets, sets-eq, length-take-le}
 use lib.Dec.{ltb}
 use borrow.Author.Tests.{lt-ltb, le-ltb}
+use Rattle.std.proofs.lemmas.List.{get_or-take}
+use Rattle.std.specs.Prelude.{Ok, Err}
 use Rattle.common.specs.Choice.{pick}
+use Rattle.common.specs.Refusals.{number_of, refusal_of}
 use Rattle.common.specs.Outcome.{Outcome}
 use Rattle.tree.specs.Accepted.{bytes_of}
 use Rattle.typed.specs.Scan.{TypedNode, TypedScan, stopped, found, none_yet, scan_lines}
-use Rattle.typed.specs.Clauses.{NodesFound, ScanTold, flat_of, ReadyNodes}
+use Rattle.typed.specs.Clauses.{SpotsHeld, no_spot, NodesFound, list_fault, ScanTold, answer_of, flat_of, ReadyNodes}
 use Rattle.typed.specs.Typed.{root_of, typed_refusal, typed_accepted, outcome_of, typed_of}
 use Rattle.typed.specs.declared.Typed.{Typed}
-use Rattle.typed.specs.declared.scan.Scanned.{Scanned}
+use Rattle.typed.specs.declared.ListFault.{ListFault}
+use Rattle.typed.specs.declared.line.NodeSpot.{NodeSpot}
+use Rattle.typed.specs.declared.scan.ScanState.{ScanState}
+use Rattle.typed.proofs.Faults.{fault_at}
 use Rattle.typed.proofs.Built.{flat_is, flat_of_length}
 use Rattle.typed.proofs.Listing.{Following, following_of, rooted}
 
 abbrev outcome_with : Typed → List ℕ → Outcome Typed (List ℕ)
 outcome_with a o = record { answer = a; memory = o }
 
-pub typed_long : (t o : List ℕ) (a : Typed) → 131072 < length t → a ≡ record { number = 30; count = 0; line = 0; column = 0 }
-    → record { answer = a; memory = o } ≡ typed_of t o
+pub typed_long : (t o : List ℕ) → 131072 < length t → outcome_with (record { number = 30; count = 0; line = 0; column = 0 }) o ≡ typed_of t o
 unfolding typed_of
-typed_long t o a h e = rw (lt-ltb _ _ h) (ap (λ (y : Typed). outcome_with y o) e)
+typed_long t o h = rw (lt-ltb _ _ h)
 
 pub typed_scan : (t o : List ℕ) → length t ≤ 131072 → typed_of t o ≡ outcome_of (scan_lines t) o
 unfolding typed_of
@@ -51,67 +56,89 @@ typed_cases t o P long stop short done = whole (ltb 131072 (length t))
     whole true = long
     whole false = scanned (scan_lines t) refl
 
+-- a typed list's fault and its refusal tell each other
+number_kept : (k : ℕ) → 31 ≤ k → k ≤ 39 → number_of (refusal_of k) ≡ k
+unfolding refusal_of
+number_kept k h m =
+    let e : k ≡ 31 + (k - 31) = omega arith in
+    rw e (go (k - 31) (omega arith))
+  where
+    go : (j : ℕ) → j ≤ 8 → number_of (refusal_of (31 + j)) ≡ 31 + j
+    go zero h = refl
+    go (suc zero) h = refl
+    go (suc (suc zero)) h = refl
+    go (suc (suc (suc zero))) h = refl
+    go (suc (suc (suc (suc zero)))) h = refl
+    go (suc (suc (suc (suc (suc zero))))) h = refl
+    go (suc (suc (suc (suc (suc (suc zero)))))) h = refl
+    go (suc (suc (suc (suc (suc (suc (suc zero))))))) h = refl
+    go (suc (suc (suc (suc (suc (suc (suc (suc zero)))))))) h = refl
+    go (suc (suc (suc (suc (suc (suc (suc (suc (suc j))))))))) h = absurd (omega arith)
+
 -- the nodes that were found
-pub record GotNodes (t : List ℕ) (r : Scanned) : Type 0 where
+pub record GotNodes (t : List ℕ) (spots : List NodeSpot) (z : ScanState) : Type 0 where
   pub of : List TypedNode
   pub is : scan_lines t ≡ found of
-  pub found_is : NodesFound t of r
+  pub found_is : NodesFound t of spots z
 
-module _ (t o : List ℕ) (small : length t ≤ 131072) (r : Scanned) (told : ScanTold t (scan_lines t) r) where
-  pub typed_stop : (r.number ≡ 0 → ⊥) → (a : Typed) → a ≡ record { number = r.number; count = 0; line = r.line; column = r.column }
-      → record { answer = a; memory = o } ≡ typed_of t o
-  typed_stop bad a e = ap (λ (y : Typed). outcome_with y o) e ∙ go (scan_lines t) told ∙ sym (typed_scan t o small)
+module _ (t o : List ℕ) (small : length t ≤ 131072) (spots : List NodeSpot) where
+  pub typed_stop : (f : ListFault) → ScanTold t (scan_lines t) spots (Err f) → outcome_with (answer_of (Err f)) o ≡ typed_of t o
+  typed_stop f told = go (scan_lines t) refl told ∙ sym (typed_scan t o small)
     where
-      go : (s : TypedScan) → ScanTold t s r → outcome_with (record { number = r.number; count = 0; line = r.line; column = r.column }) o ≡ outcome_of s o
-      go (stopped k l c) q = rw (q.1, q.2, q.3)
-      go (found ns) q = absurd (bad q.number_is)
+      go : (s : TypedScan) → scan_lines t ≡ s → ScanTold t s spots (Err f) → outcome_with (answer_of (Err f)) o ≡ outcome_of s o
+      go (stopped k l c) e q =
+          let z : f ≡ list_fault k l c = cc in
+          let a = fault_at t k l c e in
+          rw (z, number_kept k a.number_low a.number_high) refl
+      go (found ns) e q = absurd q
 
-  pub got_nodes : r.number ≡ 0 → GotNodes t r
-  got_nodes good = go (scan_lines t) refl told
-    where
-      go : (s : TypedScan) → scan_lines t ≡ s → ScanTold t s r → GotNodes t r
-      go (stopped k l c) e q = absurd (omega (arith, q.0, q.1))
-      go (found ns) e q = record { of = ns; is = e; found_is = q }
+  module _ (z : ScanState) where
+    pub got_nodes : ScanTold t (scan_lines t) spots (Ok z) → GotNodes t spots z
+    got_nodes told = go (scan_lines t) refl told
+      where
+        go : (s : TypedScan) → scan_lines t ≡ s → ScanTold t s spots (Ok z) → GotNodes t spots z
+        go (stopped k l c) e q = cc
+        go (found ns) e q = record { of = ns; is = e; found_is = q }
 
-  module _ (g : GotNodes t r) where
-    nodes_follow : Following none_yet g.of
-    nodes_follow = following_of t g.of g.is
+    module _ (g : GotNodes t spots z) where
+      nodes_follow : Following none_yet g.of
+      nodes_follow = following_of t g.of g.is
 
-    root_bytes : flat_of g.of ≡ bytes_of (root_of g.of)
-    root_bytes = flat_is g.of (rooted g.of nodes_follow) nodes_follow.chained
+      root_bytes : flat_of g.of ≡ bytes_of (root_of g.of)
+      root_bytes = flat_is g.of (rooted g.of nodes_follow) nodes_follow.chained
 
-    root_long : length (bytes_of (root_of g.of)) ≡ r.total
-    root_long = ap length (sym root_bytes) ∙ flat_of_length g.of ∙ sym g.found_is.total_is
+      root_long : length (bytes_of (root_of g.of)) ≡ z.total
+      root_long = ap length (sym root_bytes) ∙ flat_of_length g.of ∙ sym g.found_is.total_is
 
-    pub typed_short : length o < r.total → (a : Typed) → a ≡ record { number = 8; count = 0; line = 0; column = 0 }
-        → record { answer = a; memory = o } ≡ typed_of t o
-    typed_short h a e =
-        ap (λ (y : Typed). outcome_with y o) e
-        ∙ sym (typed_scan t o small ∙ ap (λ (s : TypedScan). outcome_of s o) g.is
-        ∙ (rw (lt-ltb (length o) (length (bytes_of (root_of g.of))) (omega (arith, root_long)))))
+      pub few_nodes : z.count ≤ 512
+      few_nodes = omega (arith, g.found_is.count_is, nodes_follow.few)
 
-    pub nodes_ready : (room : ℕ) → r.total ≤ room → ReadyNodes t r.spots r.count r.total room g.of
-    nodes_ready room h = record {
-      count_is = g.found_is.count_is;
-      few = omega (arith, g.found_is.count_is, nodes_follow.few);
-      total_is = g.found_is.total_is;
-      small = omega (arith, g.found_is.total_is, nodes_follow.short);
-      fits = h;
-      chained = nodes_follow.chained;
-      held = g.found_is.held;
-    }
+      pub typed_short : length o < z.total → outcome_with (record { number = 8; count = 0; line = 0; column = 0 }) o ≡ typed_of t o
+      typed_short h =
+          sym (typed_scan t o small ∙ ap (λ (s : TypedScan). outcome_of s o) g.is
+          ∙ (rw (lt-ltb (length o) (length (bytes_of (root_of g.of))) (omega (arith, root_long)))))
 
-    pub typed_done : r.total ≤ length o → (o' : List ℕ) → o' ≡ sets o 0 (flat_of g.of) → record {
-      answer =
-          record { number = 0; count = r.total; line = 0; column = 0 };
-      memory = o';
-    } ≡ typed_of t o
-    typed_done h o' e =
-        let b : List ℕ = bytes_of (root_of g.of) in
-        let n : length (flat_of g.of) ≡ r.total = flat_of_length g.of ∙ sym g.found_is.total_is in
-        let w : o' ≡ b ++ drop (length b) o =
-        e ∙ sets-eq (flat_of g.of) o 0 (omega arith) ∙ (rw (zero-add (length (flat_of g.of)), root_bytes)) in
-        ap (λ (m : ℕ). outcome_with (record { number = 0; count = m; line = 0; column = 0 }) o') (sym root_long)
-        ∙ ap (outcome_with (record { number = 0; count = length b; line = 0; column = 0 })) w
-        ∙ sym (typed_scan t o small ∙ ap (λ (s : TypedScan). outcome_of s o) g.is
-        ∙ (rw (le-ltb (length o) (length (bytes_of (root_of g.of))) (omega (arith, root_long)))))
+      held_take : SpotsHeld t g.of (take z.count spots)
+      held_take i h = rw (get_or-take z.count spots i no_spot (omega (arith, g.found_is.count_is))) (g.found_is.held i h)
+
+      pub nodes_ready : length spots ≡ 512 → (room : ℕ) → z.total ≤ room → ReadyNodes t (take z.count spots) z.total room g.of
+      nodes_ready e room h = record {
+        count_is = omega (arith, length-take-le z.count spots (omega (arith, few_nodes)), g.found_is.count_is);
+        few = omega (arith, length-take-le z.count spots (omega (arith, few_nodes)), few_nodes);
+        total_is = g.found_is.total_is;
+        small = omega (arith, g.found_is.total_is, nodes_follow.short);
+        fits = h;
+        chained = nodes_follow.chained;
+        held = held_take;
+      }
+
+      pub typed_done : z.total ≤ length o → (o' : List ℕ) → o' ≡ sets o 0 (flat_of g.of) → outcome_with (answer_of (Ok z.total)) o' ≡ typed_of t o
+      typed_done h o' e =
+          let b : List ℕ = bytes_of (root_of g.of) in
+          let n : length (flat_of g.of) ≡ z.total = flat_of_length g.of ∙ sym g.found_is.total_is in
+          let w : o' ≡ b ++ drop (length b) o =
+          e ∙ sets-eq (flat_of g.of) o 0 (omega arith) ∙ (rw (zero-add (length (flat_of g.of)), root_bytes)) in
+          ap (λ (m : ℕ). outcome_with (record { number = 0; count = m; line = 0; column = 0 }) o') (sym root_long)
+          ∙ ap (outcome_with (record { number = 0; count = length b; line = 0; column = 0 })) w
+          ∙ sym (typed_scan t o small ∙ ap (λ (s : TypedScan). outcome_of s o) g.is
+          ∙ (rw (le-ltb (length o) (length (bytes_of (root_of g.of))) (omega (arith, root_long)))))

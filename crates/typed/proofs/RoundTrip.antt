@@ -21,9 +21,8 @@ use Rattle.tree.specs.Promises.{Texts, Texts*, depth, depth*}
 use Rattle.tree.proofs.Fronts.{nodes_low}
 use Rattle.text.specs.Text.{lines, join_lines}
 use Rattle.text.proofs.JoinedLines.{Free, NoFeed, lines_feeds}
-use Rattle.typed.specs.declared.typed_text.Byte.TheVariants.{Put}
 use Rattle.typed.specs.declared.scan.ScanState.{ScanState}
-use Rattle.typed.specs.Text.{byte_of, text, putting, later_text, text_from, typed_text}
+use Rattle.typed.specs.Text.{Put, byte_of, text, putting, later_text, text_from, typed_text}
 use Rattle.typed.specs.Line.{Item, axis_word, cell, group, own_text, node, spaces, same_bytes, level_of, plain_line, plain_of, one_line_of, without_return}
 use Rattle.typed.specs.Scan.{TypedNode, TypedScan, found, adding, place_fault, next_of, scan_from, none_yet, scan_lines}
 use Rattle.typed.specs.Clauses.{total_of}

@@ -5,22 +5,25 @@ use native.Mathlib.Omega.{arith}
 use native.Mathlib.Numerals.{add-one}
 use mathlib.Core.Bool.{Bool, true, false}
 use mathlib.Core.List.{List, [], ◌∷◌, ◌++◌, append_assoc, append-nil}
-use lib.ListN.{length, take, drop, set, replicate, length-append, length-set, length-take, length-drop, length-replicate, get_or-append}
+use lib.ListN.{length, take, drop, set, length-append, length-set, length-take, length-drop, get_or-append}
 use lib.Seq.{get_or-set_same, get_or-set_other, get_or-append_seam, length-take-le}
 use lib.Dec.{eqb, ltb, leb}
-use borrow.Author.Tests.{eq-eqb, ne_eqb, ltb-false, leb-false}
+use borrow.Author.Tests.{eq-eqb, ne_eqb, eqb-true, eqb-false, ltb-false, leb-false}
+use Rattle.std.specs.Prelude.{Option, Some, None, Result, Ok, Err, is_ok, ⊤}
 use Rattle.common.specs.Choice.{pick, both}
+use Rattle.common.specs.Refusals.{refusal_of}
+use Rattle.common.specs.declared.refusal.Refusal.{Refusal}
 use Rattle.common.proofs.Either.{either}
 use Rattle.tree.specs.Tree.{across, down}
 use Rattle.text.specs.Clauses.{first_feed}
 use Rattle.text.proofs.Lines.{lines_from, rest_none, rest_next, line_from, line_in}
-use Rattle.typed.specs.declared.line.Line.{Line}
-use Rattle.typed.specs.declared.scan.NodeSpot.{NodeSpot}
+use Rattle.typed.specs.declared.ListFault.{ListFault}
+use Rattle.typed.specs.declared.line.NodeSpot.{NodeSpot}
 use Rattle.typed.specs.declared.scan.ScanState.{ScanState}
-use Rattle.typed.specs.declared.scan.Scanned.{Scanned}
+use Rattle.typed.specs.declared.typed_text.Misread.{Misread}
 use Rattle.typed.specs.Line.{Item, cell, group, own_text, OneLine, skip, fault, node, one_line_of}
-use Rattle.typed.specs.Clauses.{item_tag, TextAt, LineTold, line_fault, next_line, spot_for, no_spot, no_node, SmallLine, Spotted, SpotsHeld, total_of}
-use Rattle.typed.specs.Clauses.{ScanTold}
+use Rattle.typed.specs.Clauses.{kind_of, misread, TextAt, SpotTold, LineTold, place_result, placed_line, deepest, scan_next, moved, no_spot, no_node}
+use Rattle.typed.specs.Clauses.{Spotted, SpotsHeld, total_of, list_fault, ScanTold}
 use Rattle.typed.specs.Scan.{TypedNode, TypedScan, stopped, found, adding, place_fault, level_under, next_of, scan_from, none_yet, scan_lines}
 use Rattle.typed.proofs.Texts.{text_short}
 use Rattle.typed.proofs.OneLine.{text_in}
@@ -49,6 +52,29 @@ module _ (l : ℕ) (z : ScanState) (x : List ℕ) (xs : List (List ℕ)) where
       → scan_from l z (x ∷ xs) ≡ stopped (place_fault z d (length (own_text item))) (suc l) (2 * d + 1)
   unfolding scan_from
   scan_refused d item h k = rw (h, ne_eqb _ 0 k, scan_from)
+
+-- a line as it is after the nodes so far
+record Fits (z : ScanState) (x : List ℕ) (d : ℕ) (item : Item) : Type 0 where
+  is : one_line_of x ≡ node d item
+  good : place_fault z d (length (own_text item)) ≡ 0
+
+abbrev LineAs : ℕ → ScanState → List ℕ → List (List ℕ) → OneLine → Type 0
+LineAs l z x xs skip = scan_from l z (x ∷ xs) ≡ scan_from (suc l) z xs
+LineAs l z x xs (fault k c) = scan_from l z (x ∷ xs) ≡ stopped k (suc l) c
+LineAs l z x xs (node d item) = Fits z x d item
+
+line_as : (l : ℕ) (z : ScanState) (x : List ℕ) (xs : List (List ℕ)) → LineAs l z x xs (placed_line z (one_line_of x))
+line_as l z x xs = go (one_line_of x) refl
+  where
+    at_node : (d : ℕ) (item : Item) → one_line_of x ≡ node d item → (b : Bool) → eqb (place_fault z d (length (own_text item))) 0 ≡ b
+        → LineAs l z x xs (pick b (node d item) (fault (place_fault z d (length (own_text item))) (2 * d + 1)))
+    at_node d item q true e = record { is = q; good = eqb-true _ 0 e }
+    at_node d item q false e = scan_refused l z x xs d item q (eqb-false _ 0 e)
+
+    go : (o : OneLine) → one_line_of x ≡ o → LineAs l z x xs (placed_line z o)
+    go skip q = scan_skip l z x xs q
+    go (fault k c) q = scan_fault l z x xs k c q
+    go (node d item) q = at_node d item q (eqb (place_fault z d (length (own_text item))) 0) refl
 
 -- ---- the nodes so far
 
@@ -94,14 +120,14 @@ pub record Reading (t : List ℕ) (spots : List NodeSpot) (z : ScanState) (l fro
   pub held : SpotsHeld t done spots
   pub all : scan_lines t ≡ nodes_before done (scan_from l z (lines_from from t))
 
-pub reading_none : (t : List ℕ) (spots : List NodeSpot) → spots ≡ replicate 512 no_spot → Reading t spots none_yet 0 0
+pub reading_none : (t : List ℕ) (spots : List NodeSpot) → length spots ≡ 512 → Reading t spots none_yet 0 0
 unfolding lines_from total_of
 reading_none t spots e = record {
   within = omega arith;
   few = omega arith;
   count = omega arith;
   total = omega arith;
-  long = ap length e ∙ length-replicate 512 no_spot;
+  long = e;
   done = [];
   count_is = refl;
   total_is = refl;
@@ -109,15 +135,10 @@ reading_none t spots e = record {
   all = sym (before_none (scan_lines t));
 }
 
-item_tag_some : (item : Item) → item_tag item ≡ 0 → ⊥
-item_tag_some (cell t) e = omega arith
-item_tag_some (group across) e = omega arith
-item_tag_some (group down) e = omega arith
-
-under_is : (d : ℕ) (item : Item) (k : ℕ) → k ≡ item_tag item → pick (eqb k 1) d (d + 1) ≡ level_under d item
-under_is d (cell t) k e = rw e refl
-under_is d (group across) k e = rw e refl
-under_is d (group down) k e = rw e refl
+deepest_is : (d : ℕ) (item : Item) → deepest (kind_of item) d ≡ level_under d item
+deepest_is d (cell t) = refl
+deepest_is d (group across) = refl
+deepest_is d (group down) = refl
 
 -- what a node whose fault is 0 has shown
 pub record NodeFits (z : ScanState) (d n : ℕ) : Type 0 where
@@ -150,139 +171,169 @@ place_fits z d n h =
       short = ltb-false 32768 (z.total + 3 + n) p₅.0;
     }
 
+-- ---- a line's answer, after the nodes so far
+
+placed_ok : (k : ℕ) → ◌≡◌ {A = Result ⊤ Refusal} (Ok tt) (place_result k) → k ≡ 0
+placed_ok k q = go (eqb k 0) refl q
+  where
+    go : (b : Bool) → eqb k 0 ≡ b → ◌≡◌ {A = Result ⊤ Refusal} (Ok tt) (pick b (Ok tt) (Err (refusal_of k))) → k ≡ 0
+    go true e q = eqb-true k 0 e
+    go false e q = cc
+
+record Refused (k : ℕ) (f : Refusal) : Type 0 where
+  bad : k ≡ 0 → ⊥
+  refusal_is : f ≡ refusal_of k
+
+placed_err : (k : ℕ) (f : Refusal) → ◌≡◌ {A = Result ⊤ Refusal} (Err f) (place_result k) → Refused k f
+placed_err k f q = go (eqb k 0) refl q
+  where
+    go : (b : Bool) → eqb k 0 ≡ b → ◌≡◌ {A = Result ⊤ Refusal} (Err f) (pick b (Ok tt) (Err (refusal_of k))) → Refused k f
+    go true e q = cc
+    go false e q = record { bad = eqb-false k 0 e; refusal_is = cc }
+
+pub record SpotSmall (x : List ℕ) (s : NodeSpot) : Type 0 where
+  pub level : s.level ≤ length x
+  pub len : s.len ≤ length x
+  pub start : s.start ≤ length x
+  pub end : s.end ≤ length x
+
+pub spot_small : (x : List ℕ) (o : OneLine) (s : NodeSpot) → SpotTold x o (Ok s) → SpotSmall x s
+spot_small x skip s k = absurd k
+spot_small x (fault j c) s k = cc
+spot_small x (node d item) s k =
+    let a = k.text_at in
+    let b = text_short (take (s.end - s.start) (drop s.start x)) (own_text item) a.text_is in
+    let f : length (take (s.end - s.start) (drop s.start x)) ≤ length x =
+    omega (arith, length-take (s.end - s.start) (drop s.start x), length-drop s.start x) in
+    record {
+      level = omega (arith, k.level_is, k.behind, a.on, a.within);
+      len = omega (arith, a.len_is);
+      start = omega (arith, a.on, a.within);
+      end = a.within;
+    }
+
+module _ (z : ScanState) (x : List ℕ) where
+  module _ (s : NodeSpot) (told : LineTold x (one_line_of x) (Ok (Some s))) where
+    pub node_fits : ◌≡◌ {A = Result ⊤ Refusal} (Ok tt) (place_result (place_fault z s.level s.len)) → LineTold x (placed_line z (one_line_of x)) (Ok (Some s))
+    node_fits q = go (one_line_of x) told
+      where
+        go : (o : OneLine) → SpotTold x o (Ok s) → SpotTold x (placed_line z o) (Ok s)
+        go skip k = k
+        go (fault j c) k = k
+        go (node d item) k =
+            let g : place_fault z d (length (own_text item)) ≡ 0 = rw (k.level_is, k.text_at.len_is) at (placed_ok _ q) in
+            rw (eq-eqb _ 0 g) k
+
+    pub node_refused : (f : Refusal) → ◌≡◌ {A = Result ⊤ Refusal} (Err f) (place_result (place_fault z s.level s.len))
+        → LineTold x (placed_line z (one_line_of x)) (Err (record { refusal = f; column = 2 * s.level + 1 }))
+    node_refused f q = go (one_line_of x) told
+      where
+        go : (o : OneLine) → SpotTold x o (Ok s) → SpotTold x (placed_line z o) (Err (record { refusal = f; column = 2 * s.level + 1 }))
+        go skip k = absurd k
+        go (fault j c) k = cc
+        go (node d item) k =
+            let r : Refused (place_fault z d (length (own_text item))) f = rw (k.level_is, k.text_at.len_is) at (placed_err _ f q) in
+            rw (ne_eqb _ 0 r.bad, r.refusal_is, k.level_is) refl
+
+-- the answer where a line is at fault
+abbrev pub stop_of : ℕ → Result (Option NodeSpot) Misread → Result ScanState ListFault
+stop_of l (Ok o) = Ok none_yet
+stop_of l (Err f) = Err (record { refusal = f.refusal; line = l; column = f.column })
+
+-- ---- one line more, in the text
+
 module _ (t : List ℕ) (small : length t ≤ 131072) (spots : List NodeSpot) (z : ScanState) (l from : ℕ) (R : Reading t spots z l from) (h : from ≤ length t)
-    (e : ℕ) (is : e ≡ from + first_feed (drop from t)) (r : Line)
-    (told : LineTold (take (e - from) (drop from t)) (one_line_of (take (e - from) (drop from t))) r) where
+    (e : ℕ) (is : e ≡ from + first_feed (drop from t)) where
   abbrev x : List ℕ
   x = take (e - from) (drop from t)
 
-  line_small : length x ≤ 131072
+  pub line_small : length x ≤ 131072
   line_small = omega (arith, line_long t from h e is, line_in t from h e is)
 
   here : scan_from l z (lines_from from t) ≡ scan_from l z (x ∷ lines_from (e + 1) t)
   here = ap (scan_from l z) (rest_next t from h e is)
 
-  pub numbers_small : SmallLine z r × (r.start ≤ 131072) × (r.end ≤ 131072)
-  numbers_small = go (one_line_of x) told
+  pub reading_stop : (r : Result (Option NodeSpot) Misread) → LineTold x (placed_line z (one_line_of x)) r → is_ok r ≡ false
+      → (spots' : List NodeSpot) → ScanTold t (scan_lines t) spots' (stop_of (l + 1) r)
+  reading_stop (Ok o) told w spots' = cc
+  reading_stop (Err f) told w spots' = go (placed_line z (one_line_of x)) (line_as l z x (lines_from (e + 1) t)) told
     where
-      go : (o : OneLine) → LineTold x o r → SmallLine z r × (r.start ≤ 131072) × (r.end ≤ 131072)
-      go skip k = rw k (record { count = R.count; total = R.total; level = omega arith; len = omega arith }, omega arith, omega arith)
-      go (fault j c) k = rw k.1 (record { count = R.count; total = R.total; level = omega arith; len = omega arith }, omega arith, omega arith)
-      go (node d item) k =
-          let a = k.4 in
-          let b = text_short (take (r.end - r.start) (drop r.start x)) (own_text item) a.text_is in
-          let f : length (take (r.end - r.start) (drop r.start x)) ≤ length x =
-          omega (arith, length-take (r.end - r.start) (drop r.start x), length-drop r.start x) in (
-            record {
-              count = R.count;
-              total = R.total;
-              level = omega (arith, k.2, k.3, a.on, a.within, line_small);
-              len = omega (arith, a.len_is, line_small);
-            },
-            omega (arith, a.on, a.within, line_small),
-            omega (arith, a.within, line_small),
-          )
+      go : (o : OneLine) → LineAs l z x (lines_from (e + 1) t) o → SpotTold x o (Err f) → ScanTold t (scan_lines t) spots' (stop_of (l + 1) (Err f))
+      go skip q k = absurd k
+      go (fault j c) q k =
+          let w : f ≡ misread j c = cc in
+          rw (R.all, here, q, w, add-one l) refl
+      go (node d item) q k = absurd k
 
-  module _ (k : ℕ) (ke : k ≡ line_fault z r) where
-    node_fault : (d : ℕ) (item : Item) → LineTold x (node d item) r → k ≡ place_fault z d (length (own_text item))
-    node_fault d item q =
-        let a = q.4 in
-        ke ∙ (rw (eq-eqb r.number 0 q.0, ne_eqb r.kind 0 (λ v. item_tag_some item (sym a.kind_is ∙ v)), q.2, a.len_is))
+  reading_skip : LineTold x (placed_line z (one_line_of x)) (Ok None) → Reading t spots z (l + 1) (e + 1)
+  reading_skip told = record {
+    within = omega (arith, line_in t from h e is);
+    few = omega (arith, R.few, line_from t from h e is);
+    count = R.count;
+    total = R.total;
+    long = R.long;
+    done = R.done;
+    count_is = R.count_is;
+    total_is = R.total_is;
+    held = R.held;
+    all = R.all ∙ ap (nodes_before R.done)
+        (here ∙ rw told at (line_as l z x (lines_from (e + 1) t)) ∙ ap (λ (m : ℕ). scan_from m z (lines_from (e + 1) t)) (sym (add-one l)));
+  }
 
-    pub reading_stop : (k ≡ 0 → ⊥) → (s : Scanned) → s.number ≡ k → s.line ≡ l + 1 → s.column ≡ r.column → ScanTold t (scan_lines t) s
-    reading_stop bad s s₁ s₂ s₃ = go (one_line_of x) refl told
+  module _ (s : NodeSpot) (told : LineTold x (placed_line z (one_line_of x)) (Ok (Some s))) where
+    reading_node : Reading t (set spots z.count (moved s from)) (scan_next z s) (l + 1) (e + 1)
+    reading_node = go (placed_line z (one_line_of x)) (line_as l z x (lines_from (e + 1) t)) told
       where
-        stop : (j c : ℕ) → scan_from l z (x ∷ lines_from (e + 1) t) ≡ stopped j (suc l) c → 0 < j → k ≡ j → r.column ≡ c → ScanTold t (scan_lines t) s
-        stop j c q pos u v = rw (R.all, here, q) (pos, s₁ ∙ u, s₂ ∙ add-one l, s₃ ∙ v)
-
-        go : (o : OneLine) → one_line_of x ≡ o → LineTold x o r → ScanTold t (scan_lines t) s
-        go skip q u = absurd (bad (ke ∙ (rw u)))
-        go (fault j c) q u =
-            let v : k ≡ j = ke ∙ (rw (u.1, ne_eqb j 0 (λ w. omega (arith, u.0)))) in
-            stop j c (scan_fault l z x (lines_from (e + 1) t) j c q) u.0 v (ap (λ (y : Line). y.column) u.1)
+        go : (o : OneLine) → LineAs l z x (lines_from (e + 1) t) o → SpotTold x o (Ok s)
+            → Reading t (set spots z.count (moved s from)) (scan_next z s) (l + 1) (e + 1)
+        go skip q u = absurd u
+        go (fault j c) q u = cc
         go (node d item) q u =
-            let v = node_fault d item u in
-            stop (place_fault z d (length (own_text item))) (2 * d + 1) (scan_refused l z x (lines_from (e + 1) t) d item q (λ w. bad (v ∙ w)))
-            (omega (arith, bad)) v u.1
-
-    reading_skip : k ≡ 0 → r.kind ≡ 0 → Reading t spots z (l + 1) (e + 1)
-    reading_skip good none = go (one_line_of x) refl told
-      where
-        go : (o : OneLine) → one_line_of x ≡ o → LineTold x o r → Reading t spots z (l + 1) (e + 1)
-        go skip q u = record {
-          within = omega (arith, line_in t from h e is);
-          few = omega (arith, R.few, line_from t from h e is);
-          count = R.count;
-          total = R.total;
-          long = R.long;
-          done = R.done;
-          count_is = R.count_is;
-          total_is = R.total_is;
-          held = R.held;
-          all = R.all ∙ ap (nodes_before R.done)
-              (here ∙ scan_skip l z x (lines_from (e + 1) t) q ∙ ap (λ (m : ℕ). scan_from m z (lines_from (e + 1) t)) (sym (add-one l)));
-        }
-        go (fault j c) q u =
-            let v : k ≡ j = ke ∙ (rw (u.1, ne_eqb j 0 (λ w. omega (arith, u.0)))) in
-            absurd (omega (arith, u.0))
-        go (node d item) q u = let a = u.4 in absurd (item_tag_some item (sym a.kind_is ∙ none))
-
-    reading_node : k ≡ 0 → (r.kind ≡ 0 → ⊥) → Reading t (set spots z.count (spot_for r from)) (next_line z r) (l + 1) (e + 1)
-    reading_node good some = go (one_line_of x) refl told
-      where
-        go : (o : OneLine) → one_line_of x ≡ o → LineTold x o r → Reading t (set spots z.count (spot_for r from)) (next_line z r) (l + 1) (e + 1)
-        go skip q u = absurd (some (ap (λ (y : Line). y.kind) u))
-        go (fault j c) q u =
-            let v : k ≡ j = ke ∙ (rw (u.1, ne_eqb j 0 (λ w. omega (arith, u.0)))) in
-            absurd (omega (arith, u.0))
-        go (node d item) q u =
-            let a = u.4 in
-            let v : place_fault z d (length (own_text item)) ≡ 0 = sym (node_fault d item u) ∙ good in
-            let f = place_fits z d (length (own_text item)) v in
+            let a = u.text_at in
+            let f = place_fits z d (length (own_text item)) q.good in
             let n : TypedNode = record { level = d; item = item } in
-            let w : next_line z r ≡ next_of z d item = rw (u.2, under_is d item r.kind a.kind_is, a.len_is) in
-            let i : TextAt t item r.kind (from + r.start) (from + r.end) r.len =
-            text_in t item from (e - from) r.kind r.start r.end r.len (omega (arith, line_in t from h e is, line_from t from h e is)) a in
+            let w : scan_next z s ≡ next_of z d item = rw (u.level_is, a.kind_is, deepest_is d item, a.len_is) in
+            let i : TextAt t item s.kind (from + s.start) (from + s.end) s.len =
+            text_in t item from (e - from) s.kind s.start s.end s.len (omega (arith, line_in t from h e is, line_from t from h e is)) a in
             record {
               within = omega (arith, line_in t from h e is);
               few = omega (arith, R.few, line_from t from h e is);
               count = omega (arith, f.few);
               total = omega (arith, f.short, a.len_is);
-              long = length-set spots z.count (spot_for r from) ∙ R.long;
+              long = length-set spots z.count (moved s from) ∙ R.long;
               done = R.done ++ (n ∷ []);
               count_is = omega (arith, R.count_is, length-append R.done (n ∷ []));
               total_is = omega (arith, R.total_is, total_more R.done n, a.len_is);
               held = rw R.count_is
-                  (held_more t R.done spots n (spot_for r from) (omega (arith, f.few, R.count_is, R.long)) R.held
-                  (record { level_is = u.2; text_at = i }));
+                  (held_more t R.done spots n (moved s from) (omega (arith, f.few, R.count_is, R.long)) R.held
+                  (record { level_is = u.level_is; text_at = i }));
               all =
                   R.all
-                  ∙ ap (nodes_before R.done) (here ∙ scan_node l z x (lines_from (e + 1) t) d item q v)
+                  ∙ ap (nodes_before R.done) (here ∙ scan_node l z x (lines_from (e + 1) t) d item q.is q.good)
                   ∙ before_more R.done n (scan_from (suc l) (next_of z d item) (lines_from (e + 1) t))
                   ∙ ap (λ (m : ℕ). nodes_before (R.done ++ (n ∷ [])) (scan_from m (next_of z d item) (lines_from (e + 1) t))) (sym (add-one l))
                   ∙ ap (λ (y : ScanState). nodes_before (R.done ++ (n ∷ [])) (scan_from (l + 1) y (lines_from (e + 1) t))) (sym w);
             }
 
+    pub reading_room : z.count < 512
+    reading_room = let q = reading_node in omega (arith, q.count)
+
     -- in the code's terms, after the store
-    pub reading_next : (spots' : List NodeSpot) (z' : ScanState) (s : NodeSpot) → spots' ≡ set spots z.count s → s ≡ spot_for r from → z' ≡ next_line z r
-        → k ≡ 0 → (r.kind ≡ 0 → ⊥) → Reading t spots' z' (l + 1) (e + 1)
-    reading_next spots' z' s a b d good some = rw (a, b, d) (reading_node good some)
+    pub reading_next : (spots' : List NodeSpot) (z' : ScanState) (s' : NodeSpot) → spots' ≡ set spots z.count s' → s' ≡ moved s from → z' ≡ scan_next z s
+        → Reading t spots' z' (l + 1) (e + 1)
+    reading_next spots' z' s' a b d = rw (a, b, d) reading_node
 
-    pub reading_same : (spots' : List NodeSpot) (z' : ScanState) → spots' ≡ spots → z' ≡ z → k ≡ 0 → r.kind ≡ 0 → Reading t spots' z' (l + 1) (e + 1)
-    reading_same spots' z' a b good none = rw (a, b) (reading_skip good none)
+  pub reading_same : (spots' : List NodeSpot) (z' : ScanState) → spots' ≡ spots → z' ≡ z → LineTold x (placed_line z (one_line_of x)) (Ok None)
+      → Reading t spots' z' (l + 1) (e + 1)
+  reading_same spots' z' a b told = rw (a, b) (reading_skip told)
 
-    pub reading_room : k ≡ 0 → (r.kind ≡ 0 → ⊥) → z.count < 512
-    reading_room good some = let q = reading_node good some in omega (arith, q.count)
-
-module _ (t : List ℕ) (spots : List NodeSpot) (z : ScanState) (l from : ℕ) (R : Reading t spots z l from) (h : length t < from) (s : Scanned) where
+module _ (t : List ℕ) (spots : List NodeSpot) (z : ScanState) (l from : ℕ) (R : Reading t spots z l from) (h : length t < from) where
   at_end : scan_lines t ≡ nodes_before R.done (pick (eqb z.count 0) (stopped 39 l 1) (found []))
   unfolding scan_from
   at_end = R.all ∙ (rw (rest_none t from h))
 
-  pub reading_empty : z.count ≡ 0 → s.number ≡ 39 → s.line ≡ l → s.column ≡ 1 → ScanTold t (scan_lines t) s
-  reading_empty c s₁ s₂ s₃ = rw (at_end, eq-eqb z.count 0 c) (omega arith, s₁, s₂, s₃)
+  pub reading_empty : z.count ≡ 0 → ScanTold t (scan_lines t) spots (Err (list_fault 39 l 1))
+  reading_empty c = rw (at_end, eq-eqb z.count 0 c) refl
 
-  pub reading_all : (z.count ≡ 0 → ⊥) → s.number ≡ 0 → s.count ≡ z.count → s.total ≡ z.total → s.spots ≡ spots → ScanTold t (scan_lines t) s
-  reading_all c s₁ s₂ s₃ s₄ =
-      rw (at_end, ne_eqb z.count 0 c, append-nil R.done)
-      (record { number_is = s₁; count_is = s₂ ∙ R.count_is; total_is = s₃ ∙ R.total_is; held = rw s₄ R.held })
+  pub reading_all : (z.count ≡ 0 → ⊥) → ScanTold t (scan_lines t) spots (Ok z)
+  reading_all c = rw (at_end, ne_eqb z.count 0 c, append-nil R.done) (record { count_is = R.count_is; total_is = R.total_is; held = R.held })

@@ -3,19 +3,20 @@ use mathlib.Core.Path.{◌≡◌, refl, sym, ap, ◌∙◌}
 use Prim.Native.Nat.{ℕ, suc, ◌+◌, ◌≤◌, ◌<◌}
 use native.Mathlib.Omega.{arith}
 use native.Mathlib.Numerals.{add-one}
-use mathlib.Core.Bool.{Bool, true, false}
+use mathlib.Core.Bool.{Bool, true, false, not}
 use mathlib.Core.List.{List, [], ◌∷◌}
 use lib.ListN.{length, get_or, drop, set, length-set, drop_of_length-le}
 use lib.Seq.{drop-cons, sets}
 use lib.Dec.{eqb, ltb}
+use Rattle.std.specs.Prelude.{Option, Some, None, is_some, Result, Ok, Err}
+use mir.Val.{bool_byte}
 use Rattle.common.specs.Choice.{pick}
+use Rattle.common.specs.Refusals.{refusal_of}
+use Rattle.common.specs.declared.refusal.Refusal.{Refusal}
 use Rattle.tree.specs.Reading.{is_text, is_text_byte}
-use Rattle.typed.specs.Text.{byte_of, Text, wrong, text, putting, later_text, ended_text, text_from, typed_text}
-use Rattle.typed.specs.Clauses.{checked_text, counted_byte, Writes, ByteWritten, written_of, Good}
-use Rattle.typed.specs.declared.typed_text.Byte.{Byte}
-use Rattle.typed.specs.declared.typed_text.Byte.TheVariants.{Put, Escape, Wrong}
-use Rattle.typed.specs.declared.typed_text.Count.{Count}
-use Rattle.typed.specs.declared.typed_text.TextCheck.{TextCheck}
+use Rattle.typed.specs.Text.{Byte, Put, Escape, Wrong, byte_of, Text, wrong, text, putting, later_text, ended_text, text_from, typed_text}
+use Rattle.typed.specs.Clauses.{misread, put_of, checked_text, Good}
+use Rattle.typed.specs.declared.typed_text.Misread.{Misread}
 
 -- ---- one byte
 
@@ -60,81 +61,89 @@ text_end_lem : (e : Bool) (s : List ℕ) (i : ℕ) → length s ≤ i → text_f
 unfolding text_from
 text_end_lem e s i h = rw (drop_of_length-le s h)
 
+-- what the code's answer shows of a byte
+pub put_is : (x : Byte) (c : ℕ) → Ok (Some c) ≡ put_of x → x ≡ Put c
+put_is (Put b) c h = cc
+put_is Escape c h = cc
+put_is (Wrong k) c h = cc
+
+pub escape_is : (x : Byte) → Ok None ≡ put_of x → x ≡ Escape
+escape_is (Put b) h = cc
+escape_is Escape h = refl
+escape_is (Wrong k) h = cc
+
+pub record WrongIs (x : Byte) (f : Refusal) : Type 0 where
+  pub number : ℕ
+  pub is : x ≡ Wrong number
+  pub refusal_is : f ≡ refusal_of number
+
+pub wrong_is : (x : Byte) (f : Refusal) → Err f ≡ put_of x → WrongIs x f
+wrong_is (Put b) f h = cc
+wrong_is Escape f h = cc
+wrong_is (Wrong k) f h = record { number = k; is = refl; refusal_is = cc }
+
 -- ---- counting: i bytes are read, which put n
 
-abbrev checked_at : ℕ → ℕ → TextCheck
-checked_at k n = record { number = k; count = n }
-
-abbrev count_all : ℕ → ℕ → Text → TextCheck
-count_all i n (wrong k j) = checked_at k (i + j)
-count_all i n (text t) = checked_at 0 (n + length t)
+abbrev count_all : ℕ → ℕ → Text → Result ℕ Misread
+count_all i n (wrong k j) = Err (misread k (i + j + 1))
+count_all i n (text t) = Ok (n + length t)
 
 all_put : (i n c : ℕ) (t : Text) → count_all i n (putting c t) ≡ count_all (i + 1) (n + 1) t
-all_put i n c (wrong k j) = ap (checked_at k) (omega arith)
-all_put i n c (text t) = ap (checked_at 0) (omega arith)
+all_put i n c (wrong k j) = ap (λ (m : ℕ). Err (misread k m)) (omega arith)
+all_put i n c (text t) = ap Ok (omega arith)
 
 all_later : (i n : ℕ) (t : Text) → count_all i n (later_text t) ≡ count_all (i + 1) n t
-all_later i n (wrong k j) = ap (checked_at k) (omega arith)
+all_later i n (wrong k j) = ap (λ (m : ℕ). Err (misread k m)) (omega arith)
 all_later i n (text t) = refl
 
 none_counted : (t : Text) → checked_text t ≡ count_all 0 0 t
-none_counted (wrong k j) = ap (checked_at k) (omega arith)
-none_counted (text t) = ap (checked_at 0) (omega arith)
+none_counted (wrong k j) = ap (λ (m : ℕ). Err (misread k m)) (omega arith)
+none_counted (text t) = ap Ok (omega arith)
 
 pub record CountedText (s : List ℕ) (e : Bool) (n i : ℕ) : Type 0 where
-  pub within : i ≤ length s
   pub few : n ≤ i
   pub all : checked_text (typed_text s) ≡ count_all i n (text_from e (drop i s))
 
 pub counted_none : (s : List ℕ) → CountedText s false 0 0
-counted_none s = record { within = omega arith; few = omega arith; all = none_counted (typed_text s) }
+counted_none s = record { few = omega arith; all = none_counted (typed_text s) }
 
 from_cons : (s : List ℕ) (e : Bool) (i : ℕ) → i < length s → text_from e (drop i s) ≡ text_from e (get_or s i 0 ∷ drop (i + 1) s)
 from_cons s e i h = rw (drop-cons s i 0 h, add-one i)
 
 module _ (s : List ℕ) (e : Bool) (n i : ℕ) (k : CountedText s e n i) (h : i < length s) where
-  NextCount : Byte → Type 0
-  NextCount x = (counted_byte x n).number ≡ 0 → CountedText s (counted_byte x n).escaped (counted_byte x n).n (i + 1)
-
-  next_count : (x : Byte) → byte_of e (get_or s i 0) ≡ x → NextCount x
-  unfolding NextCount
-  next_count (Put c) b z =
+  pub counted_on : (put : Option ℕ) (e' : Bool) → Ok put ≡ put_of (byte_of e (get_or s i 0)) → is_some put ≡ not e'
+      → CountedText s e' (n + bool_byte (is_some put)) (i + 1)
+  counted_on (Some c) false q z =
+      let b = put_is (byte_of e (get_or s i 0)) c q in
       record {
-        within = omega arith;
         few = omega (arith, k.few);
         all = k.all
             ∙ ap (count_all i n) (from_cons s e i h ∙ text_put e (get_or s i 0) c (drop (i + 1) s) b) ∙ all_put i n c (text_from false (drop (i + 1) s));
       }
-  next_count Escape b z =
+  counted_on (Some c) true q z = cc
+  counted_on None true q z =
+      let b = escape_is (byte_of e (get_or s i 0)) q in
       record {
-        within = omega arith;
         few = omega (arith, k.few);
         all = k.all
-            ∙ ap (count_all i n) (from_cons s e i h ∙ text_escape e (get_or s i 0) (drop (i + 1) s) b) ∙ all_later i n (text_from true (drop (i + 1) s));
+            ∙ ap (count_all i n) (from_cons s e i h ∙ text_escape e (get_or s i 0) (drop (i + 1) s) b) ∙ all_later i n (text_from true (drop (i + 1) s))
+            ∙ ap (λ (m : ℕ). count_all (i + 1) m (text_from true (drop (i + 1) s))) (omega arith);
       }
-  next_count (Wrong j) b z = absurd (omega (arith, (byte_wrong e (get_or s i 0) j b).0))
+  counted_on None false q z = cc
 
-  pub counted_on : (r : Count) → r ≡ counted_byte (byte_of e (get_or s i 0)) n → r.number ≡ 0 → CountedText s r.escaped r.n (i + 1)
-  unfolding NextCount
-  counted_on r q z = rw q (next_count (byte_of e (get_or s i 0)) refl (rw q at z))
+  pub counted_stop : (f : Refusal) → Err f ≡ put_of (byte_of e (get_or s i 0)) → Err (record { refusal = f; column = i + 1 }) ≡ checked_text (typed_text s)
+  counted_stop f q =
+      let w = wrong_is (byte_of e (get_or s i 0)) f q in
+      ap (λ (r : Refusal). Err (record { refusal = r; column = i + 1 })) w.refusal_is
+      ∙ ap (λ (m : ℕ). Err (misread w.number (m + 1))) (omega arith)
+      ∙ sym (k.all ∙ ap (count_all i n) (from_cons s e i h ∙ text_wrong e (get_or s i 0) w.number (drop (i + 1) s) w.is))
 
-  stop : (x : Byte) → byte_of e (get_or s i 0) ≡ x → ((counted_byte x n).number ≡ 0 → ⊥) → checked_at (counted_byte x n).number i ≡ checked_text (typed_text s)
-  stop (Put c) b z = absurd (z refl)
-  stop Escape b z = absurd (z refl)
-  stop (Wrong j) b z =
-      let q : i ≡ i + 0 = omega arith in
-      ap (checked_at j) q ∙ sym (k.all ∙ ap (count_all i n) (from_cons s e i h ∙ text_wrong e (get_or s i 0) j (drop (i + 1) s) b))
+module _ (s : List ℕ) (e : Bool) (n i : ℕ) (k : CountedText s e n i) (h : i ≡ length s) where
+  pub counted_open : e ≡ true → Err (misread 32 (length s + 1)) ≡ checked_text (typed_text s)
+  counted_open t = sym (k.all ∙ ap (count_all i n) (text_end_lem e s i (omega arith) ∙ ap ended_text t) ∙ ap (λ (m : ℕ). Err (misread 32 m)) (omega arith))
 
-  pub counted_stop : (r : Count) → r ≡ counted_byte (byte_of e (get_or s i 0)) n → (r.number ≡ 0 → ⊥) → record { number = r.number; count = i }
-      ≡ checked_text (typed_text s)
-  counted_stop r q z = rw q (stop (byte_of e (get_or s i 0)) refl (rw q at z))
-
-module _ (s : List ℕ) (e : Bool) (n i : ℕ) (k : CountedText s e n i) (h : length s ≤ i) where
-  pub counted_open : e ≡ true → record { number = 32; count = i } ≡ checked_text (typed_text s)
-  counted_open t = sym (k.all ∙ ap (count_all i n) (text_end_lem e s i h ∙ ap ended_text t) ∙ ap (checked_at 32) (omega arith))
-
-  pub counted_all : e ≡ false → record { number = 0; count = n } ≡ checked_text (typed_text s)
-  counted_all t = sym (k.all ∙ ap (count_all i n) (text_end_lem e s i h ∙ ap ended_text t) ∙ ap (checked_at 0) (omega arith))
+  pub counted_all : e ≡ false → Ok n ≡ checked_text (typed_text s)
+  counted_all t = sym (k.all ∙ ap (count_all i n) (text_end_lem e s i (omega arith) ∙ ap ended_text t) ∙ ap Ok (omega arith))
 
 -- ---- writing
 
@@ -144,17 +153,15 @@ record TextFront (c : ℕ) (t : Text) (l : List ℕ) : Type 0 where
   whole : l ≡ c ∷ left
 
 text_front : (c : ℕ) (t : Text) (l : List ℕ) → putting c t ≡ text l → TextFront c t l
-text_front c (wrong k i) l h = let z : ◌≡◌ {A = ℕ} 0 1 = cc in absurd (omega arith)
+text_front c (wrong k i) l h = cc
 text_front c (text t) l h = record { left = t; is = refl; whole = cc }
 
 later_of : (t : Text) (l : List ℕ) → later_text t ≡ text l → t ≡ text l
-later_of (wrong k i) l h = let z : ◌≡◌ {A = ℕ} 0 1 = cc in absurd (omega arith)
+later_of (wrong k i) l h = cc
 later_of (text t) l h = h
 
 -- what is left to write, once written, makes the whole
 pub record TextLeft (s o₀ o : List ℕ) (at : ℕ) (e : Bool) (p i : ℕ) : Type 0 where
-  pub within : i ≤ length s
-  pub long : length o ≡ length o₀
   pub left : List ℕ
   pub is : text_from e (drop i s) ≡ text left
   pub fits : p + length left ≤ length o
@@ -165,8 +172,6 @@ text_same x t u p q = cc
 
 pub text_left_all : (s o : List ℕ) (at : ℕ) → Good s at (length o) → TextLeft s o o at false at 0
 text_left_all s o at g = record {
-  within = omega arith;
-  long = refl;
   left = g.of;
   is = g.is;
   fits = g.fits;
@@ -177,50 +182,46 @@ module _ (s o₀ o : List ℕ) (at : ℕ) (e : Bool) (p i : ℕ) (k : TextLeft s
   here : text_from e (get_or s i 0 ∷ drop (i + 1) s) ≡ text k.left
   here = sym (from_cons s e i h) ∙ k.is
 
-  pub left_writes : Writes (byte_of e (get_or s i 0)) p (length o)
-  left_writes = go (byte_of e (get_or s i 0)) refl
-    where
-      go : (x : Byte) → byte_of e (get_or s i 0) ≡ x → Writes x p (length o)
-      go (Put c) b =
-          let f = text_front c (text_from false (drop (i + 1) s)) k.left (sym (text_put e (get_or s i 0) c (drop (i + 1) s) b) ∙ here) in
-          omega (arith, k.fits, ap length f.whole)
-      go Escape b = tt
-      go (Wrong j) b = tt
+  left_front : (c : ℕ) → Ok (Some c) ≡ put_of (byte_of e (get_or s i 0)) → TextFront c (text_from false (drop (i + 1) s)) k.left
+  left_front c q =
+      let b = put_is (byte_of e (get_or s i 0)) c q in
+      text_front c (text_from false (drop (i + 1) s)) k.left (sym (text_put e (get_or s i 0) c (drop (i + 1) s) b) ∙ here)
 
-  pen_step : (x : Byte) → byte_of e (get_or s i 0) ≡ x
-      → TextLeft s o₀ (written_of x p o).out at (written_of x p o).pen.escaped (written_of x p o).pen.at (i + 1)
-  pen_step (Put c) b =
-      let f = text_front c (text_from false (drop (i + 1) s)) k.left (sym (text_put e (get_or s i 0) c (drop (i + 1) s) b) ∙ here) in
+  pub left_room : (c : ℕ) → Ok (Some c) ≡ put_of (byte_of e (get_or s i 0)) → p < length o
+  left_room c q = let f = left_front c q in omega (arith, k.fits, ap length f.whole)
+
+  pub left_put : (c : ℕ) → Ok (Some c) ≡ put_of (byte_of e (get_or s i 0)) → TextLeft s o₀ (set o p c) at false (p + 1) (i + 1)
+  left_put c q =
+      let f = left_front c q in
       record {
-        within = omega arith;
-        long = length-set o p c ∙ k.long;
         left = f.left;
         is = f.is;
         fits = omega (arith, k.fits, ap length f.whole, length-set o p c);
         rest = λ t q. k.rest t q ∙ ap (λ (u : List ℕ). sets o p u) f.whole ∙ ap (λ (m : ℕ). sets (set o p c) m f.left) (sym (add-one p));
       }
-  pen_step Escape b = record {
-    within = omega arith;
-    long = k.long;
-    left = k.left;
-    is = later_of (text_from true (drop (i + 1) s)) k.left (sym (text_escape e (get_or s i 0) (drop (i + 1) s) b) ∙ here);
-    fits = k.fits;
-    rest = k.rest;
-  }
-  pen_step (Wrong j) b =
-      let q : wrong j 0 ≡ text k.left = sym (text_wrong e (get_or s i 0) j (drop (i + 1) s) b) ∙ here in
-      let z : ◌≡◌ {A = ℕ} 0 1 = cc in
-      absurd (omega arith)
 
-  pub text_left_on : (w : ByteWritten) → w ≡ written_of (byte_of e (get_or s i 0)) p o → TextLeft s o₀ w.out at w.pen.escaped w.pen.at (i + 1)
-  text_left_on w q = rw q (pen_step (byte_of e (get_or s i 0)) refl)
+  pub left_escape : Ok None ≡ put_of (byte_of e (get_or s i 0)) → TextLeft s o₀ o at true p (i + 1)
+  left_escape q =
+      let b = escape_is (byte_of e (get_or s i 0)) q in
+      record {
+        left = k.left;
+        is = later_of (text_from true (drop (i + 1) s)) k.left (sym (text_escape e (get_or s i 0) (drop (i + 1) s) b) ∙ here);
+        fits = k.fits;
+        rest = k.rest;
+      }
 
-pub text_left_none : (s o₀ o : List ℕ) (at : ℕ) (e : Bool) (p i : ℕ) → TextLeft s o₀ o at e p i → length s ≤ i → (t : List ℕ) → typed_text s ≡ text t
+  pub left_wrong : (f : Refusal) → Err f ≡ put_of (byte_of e (get_or s i 0)) → ⊥
+  left_wrong f q =
+      let w = wrong_is (byte_of e (get_or s i 0)) f q in
+      let z : wrong w.number 0 ≡ text k.left = sym (text_wrong e (get_or s i 0) w.number (drop (i + 1) s) w.is) ∙ here in
+      cc
+
+pub text_left_none : (s o₀ o : List ℕ) (at : ℕ) (e : Bool) (p i : ℕ) → TextLeft s o₀ o at e p i → i ≡ length s → (t : List ℕ) → typed_text s ≡ text t
     → o ≡ sets o₀ at t
-text_left_none s o₀ o at e p i k h t q = go e (text_end_lem e s i h) k.is
+text_left_none s o₀ o at e p i k h t q = go e (text_end_lem e s i (omega arith)) k.is
   where
     go : (e : Bool) → text_from e (drop i s) ≡ ended_text e → text_from e (drop i s) ≡ text k.left → o ≡ sets o₀ at t
-    go true x y = let z : ◌≡◌ {A = ℕ} 0 1 = cc in absurd (omega arith)
+    go true x y = cc
     go false x y = let z : [] ≡ k.left = cc in sym (k.rest t q ∙ ap (λ (u : List ℕ). sets o p u) (sym z))
 
 -- ---- where a fault is, and how long a text is
@@ -277,13 +278,13 @@ put_fair true b c h = go (eqb b 110) (eqb b 92) h
     go : (p q : Bool) → pick p (Put 10) (pick q (Put 92) (Wrong 32)) ≡ Put c → is_text_byte c ≡ true
     go true q h = let z : 10 ≡ c = cc in rw (sym z) refl
     go false true h = let z : 92 ≡ c = cc in rw (sym z) refl
-    go false false h = let z : ◌≡◌ {A = ℕ} 0 1 = cc in absurd (omega arith)
+    go false false h = cc
 put_fair false b c h = go (eqb b 92) (ltb b 32) (ltb 126 b) refl refl h
   where
     go : (p q r : Bool) → ltb b 32 ≡ q → ltb 126 b ≡ r → pick p Escape (pick q (Wrong 31) (pick r (Wrong 31) (Put b))) ≡ Put c → is_text_byte c ≡ true
-    go true q r x y h = let z : ◌≡◌ {A = ℕ} 0 1 = cc in absurd (omega arith)
-    go false true r x y h = let z : ◌≡◌ {A = ℕ} 0 1 = cc in absurd (omega arith)
-    go false false true x y h = let z : ◌≡◌ {A = ℕ} 0 1 = cc in absurd (omega arith)
+    go true q r x y h = cc
+    go false true r x y h = cc
+    go false false true x y h = cc
     go false false false x y h = let z : b ≡ c = cc in rw (sym z) (rw (x, y) (same (eqb b 10)))
       where
         same : (p : Bool) → pick p true true ≡ true

@@ -5,19 +5,21 @@ use native.Mathlib.Omega.{arith}
 use native.Mathlib.Numerals.{add-one}
 use mathlib.Core.List.{List, [], ◌∷◌, ◌++◌, map}
 use lib.ListN.{length, get_or, take, drop, set, replicate, drop_of_length-le}
-use lib.Seq.{sets, length-sets, drop-cons}
+use lib.Seq.{sets, drop-cons}
 use Rattle.common.proofs.Stores.{sets_append, sets_sets}
-use Rattle.tree.specs.Tree.{none}
+use Rattle.tree.specs.Tree.{across, down, none}
 use Rattle.typed.specs.Text.{text, typed_text}
-use Rattle.typed.specs.Line.{own_text}
+use Rattle.typed.specs.Line.{Item, cell, group, own_text}
 use Rattle.typed.specs.Scan.{TypedNode, level_under}
-use Rattle.typed.specs.Clauses.{Spotted, no_node, no_spot, total_of, Good, inside_of, flat_of, Starts, Chained, SpotReady, ReadyNodes}
+use Rattle.typed.specs.Clauses.{item_tag, kind_tag, kind_of, Spotted, no_node, no_spot, total_of, Good, inside_of, flat_of, Starts, Chained, ReadyNodes}
 use Rattle.typed.specs.Typed.{trees_at, push}
-use Rattle.typed.specs.declared.scan.NodeSpot.{NodeSpot}
+use Rattle.typed.specs.declared.line.NodeSpot.{NodeSpot}
 use Rattle.typed.proofs.Built.{trees_size, sizes_push, size_at, trees_size_low, levels_17, suits}
 
-pub good_room : (s : List ℕ) (at room room' : ℕ) → room' ≡ room → Good s at room → Good s at room'
-good_room s at room room' e g = record { of = g.of; is = g.is; fits = omega (arith, g.fits) }
+tag_is : (item : Item) → kind_tag (kind_of item) ≡ item_tag item
+tag_is (cell t) = refl
+tag_is (group across) = refl
+tag_is (group down) = refl
 
 -- an element's front with the text behind it
 pub front_text : (o o' : List ℕ) (p tag n : ℕ) (t : List ℕ) → n < 65536 → o' ≡ set (set (set o p tag) (p + 1) (n / 256 % 256)) (p + 2) (n % 256)
@@ -52,11 +54,11 @@ size_nones : (n : ℕ) → map trees_size (replicate n none) ≡ replicate n 0
 size_nones zero = refl
 size_nones (suc n) = rw (size_nones n, sym (size_at [] 0))
 
-pub writing_none : (t : List ℕ) (spots : List NodeSpot) (count total room : ℕ) (ns : List TypedNode) → ReadyNodes t spots count total room ns → (o : List ℕ)
-    → NodesWriting ns o o (replicate 17 0) count total
+pub writing_none : (t : List ℕ) (spots : List NodeSpot) (total room : ℕ) (ns : List TypedNode) → ReadyNodes t spots total room ns → (o : List ℕ)
+    → NodesWriting ns o o (replicate 17 0) (length spots) total
 unfolding trees_at total_of flat_of
-writing_none t spots count total room ns r o =
-    let e : drop count ns ≡ [] = drop_of_length-le ns {i = count} (omega (arith, r.count_is)) in
+writing_none t spots total room ns r o =
+    let e : drop (length spots) ns ≡ [] = drop_of_length-le ns {i = length spots} (omega (arith, r.count_is)) in
     record {
       within = omega (arith, r.count_is);
       sizes_are = rw e (sym (size_nones 17));
@@ -64,7 +66,15 @@ writing_none t spots count total room ns r o =
       out_is = rw e refl;
     }
 
-module _ (t : List ℕ) (spots : List NodeSpot) (count total room : ℕ) (ns : List TypedNode) (r : ReadyNodes t spots count total room ns) (o₀ o sizes : List ℕ)
+-- the numbers at a node that is next to be written
+pub record SpotBounds (s : NodeSpot) (sizes : List ℕ) (p total : ℕ) : Type 0 where
+  pub level : s.level < 16
+  pub inside : s.len + get_or sizes (s.level + 1) 0 < 65536
+  pub grown : get_or sizes s.level 0 + (3 + (s.len + get_or sizes (s.level + 1) 0)) < 131072
+  pub before : 3 + s.len ≤ p
+  pub within : p ≤ total
+
+module _ (t : List ℕ) (spots : List NodeSpot) (total room : ℕ) (ns : List TypedNode) (r : ReadyNodes t spots total room ns) (o₀ o sizes : List ℕ)
     (i p : ℕ) (w : NodesWriting ns o₀ o sizes i p) (h : 0 < i) where
   abbrev n : TypedNode
   n = get_or ns (i - 1) no_node
@@ -84,9 +94,6 @@ module _ (t : List ℕ) (spots : List NodeSpot) (count total room : ℕ) (ns : L
   unfolding Chained
   chain = rw split at (chained_drop ns (i - 1) r.chained)
 
-  pub level_low : s.level < 16
-  level_low = omega (arith, spotted.level_is, chain.0)
-
   size_below : get_or sizes (s.level + 1) 0 ≡ trees_size (get_or (trees_at (drop i ns)) (suc n.level) none)
   size_below = rw (w.sizes_are, spotted.level_is, add-one n.level) (size_at (trees_at (drop i ns)) (suc n.level))
 
@@ -95,57 +102,57 @@ module _ (t : List ℕ) (spots : List NodeSpot) (count total room : ℕ) (ns : L
   unfolding total_of
   whole = rw split at (total_drop ns (i - 1))
 
-  pub inside_small : s.len + get_or sizes (s.level + 1) 0 < 65536
+  inside_small : s.len + get_or sizes (s.level + 1) 0 < 65536
   inside_small = omega (arith, size_below, trees_size_low (drop i ns) chain.2 (suc n.level), whole, r.small, r.total_is, spotted.text_at.len_is)
 
-  pub room_before : 3 + s.len ≤ p
-  room_before = omega (arith, w.place, whole, spotted.text_at.len_is)
+  pub spot_bounds : SpotBounds s sizes p total
+  spot_bounds =
+      let e : get_or sizes s.level 0 ≡ trees_size (get_or (trees_at (drop i ns)) s.level none) =
+      rw w.sizes_are (size_at (trees_at (drop i ns)) s.level) in
+      record {
+        level = omega (arith, spotted.level_is, chain.0);
+        inside = inside_small;
+        grown = omega (arith, inside_small, trees_size_low (drop i ns) chain.2 s.level, whole, r.small, r.total_is);
+        before = omega (arith, w.place, whole, spotted.text_at.len_is);
+        within = omega (arith, w.place, r.total_is);
+      }
 
   module _ (inside : ℕ) (ie : inside ≡ s.len + get_or sizes (s.level + 1) 0) where
-    pub grown_small : get_or sizes s.level 0 + 3 + inside < 131072
-    grown_small =
-        let e : get_or sizes s.level 0 ≡ trees_size (get_or (trees_at (drop i ns)) s.level none) =
-        rw w.sizes_are (size_at (trees_at (drop i ns)) s.level) in
-        omega (arith, inside_small, trees_size_low (drop i ns) chain.2 s.level, whole, r.small, r.total_is)
-
     inside_has : inside ≡ inside_of n.item (get_or (trees_at (drop i ns)) (suc n.level) none)
     inside_has = ie ∙ (rw (size_below, spotted.text_at.len_is))
 
-    pub spot_ready : length o ≡ room → SpotReady t s inside (p - 3 - s.len) (length o)
-    spot_ready le = record {
-      on = spotted.text_at.on;
-      within = spotted.text_at.within;
-      small = omega (arith, inside_small);
-      good = record {
-        of = own_text n.item;
-        is = spotted.text_at.text_is;
-        fits = omega (arith, room_before, spotted.text_at.len_is, w.place, r.total_is, r.fits);
-      };
+    pub text_good : length o ≡ room → Good (take (s.end - s.start) (drop s.start t)) (p - (3 + s.len) + 3) (length o)
+    text_good le = record {
+      of = own_text n.item;
+      is = spotted.text_at.text_is;
+      fits = omega (arith, spot_bounds.before, spotted.text_at.len_is, w.place, r.total_is, r.fits);
     }
 
-    flat_more : flat_of (drop (i - 1) ns) ≡ (s.kind ∷ (inside / 256) ∷ (inside % 256) ∷ own_text n.item) ++ flat_of (drop i ns)
+    flat_more : flat_of (drop (i - 1) ns) ≡ (kind_tag s.kind ∷ (inside / 256) ∷ (inside % 256) ∷ own_text n.item) ++ flat_of (drop i ns)
     unfolding flat_of
-    flat_more = rw (split, inside_has, spotted.text_at.kind_is)
+    flat_more = rw (split, inside_has, spotted.text_at.kind_is, tag_is n.item)
 
     sizes_more : {l : List TypedNode} → l ≡ n ∷ drop i ns → map trees_size (push n.level n.item (trees_at (drop i ns))) ≡ map trees_size (trees_at l)
     unfolding trees_at
     sizes_more e = rw e
 
-    placed_at : {l : List TypedNode} → l ≡ n ∷ drop i ns → p - 3 - s.len + total_of l ≡ total_of ns
+    placed_at : {l : List TypedNode} → l ≡ n ∷ drop i ns → p - (3 + s.len) + total_of l ≡ total_of ns
     unfolding total_of
-    placed_at e = rw e (omega (arith, room_before, w.place, spotted.text_at.len_is))
+    placed_at e = rw e (omega (arith, spot_bounds.before, w.place, spotted.text_at.len_is))
 
     pub writing_more : (o' sizes' : List ℕ)
         → ((u : List ℕ) → typed_text (take (s.end - s.start) (drop s.start t)) ≡ text u
-        → o' ≡ sets o (p - 3 - s.len) (s.kind ∷ (inside / 256) ∷ (inside % 256) ∷ u))
-        → sizes' ≡ set (set sizes s.level (get_or sizes s.level 0 + 3 + inside)) (s.level + 1) 0 → NodesWriting ns o₀ o' sizes' (i - 1) (p - 3 - s.len)
+        → o' ≡ sets o (p - (3 + s.len)) (kind_tag s.kind ∷ (inside / 256) ∷ (inside % 256) ∷ u))
+        → sizes' ≡ set (set sizes s.level (get_or sizes s.level 0 + (3 + inside))) (s.level + 1) 0 → NodesWriting ns o₀ o' sizes' (i - 1) (p - (3 + s.len))
     writing_more o' sizes' oe se =
-        let us : List ℕ = s.kind ∷ (inside / 256) ∷ (inside % 256) ∷ own_text n.item in
-        let at : p - 3 - s.len + length us ≡ p = omega (arith, room_before, spotted.text_at.len_is) in
+        let us : List ℕ = kind_tag s.kind ∷ (inside / 256) ∷ (inside % 256) ∷ own_text n.item in
+        let at : p - (3 + s.len) + length us ≡ p = omega (arith, spot_bounds.before, spotted.text_at.len_is) in
+        let g : get_or sizes s.level 0 + (3 + inside) ≡ get_or sizes s.level 0 + 3 + inside = omega arith in
         record {
           within = omega (arith, w.within);
           sizes_are =
               se
+              ∙ ap (λ (m : ℕ). set (set sizes s.level m) (s.level + 1) 0) g
               ∙ (rw (w.sizes_are, spotted.level_is, add-one n.level, inside_has))
               ∙ sym (sizes_push n.level n.item (trees_at (drop i ns)) (omega (arith, chain.0, levels_17 (drop i ns) chain.2))
               (suits n.level n.item (drop i ns) chain.2 chain.1))
@@ -153,11 +160,11 @@ module _ (t : List ℕ) (spots : List NodeSpot) (count total room : ℕ) (ns : L
           place = placed_at split;
           out_is =
               oe (own_text n.item) spotted.text_at.text_is
-              ∙ ap (λ (y : List ℕ). sets y (p - 3 - s.len) us) w.out_is
-              ∙ sets_sets us (flat_of (drop i ns)) o₀ (p - 3 - s.len) p (omega arith)
-              ∙ ap (λ (m : ℕ). sets (sets o₀ (p - 3 - s.len) us) m (flat_of (drop i ns))) (sym at)
-              ∙ sym (sets_append us (flat_of (drop i ns)) o₀ (p - 3 - s.len))
-              ∙ ap (λ (y : List ℕ). sets o₀ (p - 3 - s.len) y) (sym flat_more);
+              ∙ ap (λ (y : List ℕ). sets y (p - (3 + s.len)) us) w.out_is
+              ∙ sets_sets us (flat_of (drop i ns)) o₀ (p - (3 + s.len)) p (omega arith)
+              ∙ ap (λ (m : ℕ). sets (sets o₀ (p - (3 + s.len)) us) m (flat_of (drop i ns))) (sym at)
+              ∙ sym (sets_append us (flat_of (drop i ns)) o₀ (p - (3 + s.len)))
+              ∙ ap (λ (y : List ℕ). sets o₀ (p - (3 + s.len)) y) (sym flat_more);
         }
 
 pub writing_all : (ns : List TypedNode) (o₀ o sizes : List ℕ) (i p : ℕ) → NodesWriting ns o₀ o sizes i p → i ≤ 0 → o ≡ sets o₀ 0 (flat_of ns)
@@ -166,6 +173,3 @@ writing_all ns o₀ o sizes i p w h =
     let q : p + total_of ns ≡ total_of ns = rw e at w.place in
     let z : p ≡ 0 = omega arith in
     rw (e, z) at w.out_is
-
-pub writing_long : (ns : List TypedNode) (o₀ o sizes : List ℕ) (i p : ℕ) → NodesWriting ns o₀ o sizes i p → length o ≡ length o₀
-writing_long ns o₀ o sizes i p w = ap length w.out_is ∙ length-sets o₀ p (flat_of (drop i ns))

@@ -1,19 +1,20 @@
 -- What the functions of this crate require and ensure, beyond the definitions; no theorem mentions it.
-use Rattle.std.specs.Prelude.{◌≡◌, ℕ, ◌+◌, ◌*◌, ◌-◌, ◌≤◌, ◌<◌, ◌/◌, ◌%◌, suc, List, [], ◌∷◌, ◌++◌, length, take, drop, get_or, set, eqb, true, false}
+use Rattle.std.specs.Prelude.{◌≡◌, ℕ, ◌+◌, ◌*◌, ◌-◌, ◌≤◌, ◌<◌, ◌/◌, ◌%◌, suc, List, [], ◌∷◌, ◌++◌, length, take, drop, get_or, eqb, Option, Some, None}
+use Rattle.std.specs.Prelude.{Result, Ok, Err, ⊤}
 use Rattle.common.specs.Choice.{pick}
+use Rattle.common.specs.Refusals.{number_of, refusal_of}
+use Rattle.common.specs.declared.refusal.Refusal.{Refusal}
 use Rattle.tree.specs.Bytes.{tag_of}
-use Rattle.tree.specs.Tree.{Trees, none}
+use Rattle.tree.specs.Tree.{Trees, none, across, down}
 use Rattle.tree.specs.Accepted.{bytes_of*}
-use Rattle.typed.specs.declared.line.Line.{Line}
-use Rattle.typed.specs.declared.scan.NodeSpot.{NodeSpot}
+use Rattle.typed.specs.declared.ListFault.{ListFault}
+use Rattle.typed.specs.declared.Typed.{Typed}
+use Rattle.typed.specs.declared.line.Kind.{Kind}
+use Rattle.typed.specs.declared.line.Kind.TheVariants.{Cell, Row, Column}
+use Rattle.typed.specs.declared.line.NodeSpot.{NodeSpot}
 use Rattle.typed.specs.declared.scan.ScanState.{ScanState}
-use Rattle.typed.specs.declared.scan.Scanned.{Scanned}
-use Rattle.typed.specs.declared.typed_text.Byte.{Byte}
-use Rattle.typed.specs.declared.typed_text.Byte.TheVariants.{Put, Escape, Wrong}
-use Rattle.typed.specs.declared.typed_text.Count.{Count}
-use Rattle.typed.specs.declared.typed_text.TextCheck.{TextCheck}
-use Rattle.typed.specs.declared.typed_text.WriteCursor.{WriteCursor}
-use Rattle.typed.specs.Text.{text, typed_text, Text, wrong}
+use Rattle.typed.specs.declared.typed_text.Misread.{Misread}
+use Rattle.typed.specs.Text.{Byte, Put, Escape, Wrong, text, typed_text, Text, wrong}
 use Rattle.typed.specs.Line.{Item, cell, group, own_text, OneLine, skip, fault, node, is_row, is_column}
 use Rattle.typed.specs.Scan.{TypedNode, TypedScan, stopped, found, place_fault, level_under}
 use Rattle.typed.specs.Typed.{trees_at}
@@ -23,52 +24,86 @@ abbrev pub item_tag : Item → ℕ
 item_tag (cell t) = 1
 item_tag (group a) = tag_of a
 
-unfoldable pub word_kind : List ℕ → ℕ
-word_kind s = pick (is_row s) 2 (pick (is_column s) 3 1)
+abbrev pub kind_tag : Kind → ℕ
+kind_tag Cell = 1
+kind_tag Row = 2
+kind_tag Column = 3
 
-abbrev pub no_line : ℕ → ℕ → Line
-no_line k c = record { number = k; column = c; kind = 0; level = 0; start = 0; end = 0; len = 0 }
+abbrev pub kind_of : Item → Kind
+kind_of (cell t) = Cell
+kind_of (group across) = Row
+kind_of (group down) = Column
 
-abbrev pub level_line : ℕ → ℕ → ℕ → ℕ → ℕ → Line
+abbrev pub word_kind : List ℕ → Kind
+word_kind s = pick (is_row s) Row (pick (is_column s) Column Cell)
+
+abbrev pub misread : ℕ → ℕ → Misread
+misread k c = record { refusal = refusal_of k; column = c }
+
+abbrev pub level_line : ℕ → Kind → ℕ → ℕ → ℕ → Result NodeSpot Misread
 level_line n kind start end len =
-    pick (eqb (n % 2) 0) (record { number = 0; column = n + 1; kind = kind; level = n / 2; start = start; end = end; len = len }) (no_line 33 (n + 1))
+    pick (eqb (n % 2) 0) (Ok (record { kind = kind; level = n / 2; start = start; end = end; len = len })) (Err (misread 33 (n + 1)))
 
 -- the text of the item is in x from `start` up to `end`
-pub record TextAt (x : List ℕ) (item : Item) (kind start end len : ℕ) : Type 0 where
-  pub kind_is : kind ≡ item_tag item
+pub record TextAt (x : List ℕ) (item : Item) (kind : Kind) (start end len : ℕ) : Type 0 where
+  pub kind_is : kind ≡ kind_of item
   pub len_is : len ≡ length (own_text item)
   pub on : start ≤ end
   pub within : end ≤ length x
   pub text_is : typed_text (take (end - start) (drop start x)) ≡ text (own_text item)
 
--- the code's value for a line
-abbrev pub LineTold : List ℕ → OneLine → Line → Type 0
-LineTold x skip l = l ≡ no_line 0 0
-LineTold x (fault k c) l = (0 < k) × (l ≡ no_line k c)
-LineTold x (node d item) l =
-    (l.number ≡ 0) × (l.column ≡ 2 * d + 1) × (l.level ≡ d) × (2 * d ≤ l.start) × TextAt x item l.kind l.start l.end l.len
+-- a node at level d is at s
+pub record SpotAt (x : List ℕ) (d : ℕ) (item : Item) (s : NodeSpot) : Type 0 where
+  pub level_is : s.level ≡ d
+  pub behind : 2 * d ≤ s.start
+  pub text_at : TextAt x item s.kind s.start s.end s.len
 
-abbrev pub line_fault : ScanState → Line → ℕ
-line_fault z l = pick (eqb l.number 0) (pick (eqb l.kind 0) 0 (place_fault z l.level l.len)) l.number
+-- the code's value for a line that is not skipped, and for every line
+abbrev pub SpotTold : List ℕ → OneLine → Result NodeSpot Misread → Type 0
+SpotTold x skip r = ⊥
+SpotTold x (fault k c) r = r ≡ Err (misread k c)
+SpotTold x (node d item) (Ok s) = SpotAt x d item s
+SpotTold x (node d item) (Err f) = ⊥
 
-abbrev pub next_line : ScanState → Line → ScanState
-next_line z l = record { count = z.count + 1; may = pick (eqb l.kind 1) l.level (l.level + 1); total = z.total + 3 + l.len }
+abbrev pub LineTold : List ℕ → OneLine → Result (Option NodeSpot) Misread → Type 0
+LineTold x o (Ok None) = o ≡ skip
+LineTold x o (Ok (Some s)) = SpotTold x o (Ok s)
+LineTold x o (Err f) = SpotTold x o (Err f)
 
-abbrev pub spot_for : Line → ℕ → NodeSpot
-spot_for l from = record { kind = l.kind; level = l.level; start = from + l.start; end = from + l.end; len = l.len }
+-- the answer to a fault's number
+abbrev pub place_result : ℕ → Result ⊤ Refusal
+place_result k = pick (eqb k 0) (Ok tt) (Err (refusal_of k))
+
+-- a line after the nodes so far: its node may be a fault there
+abbrev pub placed_line : ScanState → OneLine → OneLine
+placed_line z skip = skip
+placed_line z (fault k c) = fault k c
+placed_line z (node d item) =
+    let k = place_fault z d (length (own_text item)) in
+    pick (eqb k 0) (node d item) (fault k (2 * d + 1))
+
+-- the deepest level that may follow
+abbrev pub deepest : Kind → ℕ → ℕ
+deepest Cell d = d
+deepest Row d = d + 1
+deepest Column d = d + 1
+
+abbrev pub scan_next : ScanState → NodeSpot → ScanState
+scan_next z s = record { count = z.count + 1; may = deepest s.kind s.level; total = z.total + 3 + s.len }
+
+abbrev pub moved : NodeSpot → ℕ → NodeSpot
+moved s from = record s { start = from + s.start; end = from + s.end }
 
 abbrev pub no_spot : NodeSpot
-no_spot = record { kind = 0; level = 0; start = 0; end = 0; len = 0 }
+no_spot = record { kind = Cell; level = 0; start = 0; end = 0; len = 0 }
 
 abbrev pub no_node : TypedNode
 no_node = record { level = 0; item = cell [] }
 
--- the numbers so far and a line's are small
-pub record SmallLine (z : ScanState) (l : Line) : Type 0 where
+-- the totals so far are small
+pub record SmallState (z : ScanState) : Type 0 where
   pub count : z.count ≤ 512
   pub total : z.total ≤ 32768
-  pub level : l.level ≤ 131072
-  pub len : l.len ≤ 131072
 
 -- the spots are the nodes, whose texts are in the typed list
 pub record Spotted (text : List ℕ) (n : TypedNode) (s : NodeSpot) : Type 0 where
@@ -83,40 +118,33 @@ unfoldable pub total_of : List TypedNode → ℕ
 total_of [] = 0
 total_of (n ∷ ns) = 3 + length (own_text n.item) + total_of ns
 
-pub record NodesFound (text : List ℕ) (ns : List TypedNode) (r : Scanned) : Type 0 where
-  pub number_is : r.number ≡ 0
-  pub count_is : r.count ≡ length ns
-  pub total_is : r.total ≡ total_of ns
-  pub held : SpotsHeld text ns r.spots
+pub record NodesFound (text : List ℕ) (ns : List TypedNode) (spots : List NodeSpot) (z : ScanState) : Type 0 where
+  pub count_is : z.count ≡ length ns
+  pub total_is : z.total ≡ total_of ns
+  pub held : SpotsHeld text ns spots
 
-abbrev pub ScanTold : List ℕ → TypedScan → Scanned → Type 0
-ScanTold s (stopped k l c) r = (0 < k) × (r.number ≡ k) × (r.line ≡ l) × (r.column ≡ c)
-ScanTold s (found ns) r = NodesFound s ns r
+abbrev pub list_fault : ℕ → ℕ → ℕ → ListFault
+list_fault k l c = record { refusal = refusal_of k; line = l; column = c }
 
-abbrev pub checked_text : Text → TextCheck
-checked_text (wrong k i) = record { number = k; count = i }
-checked_text (text t) = record { number = 0; count = length t }
+abbrev pub ScanTold : List ℕ → TypedScan → List NodeSpot → Result ScanState ListFault → Type 0
+ScanTold s (stopped k l c) spots r = r ≡ Err (list_fault k l c)
+ScanTold s (found ns) spots (Ok z) = NodesFound s ns spots z
+ScanTold s (found ns) spots (Err f) = ⊥
 
-abbrev pub counted_byte : Byte → ℕ → Count
-counted_byte (Put c) n = record { number = 0; escaped = false; n = n + 1 }
-counted_byte Escape n = record { number = 0; escaped = true; n = n }
-counted_byte (Wrong k) n = record { number = k; escaped = false; n = n }
+-- the public answer
+abbrev pub answer_of : Result ℕ ListFault → Typed
+answer_of (Ok n) = record { number = 0; count = n; line = 0; column = 0 }
+answer_of (Err f) = record { number = number_of f.refusal; count = 0; line = f.line; column = f.column }
 
--- what the byte puts fits
-abbrev pub Writes : Byte → ℕ → ℕ → Type 0
-Writes (Put c) at room = at < room
-Writes Escape at room = Unit
-Writes (Wrong k) at room = Unit
+-- what a byte does, and what a text is, as the code answers it
+abbrev pub put_of : Byte → Result (Option ℕ) Refusal
+put_of (Put c) = Ok (Some c)
+put_of Escape = Ok None
+put_of (Wrong k) = Err (refusal_of k)
 
--- the pen after a byte, and the output
-pub record ByteWritten : Type 0 where
-  pub pen : WriteCursor
-  pub out : List ℕ
-
-abbrev pub written_of : Byte → ℕ → List ℕ → ByteWritten
-written_of (Put c) at o = record { pen = record { escaped = false; at = at + 1 }; out = set o at c }
-written_of Escape at o = record { pen = record { escaped = true; at = at }; out = o }
-written_of (Wrong k) at o = record { pen = record { escaped = false; at = at }; out = o }
+abbrev pub checked_text : Text → Result ℕ Misread
+checked_text (wrong k i) = Err (misread k (i + 1))
+checked_text (text t) = Ok (length t)
 
 -- s is the typed form of a text, and there is room for it
 pub record Good (s : List ℕ) (at room : ℕ) : Type 0 where
@@ -143,23 +171,16 @@ unfoldable pub Chained : List TypedNode → Type 0
 Chained [] = Unit
 Chained (n ∷ ns) = (n.level < 16) × Starts (level_under n.level n.item) ns × Chained ns
 
--- the text of a node, ready to be written at p
-pub record SpotReady (text : List ℕ) (s : NodeSpot) (inside p room : ℕ) : Type 0 where
-  pub on : s.start ≤ s.end
-  pub within : s.end ≤ length text
-  pub small : inside < 65536
-  pub good : Good (take (s.end - s.start) (drop s.start text)) (p + 3) room
-
 -- nodes that are ready to be written
-pub record ReadyNodes (text : List ℕ) (spots : List NodeSpot) (count total room : ℕ) (ns : List TypedNode) : Type 0 where
-  pub count_is : count ≡ length ns
-  pub few : count ≤ 512
+pub record ReadyNodes (text : List ℕ) (spots : List NodeSpot) (total room : ℕ) (ns : List TypedNode) : Type 0 where
+  pub count_is : length spots ≡ length ns
+  pub few : length spots ≤ 512
   pub total_is : total ≡ total_of ns
   pub small : total ≤ 32768
   pub fits : total ≤ room
   pub chained : Chained ns
   pub held : SpotsHeld text ns spots
 
-pub record SomeReady (text : List ℕ) (spots : List NodeSpot) (count total room : ℕ) : Type 0 where
+pub record SomeReady (text : List ℕ) (spots : List NodeSpot) (total room : ℕ) : Type 0 where
   pub of : List TypedNode
-  pub is : ReadyNodes text spots count total room of
+  pub is : ReadyNodes text spots total room of

@@ -1,8 +1,12 @@
 -- The text of a Cell as it is typed.
 use Rattle.std.specs.Prelude.{ℕ, suc, Bool, true, false, List, [], ◌∷◌, eqb, ltb}
 use Rattle.common.specs.Choice.{pick}
-use Rattle.typed.specs.declared.typed_text.Byte.{Byte}
-use Rattle.typed.specs.declared.typed_text.Byte.TheVariants.{Put, Escape, Wrong}
+
+-- what one byte does: it puts a byte into the text, starts an escape, or is not allowed there, with the fault
+pub data Byte : Type 0 where
+  Put : ℕ → Byte
+  Escape : Byte
+  Wrong : ℕ → Byte
 
 -- What one byte does. After a backslash (92): n (110) is a line feed, a backslash is itself, all else is fault 32.
 -- Elsewhere a backslash starts an escape, hex 20 to 7E are themselves, all else is fault 31.

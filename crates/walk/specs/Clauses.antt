@@ -16,7 +16,7 @@ use Rattle.sizes.specs.Clauses.{Allotted, AllottedIn}
 use Rattle.block.specs.declared.Flags.{Flags}
 use Rattle.layout.specs.Clauses.{flags_number}
 use Rattle.layout.specs.Walk.{Context, Placed, Walked, child_flags, along_list, beside_list, child, walk, children, leaves}
-use Rattle.entries.specs.Clauses.{entry_with, Put, base_of, WroteEntries}
+use Rattle.entries.specs.Clauses.{entry_with, PutEntry, base_of, WroteEntries}
 use Rattle.walk.specs.declared.steps.Group.{Group}
 use Rattle.walk.specs.declared.steps.GroupState.{GroupState}
 use Rattle.walk.specs.declared.steps.NodeResult.{NodeResult}
@@ -101,7 +101,7 @@ pub record LeafPassed (x : Group) (g : GroupState) (p : NextChild) (r : GroupSta
   pub is : r ≡ advance_of x g p (record { next = g.node + 1; along = 1; beside = 1; entry = g.entry + (8 + (p.cut.pair.taken + g.handed)) })
   pub along_is : al ≡ set al₀ g.joined p.extent
   pub beside_is : be ≡ set (set be₀ 0 p.other) (length be₀ - 1) p.other
-  pub put : Put g.entry
+  pub put : PutEntry g.entry
       (entry_with (record { node = g.node; at = x.start + g.at; base = g.base; flags = p.flags }) p.cut.pair
       (pick x.across (taken_in g p al₀) (handed_in g be₀)) (pick x.across (handed_in g be₀) (taken_in g p al₀)))
       r.entry l₀ l

@@ -1,7 +1,7 @@
 use Prim.Native.Nat.{ℕ}
 use native.Mathlib.Omega.{arith}
 use lib.ListN.{length-replicate}
-use Rattle.collector.proofs.Recorded.{few_nodes, branch_ready}
+use Rattle.collector.proofs.Recorded.{few_measured, branch_ready}
 use Rattle.c_encoding.proofs.Measured.{sizes_refused, sizes_short, sizes_written}
 use Rattle.c_api.proofs.leg_sizes.Goals as goal
 
@@ -19,7 +19,7 @@ pub count_below-below-requires : goal.count_below-below-requires
 count_below-below-requires c = branch_ready _ _ _ _ _ c.measure_tree-m.ensures.value c.measure_tree-m.ensures.list c.if-m-ne0.false
 
 pub put_sizes-requires : goal.put_sizes-requires
-put_sizes-requires c = (few_nodes _ _ _ _ _ c.measure_tree-m.ensures.value c.measure_tree-m.ensures.list c.if-m-ne0.false, omega arith)
+put_sizes-requires c = (few_measured _ _ _ _ _ c.measure_tree-m.ensures.value c.measure_tree-m.ensures.list c.if-m-ne0.false, omega arith)
 
 pub returns : goal.returns
 returns c =

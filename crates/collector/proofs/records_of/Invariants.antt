@@ -1,6 +1,6 @@
 use mathlib.Core.Path.{◌≡◌}
 use mathlib.Core.List.{List}
-use Prim.Native.Nat.{ℕ, ◌≤◌, ◌-◌}
+use Prim.Native.Nat.{ℕ}
 use lib.ListN.{length}
 use lib.Seq.{sets}
 use Rattle.common.specs.Arrays.{padded}
@@ -16,9 +16,5 @@ use Rattle.collector.proofs.records_of.Given as goal
 
 abbrev pub invariant-loop-i : goal.invariant-loop-i
 invariant-loop-i l =
-    (l.i ≤ l.n) × ((s : Settings) (t : Tree) (old : List ℕ) → l.list ≡ sets old 0 (flat (tree_sizes s t)) → length old ≡ 2048 → l.n ≡ nodes t
-    → l.below ≡ padded (belows t)
-    → l.out ≡ filled (records_of s t) no_records l.i)
-
-abbrev pub decreases-loop-i : goal.decreases-loop-i
-decreases-loop-i l = l.n - l.i
+    (s : Settings) (t : Tree) (old : List ℕ) → l.list ≡ sets old 0 (flat (tree_sizes s t)) → length old ≡ 2048 → l.n ≡ nodes t → l.below ≡ padded (belows t)
+    → l.out ≡ filled (records_of s t) no_records l.i

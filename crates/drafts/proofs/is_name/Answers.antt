@@ -1,11 +1,12 @@
-use borrow.Author.Tests.{lt-ltb, le-ltb}
+use Rattle.std.proofs.Common.{arith}
+use Rattle.std.proofs.lemmas.Bool.Decides.{nat_tests}
 use Rattle.drafts.specs.Store.{is_name}
 use Rattle.drafts.proofs.is_name.Goals as goal
 
-pub returns-then-n-lt65 : goal.returns-then-n-lt65
+pub returns-then-n-ge65 : goal.returns-then-n-ge65
 unfolding is_name
-returns-then-n-lt65 c = rw (lt-ltb _ 65 c.if-n-lt65.true)
+returns-then-n-ge65 c = grind (arith, nat_tests)
 
-pub returns : goal.returns
+pub returns-else-n-ge65 : goal.returns-else-n-ge65
 unfolding is_name
-returns c = rw (le-ltb _ 65 c.if-n-lt65.false)
+returns-else-n-ge65 c = grind (arith, nat_tests)

@@ -1,12 +1,6 @@
-use mathlib.Core.Path.{refl}
-use native.Mathlib.Omega.{arith}
 use Rattle.drafts.specs.Store.{tag_for}
 use Rattle.drafts.proofs.tag_of.Goals as goal
 
-pub returns-then-n-lt33 : goal.returns-then-n-lt33
+pub returns : goal.returns
 unfolding tag_for
-returns-then-n-lt33 c = omega (arith, c.if-n-lt33.true)
-
-pub returns-else-n-lt33 : goal.returns-else-n-lt33
-unfolding tag_for
-returns-else-n-lt33 c = refl
+returns c = c.saturating_sub.ensures

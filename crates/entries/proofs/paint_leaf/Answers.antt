@@ -51,12 +51,12 @@ overflow_add-stop c = omega (
   c.length_at.ensures.small,
 )
 
-pub natural_at-natural-requires : goal.natural_at-natural-requires
-natural_at-natural-requires c = in_list c.requires.begins _
+pub natural_at-requires : goal.natural_at-requires
+natural_at-requires c = in_list c.requires.begins _
     c.entry_at-e.ensures
 
-pub allotted_at-size-requires : goal.allotted_at-size-requires
-allotted_at-size-requires c = in_list c.requires.begins _
+pub allotted_at-requires : goal.allotted_at-requires
+allotted_at-requires c = in_list c.requires.begins _
     c.entry_at-e.ensures
 
 pub slice_bounds-paint_block-end : goal.slice_bounds-paint_block-end
@@ -85,10 +85,10 @@ slice_bounds-paint_block-end-3 c = omega (arith, in_entry c.requires.begins _ c.
 pub paint_block-requires : goal.paint_block-requires
 paint_block-requires c = let a = c.args in
     rw (base_is c.requires.begins _ c.entry_at-e.ensures _
-    (c.length_at.ensures.value ∙ rw (part_to_end a.tree.now c.entry_at-e.result.spot.at)) _ _ c.natural_at-natural.ensures.value
-    c.allotted_at-size.ensures.value _ c.flags_of-flags.ensures) (paintable c.requires.begins _ c.entry_at-e.ensures _
-    (c.length_at.ensures.value ∙ rw (part_to_end a.tree.now c.entry_at-e.result.spot.at)) _ _ c.natural_at-natural.ensures.value
-    c.allotted_at-size.ensures.value _ c.flags_of-flags.ensures c.requires.short c.allotted_at-size.ensures.small _ _ _ c.requires.asks.fits
+    (c.length_at.ensures.value ∙ rw (part_to_end a.tree.now c.entry_at-e.result.spot.at)) _ _ c.natural_at.ensures.value
+    c.allotted_at.ensures.value _ c.flags_of.ensures) (paintable c.requires.begins _ c.entry_at-e.ensures _
+    (c.length_at.ensures.value ∙ rw (part_to_end a.tree.now c.entry_at-e.result.spot.at)) _ _ c.natural_at.ensures.value
+    c.allotted_at.ensures.value _ c.flags_of.ensures c.requires.short c.allotted_at.ensures.small _ _ _ c.requires.asks.fits
     c.requires.asks.apart c.requires.asks.room)
 
 pub returns : goal.returns
@@ -97,5 +97,5 @@ returns c = λ q.
       count_is q.begins _ c.entry_at-e.ensures,
       c.paint_block.ensures ∙ painted_is q.begins _ c.entry_at-e.ensures _
           (c.length_at.ensures.value ∙ rw (part_to_end a.tree.now c.entry_at-e.result.spot.at)) _ _
-          c.natural_at-natural.ensures.value c.allotted_at-size.ensures.value _ c.flags_of-flags.ensures a.out.now,
+          c.natural_at.ensures.value c.allotted_at.ensures.value _ c.flags_of.ensures a.out.now,
     )

@@ -11,13 +11,3 @@ product a b p q = let m = mul-le-mul {n₁ = a} {m₁ = b} {n₂ = 66050} {m₂ 
 
 pub overflow_mul-stride : goal.overflow_mul-stride
 overflow_mul-stride c = product _ _ (omega arith) (omega arith)
-
-pub returns : goal.returns
-returns c = rw (
-  c.saturating_dec.ensures,
-  c.wide-4.ensures.value,
-  c.wide-3.ensures.value,
-  c.wide-2.ensures.value,
-  c.wide.ensures.value,
-  c.separator-edges.ensures.value,
-)

@@ -44,14 +44,14 @@ returns-then-out-n c = λ q.
     let size = c.allotted_at-size.ensures in
     print_refused c.refused.ensures
     (print_no_room q.begins _ c.entry_at-e.ensures _ size.value _ c.flags_of-flags.ensures size.small _ c.block_width-width.ensures _
-    c.block_height-height.ensures q.fits _ c.saturating_dec-n.ensures _ c.if-out-n.true)
+    c.block_height-height.ensures q.fits _ c.saturating_sub-n.ensures _ c.if-out-n.true)
 
 pub end_lines-requires : goal.end_lines-requires
 end_lines-requires c =
     let q = c.requires in
     let size = c.allotted_at-size.ensures in
     ends_room q.begins _ c.entry_at-e.ensures _ size.value _ c.flags_of-flags.ensures size.small _ c.block_width-width.ensures _
-    c.block_height-height.ensures q.fits _ c.saturating_dec-n.ensures _ c.if-out-n.false
+    c.block_height-height.ensures q.fits _ c.saturating_sub-n.ensures _ c.if-out-n.false
 
 pub bounds-leaf-2 : goal.bounds-leaf-2
 bounds-leaf-2 c = omega (arith, long c.requires.begins)
@@ -67,7 +67,7 @@ paint_leaves-requires c =
     let q = c.requires in
     let size = c.allotted_at-size.ensures in
     paints q.begins _ c.entry_at-e.ensures _ size.value _ c.flags_of-flags.ensures size.small _ c.block_width-width.ensures _
-    c.block_height-height.ensures q.fits _ c.saturating_dec-n.ensures q.short c.args.out.now c.if-out-n.false _
+    c.block_height-height.ensures q.fits _ c.saturating_sub-n.ensures q.short c.args.out.now c.if-out-n.false _
     (same (goal.at.paint_leaves-requires c).After-end_lines) _ refl
 
 pub returns : goal.returns
@@ -76,7 +76,7 @@ returns c = λ q.
     let size = c.allotted_at-size.ensures in
     let keeps = same (goal.at.returns c).After-end_lines in
     let p = paints q.begins _ c.entry_at-e.ensures _ size.value _ c.flags_of-flags.ensures size.small _ c.block_width-width.ensures _
-    c.block_height-height.ensures q.fits _ c.saturating_dec-n.ensures q.short out c.if-out-n.false _ keeps _ refl in
+    c.block_height-height.ensures q.fits _ c.saturating_sub-n.ensures q.short out c.if-out-n.false _ keeps _ refl in
     alone_whole q.begins _ c.entry_at-e.ensures _ size.value _ c.flags_of-flags.ensures size.small _ c.block_width-width.ensures _
-    c.block_height-height.ensures q.fits _ c.saturating_dec-n.ensures q.short out c.if-out-n.false _ keeps _ refl _ _ c.end_lines.ensures
+    c.block_height-height.ensures q.fits _ c.saturating_sub-n.ensures q.short out c.if-out-n.false _ keeps _ refl _ _ c.end_lines.ensures
     (c.paint_leaves.ensures p)

@@ -1,27 +1,20 @@
-use mathlib.Core.Path.{◌≡◌, sym, ap, ◌∙◌}
-use lib.ListN.{length}
-use Rattle.frame.proofs.Printers.{print_refused}
-use Rattle.leaf.proofs.Records.{shows_part}
-use Rattle.leaf.proofs.Parts.{part_of}
+use mathlib.Core.Path.{sym, ap, ◌∙◌}
 use borrow.Author.Rules.{rules}
+use Rattle.frame.proofs.Printers.{print_refused}
+use Rattle.leaf.proofs.Calls.{met}
 use Rattle.leaf.proofs.print_leaf.Goals as goal
 
-pub returns-then-q-ne0 : goal.returns-then-q-ne0
-returns-then-q-ne0 c =
-    let both = print_refused c.refused.ensures ((c.seek_leaf-q.ensures.seeks.refuses c.if-q-ne0.true).print_is _) in
-    record { value = both.0; shown = both.1 }
-
 pub print_block-requires : goal.print_block-requires
-print_block-requires c =
-    let d = c.seek_leaf-q in
-    let n : length d.new.leaves ≡ 5120 = search rules in
-    shows_part _ (part_of d.new.leaves d.result.entry 5120 n) (d.ensures.seeks.meets c.if-q-ne0.false).shows
+print_block-requires c = (met c.seek_leaf.new.leaves _ 5120 (search rules) c.in-Ok.ensures.seeks.meets).shows
 
-pub returns : goal.returns
-returns c =
-    let d = c.seek_leaf-q in
-    let n : length d.new.leaves ≡ 5120 = search rules in
-    let m = d.ensures.seeks.meets c.if-q-ne0.false in
-    let w = c.print_block.ensures (shows_part _ (part_of d.new.leaves d.result.entry 5120 n) m.shows) in
+pub returns-in-Ok : goal.returns-in-Ok
+returns-in-Ok c =
+    let m = met c.seek_leaf.new.leaves _ 5120 (search rules) c.in-Ok.ensures.seeks.meets in
+    let w = c.print_block.ensures m.shows in
     let e = m.print_is c.args.out.now in
     record { value = w.0 ∙ ap (λ x. x.answer) (sym e); shown = w.1 ∙ ap (λ x. x.memory) (sym e) }
+
+pub returns-in-Err : goal.returns-in-Err
+returns-in-Err c =
+    let both = print_refused c.refused.ensures (c.in-Err.ensures.seeks.print_is _) in
+    record { value = both.0; shown = both.1 }

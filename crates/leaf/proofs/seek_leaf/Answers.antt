@@ -1,11 +1,10 @@
 use mathlib.Core.Path.{◌≡◌, sym, ◌∙◌}
 use Prim.Native.Nat.{◌≤◌}
-use native.Mathlib.Omega.{arith}
 use lib.ListN.{length}
 use lib.Seq.{length-take-le}
 use borrow.Author.Rules.{rules}
 use Rattle.walk.proofs.Inputs.{Taken, taken, call_large, call_stride, FitsSheet, walk_ready, list_end_in}
-use Rattle.leaf.proofs.Calls.{refuses_input, refuses_large, seeks_none, lists, seeks_hit, misses}
+use Rattle.leaf.proofs.Calls.{refuses_input, refuses_large, lists, seeks_hit, misses}
 use Rattle.leaf.proofs.seek_leaf.Goals as goal
 use Rattle.leaf.proofs.seek_leaf.Goals.{Else-m-ne0, Else-is_large, After-walk_tree-n}
 
@@ -31,15 +30,13 @@ module _ (c : After-walk_tree-n) (k : let m = c.measure_tree-m in FitsSheet c.ar
     front = let g = c.separator.ensures.value in list_end_in k _ _ g c.requires _ _ _ (c.walk_tree-n.ensures (walk_ready k _ _ g c.requires))
 
 pub returns-then-m-ne0-clause-seeks : goal.returns-then-m-ne0-clause-seeks
-returns-then-m-ne0-clause-seeks c =
-    let refused = c.if-m-ne0.true in
-    seeks_none _ _ _ _ _ _ _ _ c.none_sought.ensures refused (refuses_input _ _ _ _ c.measure_tree-m.ensures.value refused)
+returns-then-m-ne0-clause-seeks c = refuses_input _ _ _ _ c.measure_tree-m.ensures.value c.if-m-ne0.true
 
 pub returns-then-is_large-clause-seeks : goal.returns-then-is_large-clause-seeks
 returns-then-is_large-clause-seeks c =
     let k = took (goal.at.returns-then-is_large-clause-seeks c).Else-m-ne0 in
     let large = sym (call_large k c.natural_at.ensures.value c.frame_of-f.ensures) ∙ sym c.is_large.ensures ∙ c.if-is_large.true in
-    seeks_none _ _ _ _ _ _ 6 _ c.none_sought-then-is_large.ensures (λ z. omega arith) (refuses_large _ _ _ _ _ k.input large)
+    rw c.number.ensures (refuses_large _ _ _ _ _ k.input large)
 
 pub walk_tree-n-requires : goal.walk_tree-n-requires
 walk_tree-n-requires c =
@@ -63,6 +60,15 @@ find_leaf-found-requires c =
     let g = c.separator.ensures.value in
     lists k _ _ g c.requires _ _ _ (c.walk_tree-n.ensures (walk_ready k _ _ g c.requires))
 
+pub returns-else-found-clause-seeks : goal.returns-else-found-clause-seeks
+returns-else-found-clause-seeks c =
+    let p = goal.at.returns-else-found-clause-seeks c in
+    let k = fits p.Else-is_large (took p.Else-m-ne0) in
+    let g = c.separator.ensures.value in
+    let w = c.walk_tree-n.ensures (walk_ready k _ _ g c.requires) in
+    rw c.number-else-found.ensures
+    (misses k _ _ g c.requires _ _ _ w _ _ (c.find_leaf-found.ensures (lists k _ _ g c.requires _ _ _ w)) c.if-found.false)
+
 pub returns-then-found-clause-seeks : goal.returns-then-found-clause-seeks
 returns-then-found-clause-seeks c =
     let p = goal.at.returns-then-found-clause-seeks c in
@@ -70,12 +76,3 @@ returns-then-found-clause-seeks c =
     let g = c.separator.ensures.value in
     let w = c.walk_tree-n.ensures (walk_ready k _ _ g c.requires) in
     seeks_hit k _ _ g c.requires _ _ _ w _ _ (c.find_leaf-found.ensures (lists k _ _ g c.requires _ _ _ w)) c.if-found.true
-
-pub returns-clause-seeks : goal.returns-clause-seeks
-returns-clause-seeks c =
-    let p = goal.at.returns-clause-seeks c in
-    let k = fits p.Else-is_large (took p.Else-m-ne0) in
-    let g = c.separator.ensures.value in
-    let w = c.walk_tree-n.ensures (walk_ready k _ _ g c.requires) in
-    let missed = misses k _ _ g c.requires _ _ _ w _ _ (c.find_leaf-found.ensures (lists k _ _ g c.requires _ _ _ w)) c.if-found.false in
-    seeks_none _ _ _ _ _ _ 9 _ c.none_sought-2.ensures (λ z. omega arith) missed

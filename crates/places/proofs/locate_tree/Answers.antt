@@ -12,16 +12,16 @@ abbrev root_at : After-separator → Siblings
 root_at c = record {
   across = true;
   gap = c.separator.result;
-  start = record { line = c.wide.result; column = c.wide-2.result; last_row = true; last_col = true };
+  start = record { line = c.from.result; column = c.from-2.result; last_row = true; last_col = true };
 }
 
 root_is : (c : After-separator) → let s = c.args.s in root_at c ≡ record { across = true; gap = sep s; start = root_anchor s }
-root_is c = rw (c.separator.ensures.value, c.wide-2.ensures.value, c.wide.ensures.value)
+root_is c = rw (c.separator.ensures.value, c.from-2.ensures, c.from.ensures)
 
-pub locate_node-r-requires : goal.locate_node-r-requires
-locate_node-r-requires c = root_asks _ _ _ _ _ (root_is (goal.at.locate_node-r-requires c).After-separator) c.requires
+pub locate_node-requires : goal.locate_node-requires
+locate_node-requires c = root_asks _ _ _ _ _ (root_is (goal.at.locate_node-requires c).After-separator) c.requires
 
 pub returns : goal.returns
 returns c = λ q.
     let e = root_is (goal.at.returns c).After-separator in
-    root_gives _ _ _ _ _ e q _ _ _ _ _ (c.locate_node-r.ensures (root_asks _ _ _ _ _ e q))
+    root_gives _ _ _ _ _ e q _ _ _ _ _ (c.locate_node.ensures (root_asks _ _ _ _ _ e q))

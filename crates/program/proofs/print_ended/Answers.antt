@@ -17,8 +17,8 @@ there c z = (told c).yes z
 pub returns-then-w-ne0 : goal.returns-then-w-ne0
 returns-then-w-ne0 c = refused_ended _ _ _ _ c.if-w-ne0.true ((told (goal.at.returns-then-w-ne0 c).After-print_sheet-w).no c.if-w-ne0.true)
 
-pub bounds-out-n : goal.bounds-out-n
-bounds-out-n c = omega (arith, (there (goal.at.bounds-out-n c).After-print_sheet-w c.if-w-ne0.false).room, c.print_sheet-w.auto.out, c.requires)
+pub bounds-out-w : goal.bounds-out-w
+bounds-out-w c = omega (arith, (there (goal.at.bounds-out-w c).After-print_sheet-w c.if-w-ne0.false).room, c.print_sheet-w.auto.out, c.requires)
 
 pub overflow_add-result : goal.overflow_add-result
 overflow_add-result c = omega (arith, (there (goal.at.overflow_add-result c).After-print_sheet-w c.if-w-ne0.false).room)

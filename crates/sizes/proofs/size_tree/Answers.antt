@@ -1,8 +1,5 @@
 use Rattle.sizes.proofs.WholeTree.{allot_ready}
 use Rattle.sizes.proofs.size_tree.Goals as goal
 
-pub allot_tree-requires : goal.allot_tree-requires
-allot_tree-requires c = allot_ready _ _ c.requires _ _ _ (c.collect_tree.ensures c.requires)
-
 pub returns : goal.returns
 returns c = λ q. c.allot_tree.ensures (allot_ready _ _ q _ _ _ (c.collect_tree.ensures q))

@@ -5,24 +5,9 @@ use Rattle.text.proofs.past_plain.Goals as goal
 pub loop-i-init : goal.loop-i-init
 loop-i-init c = (c.requires, passed_none _ _ (omega arith))
 
-pub is_plain-requires : goal.is_plain-requires
-is_plain-requires c = let w = c.loop-i.invariant.0 in omega arith
-
-pub returns-then-not-is_plain : goal.returns-then-not-is_plain
-returns-then-not-is_plain c = c.loop-i.invariant
-
-pub overflow_add-i : goal.overflow_add-i
-overflow_add-i c = let w = c.loop-i.invariant.0 in omega arith
-
-pub loop-i-smaller : goal.loop-i-smaller
-loop-i-smaller c = omega arith
-
 pub loop-i-preserved : goal.loop-i-preserved
 loop-i-preserved c = let l = c.loop-i in
     let w = l.invariant.0 in (
       record { on = omega arith; within = w.within; parts = omega arith },
       passed_on _ _ l.i l.invariant.1 32 (omega arith) (c.is_plain.ensures c.if-not-is_plain.false),
     )
-
-pub returns : goal.returns
-returns c = c.loop-i.invariant

@@ -1,70 +1,53 @@
 -- The two readers call each other. The measure of a group is its bytes, that of a sequence one more; a sequence's loop reads one element a turn, a Cell by
 -- itself.
-use Rattle.std.proofs.Common.{◌∙◌, sym, refl, arith, Bool, ℕ, List, ◌+◌, ◌-◌, ◌<◌, ◌≤◌, length, take, drop}
-use Rattle.tree.specs.Clauses.{begun_fits, GroupFront}
-use Rattle.tree.specs.declared.ElementBegun.{ElementBegun}
-use Rattle.tree.specs.declared.Step.{Step}
-use Rattle.tree.proofs.Steps.{element_group, fuelled, part_length, begins, stops, faulty, element_read, ends_in}
+use Rattle.std.proofs.Common.{◌≡◌, arith, ℕ, ◌-◌, ◌≤◌, true, false, ◌==◌, List, length, take, drop, length-drop}
+use borrow.Author.Rules.{part_to_end}
+use Rattle.std.proofs.lemmas.Bool.Decides.{nat_tests}
+use Rattle.std.proofs.lemmas.Result.{err_from_is_err_and}
+use Rattle.tree.proofs.Steps.{element_group, sequence_refused, sequence_follows, sequence_ends}
 use Rattle.tree.proofs.+read_group_read_sequence.Goals as goal
 
--- ---- the group
+pub read_group-returns : goal.read_group-returns
+read_group-returns t c = element_group _ _ _ _ _ c.requires _ c.read_sequence.ensures
 
-inside_shorter : (s : List ℕ) (end m : ℕ) → 3 ≤ end → end ≤ length s → length s ≤ m → length (take (end - 3) (drop 3 s)) + 1 < m
-inside_shorter s end m h e k = rw (part_length s 3 end h e) (omega arith)
+none : (n : ℕ) → true ≡ (n == 0) → n ≡ 0
+none n e = grind (arith, nat_tests)
 
-group_ends : (p : Bool) (d n : ℕ) (s : List ℕ) (end : ℕ) → GroupFront p d n s end → (3 ≤ end) × (end ≤ length s)
-group_ends p d n s end k = (omega (arith, k.end_is), omega (arith, k.end_is, k.fits.0))
+some : (n : ℕ) → false ≡ (n == 0) → n ≡ 0 → ⊥
+some n e h = let z : false ≡ (0 == 0) = rw h at e in cc
 
-pub read_group-returns-in-Fault-clause-by_index : goal.read_group-returns-in-Fault-clause-by_index
-read_group-returns-in-Fault-clause-by_index t c =
-    let h = group_ends _ _ _ _ _ c.requires in
-    fuelled _ _ (λ g k. sym
-    (element_group _ g _ _ _ _ _ c.requires
-    (sym c.in-Fault.is ∙ c.read_sequence-q.ensures g (inside_shorter c.args.s.now c.args.end g h.0 h.1 k))))
+shorter : (r : List ℕ) (n m : ℕ) → length r ≤ m → length (take (length r - n) (drop n r)) ≤ m
+shorter r n m h = rw (part_to_end r n, length-drop) (omega arith)
 
-pub read_group-returns-in-Whole-clause-by_index : goal.read_group-returns-in-Whole-clause-by_index
-read_group-returns-in-Whole-clause-by_index t c =
-    let h = group_ends _ _ _ _ _ c.requires in
-    fuelled _ _ (λ g k. sym
-    (element_group _ g _ _ _ _ _ c.requires
-    (sym c.in-Whole.is ∙ c.read_sequence-q.ensures g (inside_shorter c.args.s.now c.args.end g h.0 h.1 k))))
-
--- ---- the sequence
-
-pub read_sequence-loop-at-init : goal.read_sequence-loop-at-init
-read_sequence-loop-at-init t c = (omega arith, λ f h. begins _ _ _ _ f h)
-
-pub read_sequence-returns-in-Fault : goal.read_sequence-returns-in-Fault
-read_sequence-returns-in-Fault t c =
-    let l = c.loop-at in
-    λ f h. sym (faulty _ _ _ _ f l.at l.n (l.invariant.1 f h) (Step.Fault c.in-Fault.k) c.loop-at-test.true (rw c.in-Fault.is at c.read_cell-c.ensures) _ refl)
+pub read_sequence-returns-in_err-size : goal.read_sequence-returns-in_err-size
+read_sequence-returns-in_err-size t c =
+    let p = err_from_is_err_and c.from_residual.result c.from_residual.ensures.1 in
+    rw (p.1, p.2) (c.loop-rest.invariant.same _ (sequence_refused _ _ _ _ (some _ c.loop-rest-test.ensures) _ c.in_err-size.ensures))
 
 -- a Cell is read
-pub read_sequence-loop-at-preserved-in-Cell : goal.read_sequence-loop-at-preserved-in-Cell
-read_sequence-loop-at-preserved-in-Cell t c =
-    let l = c.loop-at in
-    let a = c.args in
-    let cell : begun_fits a.planning a.depth l.n (take (length a.s.now - l.at) (drop l.at a.s.now)) (ElementBegun.Cell c.in-Cell.used) = rw c.in-Cell.is
-    at c.read_cell-c.ensures in
-    let e = ends_in a.s.now l.at c.in-Cell.used c.loop-at-test.true cell.1 in (
-      e.1,
-      λ f h. element_read _ _ _ _ f l.at l.n (l.invariant.1 f h) (Step.Whole c.in-Cell.used (l.n + 1)) c.loop-at-test.true cell.0 _ _ refl e.0 e.1,
-    )
+pub read_sequence-loop-rest-preserved-in-Leaf : goal.read_sequence-loop-rest-preserved-in-Leaf
+read_sequence-loop-rest-preserved-in-Leaf t c =
+    let k = rw c.in-Leaf.is at c.in_ok-size.ensures in
+    record {
+      within = shorter _ _ _ c.loop-rest.invariant.within;
+      same = λ r h. c.loop-rest.invariant.same r (sequence_follows _ _ _ _ (some _ c.loop-rest-test.ensures) _ _ k.is k.low k.whole r h);
+    }
 
 -- a Row or a Column is read
-pub read_sequence-returns-in-Fault-e : goal.read_sequence-returns-in-Fault-e
-read_sequence-returns-in-Fault-e t c =
-    let l = c.loop-at in
-    λ f h. sym (faulty _ _ _ _ f l.at l.n (l.invariant.1 f h) c.read_group-e.result c.loop-at-test.true c.read_group-e.ensures.by_index _ c.in-Fault-e.is)
+pub read_sequence-returns-in_err-nodes-in-Group : goal.read_sequence-returns-in_err-nodes-in-Group
+read_sequence-returns-in_err-nodes-in-Group t c =
+    let p = err_from_is_err_and c.from_residual-in_err-nodes-in-Group.result c.from_residual-in_err-nodes-in-Group.ensures.1 in
+    rw (p.1, p.2) (c.loop-rest.invariant.same _ (sequence_refused _ _ _ _ (some _ c.loop-rest-test.ensures) _ c.in_err-nodes-in-Group.ensures))
 
-pub read_sequence-loop-at-preserved : goal.read_sequence-loop-at-preserved
-read_sequence-loop-at-preserved t c =
-    let l = c.loop-at in
-    let r = c.read_group-e in
-    let e = ends_in c.args.s.now l.at c.in-Whole.used c.loop-at-test.true c.in-Whole.ensures.fits in (
-      e.1,
-      λ f h. element_read _ _ _ _ f l.at l.n (l.invariant.1 f h) r.result c.loop-at-test.true r.ensures.by_index _ _ c.in-Whole.is e.0 e.1,
-    )
+pub read_sequence-loop-rest-preserved : goal.read_sequence-loop-rest-preserved
+read_sequence-loop-rest-preserved t c =
+    let k = rw c.in-Group.is at c.in_ok-size.ensures in
+    let r = c.in_ok-nodes-in-Group.ensures in
+    let low : 3 ≤ c.in-Group.size = omega (arith, k.end_is) in
+    record {
+      within = shorter _ _ _ c.loop-rest.invariant.within;
+      same = λ x h. c.loop-rest.invariant.same x (sequence_follows _ _ _ _ (some _ c.loop-rest-test.ensures) _ _ r low k.whole x h);
+    }
 
 pub read_sequence-returns : goal.read_sequence-returns
-read_sequence-returns t c = λ f h. sym (stops _ _ _ _ f _ _ (c.loop-at.invariant.1 f h) c.loop-at-test.false)
+read_sequence-returns t c = c.loop-rest.invariant.same _ (sequence_ends _ _ _ _ (none _ c.loop-rest-test.ensures))

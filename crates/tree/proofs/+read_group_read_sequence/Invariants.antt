@@ -1,5 +1,6 @@
-use Rattle.std.proofs.Common.{ℕ, ◌+◌, ◌-◌, ◌<◌, ◌≤◌, length}
-use Rattle.tree.proofs.Steps.{ElementsLeft}
+use Rattle.std.proofs.Common.{ℕ, ◌+◌, ◌≤◌, length, Result}
+use Rattle.common.specs.declared.refusal.Refusal.{Refusal}
+use Rattle.tree.specs.Clauses.{ElementsAre}
 use Rattle.tree.proofs.+read_group_read_sequence.Given as goal
 
 abbrev pub decreases-read_group : goal.decreases-read_group
@@ -8,9 +9,12 @@ decreases-read_group l = length l.s.now
 abbrev pub decreases-read_sequence : goal.decreases-read_sequence
 decreases-read_sequence l = length l.s.now + 1
 
--- the elements before `at` are read
-abbrev pub invariant-read_sequence-loop-at : goal.invariant-read_sequence-loop-at
-invariant-read_sequence-loop-at l = (l.at ≤ length l.s) × ((f : ℕ) → length l.s + 1 < f → ElementsLeft l.planning l.s l.depth l.count f l.at l.n)
+-- what is read of the rest is read of the whole
+abbrev pub invariant-read_sequence-loop-rest : goal.invariant-read_sequence-loop-rest
+invariant-read_sequence-loop-rest l = record {
+  within : length l.rest ≤ length l.s;
+  same : (r : Result ℕ Refusal) → ElementsAre l.planning l.depth l.nodes l.rest r → ElementsAre l.planning l.depth l.count l.s r;
+}
 
-abbrev pub decreases-read_sequence-loop-at : goal.decreases-read_sequence-loop-at
-decreases-read_sequence-loop-at l = length l.s - l.at
+abbrev pub decreases-read_sequence-loop-rest : goal.decreases-read_sequence-loop-rest
+decreases-read_sequence-loop-rest l = length l.rest

@@ -1,49 +1,30 @@
-use borrow.Author.Rules.{rules}
-use mathlib.Core.Path.{◌≡◌, refl, sym, ◌∙◌}
-use Prim.Native.Nat.{ℕ, suc, ◌+◌, ◌<◌, ◌≤◌, ◌-◌}
-use mathlib.Core.List.{List}
-use mathlib.Core.Bool.{Bool, true, false}
-use native.Mathlib.Omega.{arith}
-use native.Mathlib.Nat.{add-zero, sub-zero}
-use lib.ListN.{length, get_or, take, drop}
-use lib.Seq.{drop-cons}
-use Rattle.common.specs.Choice.{pick, both}
+use Rattle.std.proofs.Common.{◌≡◌, refl, sym, ◌∙◌, ℕ, ◌+◌, ◌<◌, ◌≤◌, Bool, true, false, ◌&&◌, List, length, get_or, drop, drop-cons, add-one}
+use lib.ListN.{drop_of_length-le}
+use Rattle.common.specs.Choice.{pick}
 use Rattle.tree.specs.Reading.{is_text, is_text_byte}
 use Rattle.tree.proofs.are_text.Goals as goal
 
 -- The loop's invariant: the bytes are allowed where those tested are and those left are.
-one_more : (g b r : Bool) → pick g (pick b r false) false ≡ pick (both g b) r false
+one_more : (g b r : Bool) → pick g (pick b r false) false ≡ pick (g && b) r false
 one_more true true r = refl
 one_more true false r = refl
-one_more false true r = refl
-one_more false false r = refl
+one_more false b r = refl
 
 all_met : (g : Bool) → pick g true false ≡ g
 all_met true = refl
 all_met false = refl
 
-text_more : (s : List ℕ) (at n i : ℕ) (g : Bool) → at + n ≤ length s → i < n
-    → pick g (is_text (take (n - i) (drop (at + i) s))) false
-    ≡ pick (both g (is_text_byte (get_or s (at + i) 0))) (is_text (take (n - (i + 1)) (drop (at + (i + 1)) s))) false
+text_more : (s : List ℕ) (i : ℕ) (g : Bool) → i < length s
+    → pick g (is_text (drop i s)) false ≡ pick (g && is_text_byte (get_or s i 0)) (is_text (drop (i + 1) s)) false
 unfolding is_text
-text_more s at n i g h k =
-    let e : n - i ≡ suc (n - (i + 1)) = omega arith in
-    let q : at + (i + 1) ≡ suc (at + i) = omega arith in
-    rw (e, drop-cons s (at + i) 0 (omega arith), q) (one_more g (is_text_byte (get_or s (at + i) 0)) (is_text (take (n - (i + 1)) (drop (suc (at + i)) s))))
+text_more s i g k = rw (drop-cons s i 0 k, add-one) (one_more g (is_text_byte (get_or s i 0)) _)
 
-text_end_lem : (s : List ℕ) (at n i : ℕ) (g : Bool) → n ≤ i → pick g (is_text (take (n - i) (drop (at + i) s))) false ≡ g
+text_end : (s : List ℕ) (i : ℕ) (g : Bool) → length s ≤ i → pick g (is_text (drop i s)) false ≡ g
 unfolding is_text
-text_end_lem s at n i g h = let e : n - i ≡ 0 = omega arith in rw e (all_met g)
+text_end s i g h = rw (drop_of_length-le s h) (all_met g)
 
-pub loop-i-init : goal.loop-i-init
-loop-i-init c = (omega arith, rw (sub-zero, add-zero))
-
-pub loop-i-preserved : goal.loop-i-preserved
-loop-i-preserved c = let l = c.loop-i in (
-  search rules,
-  l.invariant.1 ∙ text_more _ _ _ l.i l.good (omega arith) c.loop-i-test.true
-      ∙ rw (c.both-good.ensures, c.is_text_byte.ensures),
-)
+pub loop-b-preserved : goal.loop-b-preserved
+loop-b-preserved c = c.loop-b.invariant ∙ text_more _ c.loop-b.b-index c.loop-b.good c.loop-b-test.true ∙ rw c.is_text_byte-good.ensures
 
 pub returns : goal.returns
-returns c = let l = c.loop-i in sym (l.invariant.1 ∙ text_end_lem _ _ _ l.i l.good c.loop-i-test.false)
+returns c = sym (c.loop-b.invariant ∙ text_end _ _ c.loop-b.good c.loop-b-test.false)

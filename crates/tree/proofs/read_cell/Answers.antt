@@ -1,78 +1,37 @@
-use mathlib.Core.Path.{◌≡◌, refl, sym, ◌∙◌}
-use Prim.Native.Nat.{◌+◌, ◌≤◌, ◌<◌}
-use native.Mathlib.Omega.{arith}
-use lib.ListN.{length}
+use Rattle.std.proofs.Common.{◌≡◌, arith}
+use Rattle.std.proofs.lemmas.Result.{err_from_is_err_and}
 use Rattle.tree.specs.Planning.{header_in}
-use Rattle.tree.specs.declared.Header.TheVariants.{Element}
-use Rattle.tree.proofs.Steps.{element_fault, element_cell, element_range, part_length, fuelled}
+use Rattle.tree.specs.Bytes.{Element}
+use Rattle.tree.proofs.Steps.{header_is, element_refused, element_cell, element_range}
 use Rattle.tree.proofs.read_cell.Goals as goal
-use Rattle.tree.proofs.read_cell.Goals.{In-Element}
+use Rattle.tree.proofs.read_cell.Goals.{In_ok-tag}
 
-fits : (c : In-Element) → let a = c.args in
-    (3 + c.in-Element.len ≤ length a.s.now) × (a.depth ≤ 16) × (a.count < 512)
-fits c = rw c.in-Element.is at c.read_header-h.ensures.fits
+front : (c : In_ok-tag) → let a = c.args in let h = c.in_ok-tag.field-0 in
+    header_in a.planning a.s.now a.depth a.count ≡ Element h.tag h.len
+front c = header_is _ _ _ _ _ c.in_ok-tag.ensures.value
 
-front : (c : In-Element) → let a = c.args in
-    header_in a.planning a.s.now a.depth a.count ≡ Element c.in-Element.tag c.in-Element.len
-front c = sym c.read_header-h.ensures.value ∙ c.in-Element.is
+pub returns-in_err-tag : goal.returns-in_err-tag
+returns-in_err-tag c = let p = err_from_is_err_and c.from_residual.result c.from_residual.ensures.1 in
+    rw (p.1, p.2) (element_refused _ _ _ _ _ c.in_err-tag.ensures.value)
 
-four : (c : In-Element) → c.in-Element.tag ≡ 4 → c.in-Element.len ≡ 4
-four c = rw c.in-Element.is at c.read_header-h.ensures.four
-
-pub overflow_add-end : goal.overflow_add-end
-overflow_add-end c = omega (arith, (fits (goal.at.overflow_add-end c).In-Element).0)
-
-pub slice_bounds-is_text-end : goal.slice_bounds-is_text-end
-slice_bounds-is_text-end c = omega (arith, (fits (goal.at.slice_bounds-is_text-end c).In-Element).0)
-
-pub slice_bounds-is_range-end : goal.slice_bounds-is_range-end
-slice_bounds-is_range-end c = omega (arith, (fits (goal.at.slice_bounds-is_range-end c).In-Element).0)
-
-pub is_range-requires : goal.is_range-requires
-is_range-requires c = let l = c.in-Element.len in
-    part_length c.args.s.now 3 (3 + l) (omega arith) (fits (goal.at.is_range-requires c).In-Element).0
-    ∙ omega (arith, four (goal.at.is_range-requires c).In-Element c.if-tag-eq4.true)
-
-pub returns-in-Fault : goal.returns-in-Fault
-returns-in-Fault c = fuelled _ _ (λ g h. sym (element_fault _ g _ _ _ _ (sym c.read_header-h.ensures.value ∙ c.in-Fault.is)))
-
-pub returns-then-is_text : goal.returns-then-is_text
-returns-then-is_text c = (
-  fuelled _ _ (λ g h. sym
-      (element_cell _ g _ _ _ _ _ _ (front (goal.at.returns-then-is_text c).In-Element) c.if-tag-eq1.true (sym c.if-is_text.true ∙ c.is_text.ensures))),
-  (
-    omega arith,
-    (fits (goal.at.returns-then-is_text c).In-Element).0,
-  ),
-  (fits (goal.at.returns-then-is_text c).In-Element).2,
-)
-
-pub returns-else-is_text : goal.returns-else-is_text
-returns-else-is_text c = fuelled _ _
-    (λ g h. sym (element_cell _ g _ _ _ _ _ _ (front (goal.at.returns-else-is_text c).In-Element) c.if-tag-eq1.true (sym c.if-is_text.false
-    ∙ c.is_text.ensures)))
-
-pub returns-then-is_range : goal.returns-then-is_range
-returns-then-is_range c = (
-  fuelled _ _ (λ g h. sym
-      (element_range _ g _ _ _ _ _ _ (front (goal.at.returns-then-is_range c).In-Element) c.if-tag-eq1.false c.if-tag-eq4.true
-      (sym c.if-is_range.true ∙ c.is_range.ensures))),
-  (omega arith, (fits (goal.at.returns-then-is_range c).In-Element).0),
-  (fits (goal.at.returns-then-is_range c).In-Element).2,
-)
-
-pub returns-else-is_range : goal.returns-else-is_range
-returns-else-is_range c = fuelled _ _ (λ g h. sym
-    (element_range _ g _ _ _ _ _ _ (front (goal.at.returns-else-is_range c).In-Element) c.if-tag-eq1.false c.if-tag-eq4.true
-    (sym c.if-is_range.false ∙ c.is_range.ensures)))
-
-pub returns-else-tag-eq4 : goal.returns-else-tag-eq4
-returns-else-tag-eq4 c = record {
-  tag = _;
-  len = _;
-  header = front (goal.at.returns-else-tag-eq4 c).In-Element;
-  no_cell = c.if-tag-eq1.false;
-  no_range = c.if-tag-eq4.false;
-  end_is = refl;
-  fits = fits (goal.at.returns-else-tag-eq4 c).In-Element;
+pub returns-in-1 : goal.returns-in-1
+returns-in-1 c = let h = c.in_ok-tag.ensures.fits in record {
+  is = element_cell _ _ _ _ _ _ (front (goal.at.returns-in-1 c).In_ok-tag) _ c.in-1.is c.if-is_text.ensures;
+  low = omega arith;
+  whole = h.whole;
+  before = h.before;
 }
+
+pub returns-in-1-2 : goal.returns-in-1-2
+returns-in-1-2 c = element_cell _ _ _ _ _ _ (front (goal.at.returns-in-1-2 c).In_ok-tag) _ c.in-1.is c.if-is_text.ensures
+
+pub returns-in-4 : goal.returns-in-4
+returns-in-4 c = let h = c.in_ok-tag.ensures.fits in record {
+  is = element_range _ _ _ _ _ _ (front (goal.at.returns-in-4 c).In_ok-tag) _ c.in-4.is c.if-is_range.ensures;
+  low = omega arith;
+  whole = h.whole;
+  before = h.before;
+}
+
+pub returns-in-4-2 : goal.returns-in-4-2
+returns-in-4-2 c = element_range _ _ _ _ _ _ (front (goal.at.returns-in-4-2 c).In_ok-tag) _ c.in-4.is c.if-is_range.ensures

@@ -1,23 +1,15 @@
-use mathlib.Core.Path.{sym, ap, ◌∙◌}
-use Prim.Native.Nat.{ℕ, ◌+◌}
-use native.Mathlib.Omega.{arith}
-use Rattle.tree.proofs.Steps.{tree_long, tree_ends, tree_root}
+use Rattle.std.proofs.Common.{sym, ◌∙◌, arith}
+use Rattle.std.proofs.lemmas.Result.{err_from_is_err_and}
+use Rattle.tree.proofs.Steps.{tree_root, count_sized}
 use Rattle.tree.proofs.read_whole.Goals as goal
 
-pub returns-then-tree-gt32768 : goal.returns-then-tree-gt32768
-returns-then-tree-gt32768 c = sym (tree_long _ _ c.if-tree-gt32768.true)
+pub returns-in_err-read_cell : goal.returns-in_err-read_cell
+returns-in_err-read_cell c =
+    let p = err_from_is_err_and c.from_residual.result c.from_residual.ensures.1 in
+    rw (p.1, p.2) (tree_root _ _ (omega arith) (omega arith) _ c.in_err-read_cell.ensures)
 
-pub returns-then-tree-lt3 : goal.returns-then-tree-lt3
-returns-then-tree-lt3 c = sym (tree_ends _ _ c.if-tree-gt32768.false (λ e. omega arith))
+pub returns-in-Leaf : goal.returns-in-Leaf
+returns-in-Leaf c = let k = rw c.in-Leaf.is at c.in_ok-read_cell.ensures in tree_root _ _ (omega arith) (omega arith) _ k.is
 
-pub returns-then-length_at-tree : goal.returns-then-length_at-tree
-returns-then-length_at-tree c = sym
-    (tree_ends _ _ c.if-tree-gt32768.false (λ e. c.if-length_at-tree.true (ap (λ (n : ℕ). 3 + n) c.length_at.ensures.value ∙ e)))
-
-pub returns-in-Fault : goal.returns-in-Fault
-returns-in-Fault c = sym (tree_root _ _ _ c.if-tree-gt32768.false (ap (λ (n : ℕ). 3 + n) (sym c.length_at.ensures.value) ∙ c.if-length_at-tree.false)
-    (sym c.in-Fault.is ∙ c.read_root-e.ensures _ (omega arith)))
-
-pub returns-in-Whole : goal.returns-in-Whole
-returns-in-Whole c = sym (tree_root _ _ _ c.if-tree-gt32768.false (ap (λ (n : ℕ). 3 + n) (sym c.length_at.ensures.value) ∙ c.if-length_at-tree.false)
-    (sym c.in-Whole.is ∙ c.read_root-e.ensures _ (omega arith)))
+pub returns-in-Group : goal.returns-in-Group
+returns-in-Group c = sym (count_sized _ _) ∙ tree_root _ _ (omega arith) (omega arith) _ c.read_group.ensures

@@ -1,7 +1,6 @@
 -- What is written is the front of the buffer, which is the program's output.
-use Rattle.std.proofs.Common.{◌≡◌, ℕ, ◌+◌, ◌≤◌, List, arith, length, take, drop, ap, ◌∙◌, subst}
+use Rattle.std.proofs.Common.{◌≡◌, ℕ, ◌+◌, ◌≤◌, List, arith, length, take, drop, ap, ◌∙◌}
 use Rattle.std.proofs.lemmas.List.Edits.{sets, sets-eq}
-use Rattle.std.specs.Io.KnownBytes.{Appends}
 use lib.Seq.{length-sets, take-append_seam}
 use Rattle.typed_sheet.proofs.print.Goals as goal
 
@@ -13,7 +12,7 @@ front n out old xs end is within =
     ∙ take-append_seam xs (drop (0 + length xs) old)
 
 pub returns : goal.returns
-returns g c whole =
+returns g c =
     let n = c.answer_typed-n in
     let within : n.result ≤ length n.new.out = omega (arith, n.ensures.within.0, n.ensures.within.1) in
-    subst (Appends _ _) (front n.result n.new.out _ _ n.ensures.wrote.end_is n.ensures.wrote.out_is within) (c.write_answer.ensures whole)
+    rw (front n.result n.new.out _ _ n.ensures.wrote.end_is n.ensures.wrote.out_is within) at c.write_answer.ensures

@@ -1,3 +1,4 @@
+use mathlib.Core.Path.{refl}
 use Prim.Native.Nat.{◌+◌, ◌≤◌, ◌<◌}
 use native.Mathlib.Omega.{arith}
 use lib.ListN.{length}
@@ -13,35 +14,17 @@ in_at c = find_in _ c.requires _ _ _ (c.loop-at.invariant c.requires) c.loop-at-
 pub loop-at-init : goal.loop-at-init
 loop-at-init c = λ q. find_begins _ q
 
-pub bounds-rest-0 : goal.bounds-rest-0
-bounds-rest-0 c = omega (arith, (in_at (goal.at.bounds-rest-0 c).In-loop-at).0)
-
 pub bounds-cells-node : goal.bounds-cells-node
 bounds-cells-node c = (in_at (goal.at.bounds-cells-node c).In-loop-at).2
 
-pub overflow_add-at : goal.overflow_add-at
-overflow_add-at c = omega (arith, (in_at (goal.at.overflow_add-at c).In-loop-at).1, c.requires.short)
-
-pub text_length-requires : goal.text_length-requires
-text_length-requires c = omega (arith, (in_at (goal.at.text_length-requires c).In-loop-at).0)
-
-pub overflow_add-at-in-loop-at : goal.overflow_add-at-in-loop-at
-overflow_add-at-in-loop-at c = omega (
-  arith,
-  (in_at (goal.at.overflow_add-at-in-loop-at c).In-loop-at).1,
-  c.requires.short,
-  c.text_length.ensures,
-)
+pub text_length-at-requires : goal.text_length-at-requires
+text_length-at-requires c = omega (arith, (in_at (goal.at.text_length-at-requires c).In-loop-at).0)
 
 pub overflow_add-node : goal.overflow_add-node
 overflow_add-node c = omega (arith, (in_at (goal.at.overflow_add-node c).In-loop-at).2)
 
-pub loop-at-smaller : goal.loop-at-smaller
-loop-at-smaller c = omega (arith, c.loop-at-test.true)
-
 pub loop-at-preserved : goal.loop-at-preserved
-loop-at-preserved c = λ q.
-    find_more _ q _ _ _ (c.loop-at.invariant q) c.loop-at-test.true _ _ c.pick_byte.ensures c.text_length.ensures
+loop-at-preserved c = λ q. find_more _ q _ _ _ (c.loop-at.invariant q) c.loop-at-test.true _ _ refl c.text_length-at.ensures
 
 pub returns : goal.returns
 returns c = λ q. find_ends _ q _ _ _ (c.loop-at.invariant q) c.loop-at-test.false

@@ -1,35 +1,25 @@
-use mathlib.Core.Path.{◌≡◌}
-use lib.ListN.{length}
-use borrow.Author.Rules.{rules}
-use Rattle.blank.proofs.NamedCells.{none_named, all_dotted, name_none, name_wrong, name_past, name_more, names_cells, names_dots, no_dots}
+use Rattle.std.proofs.Common.{refl, arith, rules}
+use Rattle.common.specs.Refusals.{refusal_of}
+use Rattle.blank.proofs.NamedCells.{name_none, name_wrong, name_past, name_more, names_cells}
 use Rattle.blank.proofs.names.name_cells.Goals as goal
+use Rattle.blank.proofs.names.name_cells.Goals.{then-n-ge512-via-then-n-ge512, then-n-ge512-via-else-n-ge512+then-not-cells-n}
 
-pub returns-then-nodes-eq0 : goal.returns-then-nodes-eq0
-returns-then-nodes-eq0 c = record { ok_value = none_named _ _ c.if-nodes-eq0.true; dots = λ e. all_dotted _ c.if-nodes-eq0.true }
-
-pub loop-j-init : goal.loop-j-init
-loop-j-init c = name_none _ _
+pub loop-node-init : goal.loop-node-init
+loop-node-init c = λ cs e. name_none _ _ _ c.is_empty-dots.ensures
 
 pub returns-then-n-ge512 : goal.returns-then-n-ge512
-returns-then-n-ge512 c =
-    let long : length c.args.cells ≡ 512 = search rules in
-    record {
-      ok_value = name_past _ _ _ _ c.loop-j.invariant c.loop-j-test.true long _ c.wide16-n.ensures.value c.if-n-ge512.true;
-      dots = no_dots;
-    }
+unfolding refusal_of
+returns-then-n-ge512 c = λ cs e.
+    let k = c.loop-node.invariant cs e in
+    elim c.then-n-ge512.branch [
+      | then-n-ge512-via-then-n-ge512 w ↦ (name_past _ _ _ _ k _ e c.loop-node-test.true (search rules) (rw c.from-n.ensures at w.if-n-ge512.true), refl)
+      | then-n-ge512-via-else-n-ge512+then-not-cells-n w ↦ (name_wrong _ _ _ _ k _ e c.loop-node-test.true (rw c.from-n.ensures at w.if-not-cells-n.true), refl)
+    ]
 
-pub returns-then-cells-n-eq0 : goal.returns-then-cells-n-eq0
-returns-then-cells-n-eq0 c = record {
-  ok_value = name_wrong _ _ _ _ c.loop-j.invariant c.loop-j-test.true _ c.wide16-n.ensures.value c.if-cells-n-eq0.true;
-  dots = no_dots;
-}
-
-pub loop-j-preserved : goal.loop-j-preserved
-loop-j-preserved c = name_more _ _ _ _ c.loop-j.invariant c.loop-j-test.true _
-    c.wide16-n.ensures.value c.if-n-ge512.false c.if-cells-n-eq0.false
+pub loop-node-preserved : goal.loop-node-preserved
+loop-node-preserved c = λ cs e.
+    rw c.from-n.ensures (name_more _ _ _ _ (c.loop-node.invariant cs e) _ e c.loop-node-test.true (omega (arith, c.from-n.ensures))
+    (rw c.from-n.ensures at c.if-not-cells-n.false))
 
 pub returns : goal.returns
-returns c = record {
-  ok_value = names_cells _ _ _ _ c.loop-j.invariant c.loop-j-test.false;
-  dots = λ e. names_dots _ _ _ _ c.loop-j.invariant c.loop-j-test.false c.if-nodes-eq0.false;
-}
+returns c = λ cs e. names_cells _ _ _ _ (c.loop-node.invariant cs e) _ e c.loop-node-test.false

@@ -1,10 +1,7 @@
-use Prim.Native.Nat.{◌-◌}
-use lib.ListN.{length}
+use Rattle.std.proofs.Common.{◌≡◌, ℕ, List}
+use Rattle.blank.specs.Clauses.{cell_marks}
 use Rattle.blank.proofs.NamedCells.{Naming}
 use Rattle.blank.proofs.names.name_cells.Given as goal
 
-abbrev pub invariant-loop-j : goal.invariant-loop-j
-invariant-loop-j l = Naming l.cells l.nodes l.dots l.j
-
-abbrev pub decreases-loop-j : goal.decreases-loop-j
-decreases-loop-j l = length l.nodes - l.j
+abbrev pub invariant-loop-node : goal.invariant-loop-node
+invariant-loop-node l = (cs : List ℕ) → l.cells ≡ cell_marks cs → Naming cs l.nodes l.dots l.node-index

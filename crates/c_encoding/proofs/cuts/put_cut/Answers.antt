@@ -11,5 +11,5 @@ long c = search rules
 
 pub returns : goal.returns
 returns c = let start = c.args in
-    cut_stored start.cut start.out.now c.bit.ensures c.copy_numbers.ensures.out_is
+    cut_stored start.cut start.out.now c.bit.ensures c.copy.ensures.out_is
     c.put_list.ensures (long (goal.at.returns c).After-bit) c.put_list-2.ensures

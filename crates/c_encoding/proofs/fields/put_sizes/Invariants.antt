@@ -1,14 +1,10 @@
 use mathlib.Core.Path.{◌≡◌}
-use Prim.Native.Nat.{◌*◌, ◌-◌, ◌≤◌}
-use lib.ListN.{length, drop}
+use Prim.Native.Nat.{◌*◌, ◌-◌}
+use lib.ListN.{drop}
 use lib.Seq.{sets}
 use Rattle.c_encoding.specs.Clauses.{fives}
 use Rattle.c_encoding.proofs.fields.put_sizes.Given as goal
 
 abbrev pub invariant-loop-i : goal.invariant-loop-i
 invariant-loop-i l =
-    (l.i ≤ l.n) × (l.n ≤ 512) × (5 * l.n ≤ length l.out) × (length l.out ≡ length l.initial.out)
-    × (sets l.initial.out 0 (fives l.n l.list l.below) ≡ sets l.out (5 * l.i) (fives (l.n - l.i) (drop (4 * l.i) l.list) (drop l.i l.below)))
-
-abbrev pub decreases-loop-i : goal.decreases-loop-i
-decreases-loop-i l = l.n - l.i
+    sets l.initial.out 0 (fives l.n l.list l.below) ≡ sets l.out (5 * l.i) (fives (l.n - l.i) (drop (4 * l.i) l.list) (drop l.i l.below))

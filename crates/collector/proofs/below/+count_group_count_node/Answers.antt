@@ -28,8 +28,8 @@ module _ (s : List ℕ) (node len : ℕ) (q : ReadyBranches s node len) (b₀ : 
   unfolding kid_at
   turned_at m e r b₁ k = turned s node len q b₀ at next b _ _ turn_at.holds p pe m e r b₁ k
 
-pub count_group-length_at-used-requires : goal.count_group-length_at-used-requires
-count_group-length_at-used-requires t c =
+pub count_group-length_at-requires : goal.count_group-length_at-requires
+count_group-length_at-requires t c =
     let s = c.args.s.now in
     let m = c.loop-at in
     whole_at s _ _ c.requires _ m.at m.next m.below (m.invariant.1 c.requires) c.loop-at-test.true _ (part_to_end s m.at)
@@ -52,7 +52,7 @@ count_group-loop-at-preserved t c =
           let some = m.invariant.1 q in
           let h = c.loop-at-test.true in
           let pe = part_to_end s m.at in
-          rw c.length_at-used.ensures.value (turned_at s _ _ q _ m.at m.next m.below some h _ pe _ m.invariant.0 _ _
+          rw c.length_at.ensures.value (turned_at s _ _ q _ m.at m.next m.below some h _ pe _ m.invariant.0 _ _
           (d.ensures (kid_at s _ _ q _ m.at m.next m.below some h _ pe _ m.invariant.0))),
     )
 

@@ -1,11 +1,12 @@
-use borrow.Author.Tests.{lt-ltb, le-ltb}
+use Rattle.std.proofs.Common.{arith}
+use Rattle.std.proofs.lemmas.Bool.Decides.{nat_tests}
 use Rattle.drafts.specs.Store.{is_tag}
 use Rattle.drafts.proofs.scan.is_tag.Goals as goal
 
-pub returns-then-b-lt32 : goal.returns-then-b-lt32
+pub returns-then-b-ge32 : goal.returns-then-b-ge32
 unfolding is_tag
-returns-then-b-lt32 c = rw (lt-ltb _ 32 c.if-b-lt32.true)
+returns-then-b-ge32 c = grind (arith, nat_tests)
 
-pub returns : goal.returns
+pub returns-else-b-ge32 : goal.returns-else-b-ge32
 unfolding is_tag
-returns c = rw (le-ltb _ 32 c.if-b-lt32.false)
+returns-else-b-ge32 c = grind (arith, nat_tests)

@@ -11,9 +11,6 @@ unfolding pasted
 pasted_empty zero o at stride = refl
 pasted_empty (suc n) o at stride = pasted_empty n o (at + stride) stride
 
-pub stack-requires : goal.stack-requires
-stack-requires c = rw c.if-b.true at c.requires
-
 pub returns-then-b : goal.returns-then-b
 unfolding right_of edge
 returns-then-b c = rw c.if-b.true c.stack.ensures.out_is

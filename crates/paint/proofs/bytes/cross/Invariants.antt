@@ -1,5 +1,5 @@
 use mathlib.Core.Path.{◌≡◌}
-use Prim.Native.Nat.{◌-◌, ◌≤◌}
+use Prim.Native.Nat.{◌≤◌}
 use lib.ListN.{length, drop}
 use Rattle.splits.specs.Splits.{named}
 use Rattle.splits.proofs.Named.{named_from}
@@ -9,8 +9,5 @@ use Rattle.paint.proofs.bytes.cross.Given as goal
 -- the places still to come, named by the pieces from i on, make the whole
 abbrev pub invariant-loop-i : goal.invariant-loop-i
 invariant-loop-i l =
-    (l.i ≤ length l.pieces) × (l.pos ≤ l.n) × (length l.out ≡ length l.initial.out)
+    (l.pos ≤ l.n) × (length l.out ≡ length l.initial.out)
     × (crossed l.initial.out l.at l.step l.n (named l.n l.pieces) l.byte ≡ crossed l.out l.at l.step l.n (named_from l.n l.pos l.i (drop l.i l.pieces)) l.byte)
-
-abbrev pub decreases-loop-i : goal.decreases-loop-i
-decreases-loop-i l = length l.pieces - l.i

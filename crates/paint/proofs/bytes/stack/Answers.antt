@@ -1,32 +1,14 @@
-use native.Mathlib.Nat.{sub-zero}
 use native.Mathlib.Omega.{arith}
 use mathlib.Core.List.{[], ◌∷◌}
-use lib.ListN.{length-replicate}
-use Rattle.paint.proofs.LinesLeft.{left_start, left_step, left_done, line_room, left_next, rows_more, rows_none}
+use Rattle.paint.proofs.LinesLeft.{left_step, left_done, rows_more, rows_none}
 use Rattle.paint.proofs.bytes.stack.Goals as goal
 
-pub loop-i-init : goal.loop-i-init
-loop-i-init c = (omega arith, rw sub-zero (left_start _ _ _ _ _ _ (length-replicate _ _) c.requires))
-
-pub bounds-out-p : goal.bounds-out-p
-bounds-out-p c = let a = c.args in
-    let k = c.loop-i in
-    omega (arith, line_room (rows_more (a.byte ∷ []) a.n k.i (omega arith) k.invariant.1))
-
-pub overflow_add-p : goal.overflow_add-p
-overflow_add-p c = let a = c.args in
-    let k = c.loop-i in
-    omega (arith, left_next (rows_more (a.byte ∷ []) a.n k.i (omega arith) k.invariant.1))
-
-pub loop-i-preserved : goal.loop-i-preserved
-loop-i-preserved c = let a = c.args in
-    let k = c.loop-i in
-    (omega arith, left_step _ _ (rows_more (a.byte ∷ []) a.n k.i (omega arith) k.invariant.1))
-
-pub shape_of-out : goal.shape_of-out
-shape_of-out c = c.loop-i.invariant.1.long
+pub loop-preserved : goal.loop-preserved
+loop-preserved c = let a = c.args in
+    let k = c.loop in
+    left_step _ _ (rows_more (a.byte ∷ []) a.n k.counter (omega arith) k.invariant)
 
 pub returns : goal.returns
 returns c = let a = c.args in
-    let k = c.loop-i in
-    left_done (rows_none (a.byte ∷ []) a.n k.i (omega arith) k.invariant.1)
+    let k = c.loop in
+    left_done (rows_none (a.byte ∷ []) a.n k.counter (omega arith) k.invariant)

@@ -1,4 +1,4 @@
-use Prim.Native.Nat.{◌+◌, ◌-◌, ◌*◌, ◌≤◌}
+use Prim.Native.Nat.{◌+◌, ◌-◌, ◌*◌}
 use mathlib.Core.List.{[], ◌∷◌}
 use lib.ListN.{length, replicate}
 use Rattle.paint.specs.Clauses.{pasted}
@@ -6,10 +6,7 @@ use Rattle.paint.proofs.LinesLeft.{LinesLeft}
 use Rattle.paint.proofs.bytes.stack.Given as goal
 
 -- the lines still to come make the whole
-abbrev pub invariant-loop-i : goal.invariant-loop-i
-invariant-loop-i l =
-    (l.i ≤ l.n) × LinesLeft (pasted l.initial.out l.at l.stride (replicate l.n (l.byte ∷ []))) (length l.initial.out) (l.at + l.n * l.stride) l.out l.p
-    l.stride 1 (replicate (l.n - l.i) (l.byte ∷ []))
-
-abbrev pub decreases-loop-i : goal.decreases-loop-i
-decreases-loop-i l = l.n - l.i
+abbrev pub invariant-loop : goal.invariant-loop
+invariant-loop l =
+    LinesLeft (pasted l.initial.out l.at l.stride (replicate l.n (l.byte ∷ []))) (length l.initial.out) (l.at + l.n * l.stride) l.out l.p
+    l.stride 1 (replicate (l.n - l.counter) (l.byte ∷ []))

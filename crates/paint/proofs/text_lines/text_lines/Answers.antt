@@ -3,15 +3,15 @@ use Prim.Native.Nat.{◌+◌}
 use native.Mathlib.Omega.{arith}
 use borrow.Author.Tests.{eqb-true}
 use Rattle.text.specs.Text.{lines}
-use Rattle.text.proofs.Lines.{lines_from, rest_next, line_from, line_in}
+use Rattle.text.proofs.Lines.{lines_from, rest_next, line_in}
 use Rattle.text.proofs.Measured.{lines_width, lines_height}
 use Rattle.block.specs.Block.{indent}
-use Rattle.paint.proofs.Ground.{more_from, last_end, still_start, still_step, still_done, still_room, still_next, line_over}
+use Rattle.paint.proofs.Ground.{more_from, last_end, still_start, still_step, still_room, line_over}
 use Rattle.paint.proofs.text_lines.text_lines.Goals as goal
 
-pub loop-more-init : goal.loop-more-init
+pub loop-after-init : goal.loop-after-init
 unfolding lines_from
-loop-more-init c = let a = c.args in
+loop-after-init c = let a = c.args in
     let t = a.text.now in (
       lines_height t ∙ sym c.requires.text_len_bound.1,
       rw c.requires.text_len_bound.2 (lines_width t),
@@ -20,42 +20,28 @@ loop-more-init c = let a = c.args in
 
 pub end_of_line-end-requires : goal.end_of_line-end-requires
 end_of_line-end-requires c = let t = c.args.text.now in
-    let k = c.loop-more in
+    let k = c.loop-after in
     let here = more_from t k.from _ k.invariant.0 (omega arith) in
-    (here, λ e. last_end t k.from here (k.invariant.0 ∙ eqb-true _ _ e) _ refl)
-
-pub slice_bounds-text_line-count : goal.slice_bounds-text_line-count
-slice_bounds-text_line-count c = let k = c.loop-more in
-    line_from _ _ (more_from _ k.from _ k.invariant.0 (omega arith)) _ c.end_of_line-end.ensures
-
-pub slice_bounds-text_line-start : goal.slice_bounds-text_line-start
-slice_bounds-text_line-start c = let k = c.loop-more in
-    line_from _ _ (more_from _ k.from _ k.invariant.0 (omega arith)) _ c.end_of_line-end.ensures
+    (here, λ e. let none = eqb-true _ _ e in last_end t k.from here (omega arith) _ refl)
 
 pub slice_bounds-text_line-end : goal.slice_bounds-text_line-end
-slice_bounds-text_line-end c = let k = c.loop-more in
+slice_bounds-text_line-end c = let k = c.loop-after in
     line_in _ _ (more_from _ k.from _ k.invariant.0 (omega arith)) _ c.end_of_line-end.ensures
 
 pub text_line-requires : goal.text_line-requires
 text_line-requires c = let t = c.args.text.now in
-    let k = c.loop-more in
+    let k = c.loop-after in
     let next = rest_next t k.from (more_from t k.from _ k.invariant.0 (omega arith)) c.end_of_line-end.result
     c.end_of_line-end.ensures in
     ((rw next at k.invariant.1).0, c.requires.text_len_bound.3, omega (arith, still_room (rw next at k.invariant.2)))
 
-pub overflow_add-p : goal.overflow_add-p
-overflow_add-p c = let t = c.args.text.now in
-    let k = c.loop-more in
-    let next = rest_next t k.from (more_from t k.from _ k.invariant.0 (omega arith)) c.end_of_line-end.result c.end_of_line-end.ensures in
-    omega (arith, still_next (rw next at k.invariant.2))
-
 pub overflow_add-from : goal.overflow_add-from
-overflow_add-from c = let k = c.loop-more in
+overflow_add-from c = let k = c.loop-after in
     omega (arith, line_in _ _ (more_from _ k.from _ k.invariant.0 (omega arith)) _ c.end_of_line-end.ensures)
 
-pub loop-more-preserved : goal.loop-more-preserved
-loop-more-preserved c = let a = c.args in
-    let k = c.loop-more in
+pub loop-after-preserved : goal.loop-after-preserved
+loop-after-preserved c = let a = c.args in
+    let k = c.loop-after in
     let next = rest_next a.text.now k.from (more_from a.text.now k.from _ k.invariant.0 (omega arith)) c.end_of_line-end.result
     c.end_of_line-end.ensures in
     let fewer = rw next at k.invariant.0 in (
@@ -65,9 +51,3 @@ loop-more-preserved c = let a = c.args in
           (still_step (rw next at k.invariant.2) (k.p + (a.s.left + indent a.s a.inner a.widest _)) (omega (arith, c.text_line.ensures.within))
           (λ b. line_over a.s a.inner a.widest _ b k.p c.text_line.ensures.within)),
     )
-
-pub shape_of-out : goal.shape_of-out
-shape_of-out c = c.loop-more.invariant.2.long
-
-pub returns : goal.returns
-returns c = let k = c.loop-more in still_done _ (omega (arith, k.invariant.0)) k.invariant.2

@@ -1,10 +1,11 @@
 use Rattle.places.specs.Locating.{child_anchor}
+use Rattle.places.proofs.Outside.{and_both}
 use Rattle.places.proofs.anchor.child_anchor.Goals as goal
 
 pub returns-then-g : goal.returns-then-g
 unfolding child_anchor
-returns-then-g c = rw (c.both-last_col.ensures, c.if-g.true)
+returns-then-g c = rw (c.if-g.true, and_both)
 
-pub returns : goal.returns
+pub returns-else-g : goal.returns-else-g
 unfolding child_anchor
-returns c = rw (c.both-last_row.ensures, c.if-g.false)
+returns-else-g c = rw (c.if-g.false, and_both)

@@ -14,6 +14,6 @@ pub returns-then-covers : goal.returns-then-covers
 returns-then-covers c = answer_covered _ _ _ _ _ c.line_of-line.ensures c.column_of-column.ensures
     (sym c.covers.ensures ∙ c.if-covers.true)
 
-pub returns : goal.returns
-returns c = answer_other _ _ _ _ _ c.line_of-line.ensures c.column_of-column.ensures (sym c.covers.ensures
+pub returns-else-covers : goal.returns-else-covers
+returns-else-covers c = answer_other _ _ _ _ _ c.line_of-line.ensures c.column_of-column.ensures (sym c.covers.ensures
     ∙ c.if-covers.false)

@@ -1,6 +1,8 @@
+use mathlib.Core.Path.{◌∙◌}
 use Rattle.places.specs.Places.{covers}
+use Rattle.places.proofs.Outside.{and_both}
 use Rattle.places.proofs.area.covers.Goals as goal
 
 pub returns : goal.returns
 unfolding covers
-returns c = rw (c.both.ensures, c.among-lines.ensures, c.among-columns.ensures)
+returns c = and_both c.among.result c.among-2.result ∙ rw (c.among.ensures, c.among-2.ensures)

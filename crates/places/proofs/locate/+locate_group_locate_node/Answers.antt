@@ -49,16 +49,16 @@ locate_group-locate_node-r-requires t c =
     let k = (goal.at.locate_group-locate_node-r-requires t c).In-loop-at in
     (part_shorter c.args.s.now c.loop-at.at t c.decreases, child_at t k c.requires)
 
-pub locate_group-allotted_at-z-requires : goal.locate_group-allotted_at-z-requires
-locate_group-allotted_at-z-requires t c =
+pub locate_group-allotted_at-requires : goal.locate_group-allotted_at-requires
+locate_group-allotted_at-requires t c =
     let long : length c.args.list.now ≡ 2048 = search rules in
-    omega (arith, in_at t (goal.at.locate_group-allotted_at-z-requires t c).In-loop-at)
+    omega (arith, in_at t (goal.at.locate_group-allotted_at-requires t c).In-loop-at)
 
 pub locate_group-next_offset-offset-requires : goal.locate_group-next_offset-offset-requires
 locate_group-next_offset-offset-requires t c =
     let k = (goal.at.locate_group-next_offset-offset-requires t c).In-loop-at in
     let q = c.requires in
-    (q.thin, omega (arith, (turn_at t k q).holds.low.line, in_at t k), c.allotted_at-z.ensures.small)
+    (q.thin, omega (arith, (turn_at t k q).holds.low.line, in_at t k), c.allotted_at.ensures.small)
 
 -- the child is passed
 module _ (t : ℕ) (k : locate_group-In-loop-at t) (q : Description t k) (r : Consumed) (f : List ℕ)
@@ -103,7 +103,7 @@ locate_group-loop-at-preserved t c =
       d.auto.answers ∙ m.invariant.0,
       λ q. next a.s.now a.g a.list.now a.node a.places.now a.answers.now _ q m.at m.offset m.steps m.answers _ _
           (turn_at t k q).holds (part_at t k) (part_to_end a.s.now m.at) (length m.answers) (same_at t k) _ _ (d.ensures (child_at t k q)) _
-          c.allotted_at-z.ensures.value c.allotted_at-z.ensures.small _ c.next_offset-offset.ensures,
+          c.allotted_at.ensures.value c.allotted_at.ensures.small _ c.next_offset-offset.ensures,
     )
 
 pub locate_group-returns : goal.locate_group-returns

@@ -55,13 +55,13 @@ pub end_group-span_size-requires : goal.end_group-span_size-requires
 end_group-span_size-requires t c =
     let m = c.loop-at in
     let q = c.requires in
-    span_asks _ _ _ _ q m.at m.g (over c.args.s.now m.at _ (λ rest l. l.passing) (m.invariant q) c.loop-at-test.false) _ c.separator-gap.ensures.value
+    span_asks _ _ _ _ q m.at m.g (over c.args.s.now m.at _ (λ rest l. l.passing) (m.invariant q) c.loop-at-test.false) _ c.separator.ensures.value
 
 pub end_group-returns : goal.end_group-returns
 end_group-returns t c = λ q.
     let m = c.loop-at in
     ends _ _ _ _ q m.at m.g (over c.args.s.now m.at _ (λ rest l. l.passing) (m.invariant q) c.loop-at-test.false) _
-    c.separator-gap.ensures.value _ c.span_size.ensures
+    c.separator.ensures.value _ c.span_size.ensures
 
 -- ---- the node
 
@@ -71,10 +71,10 @@ end_node-read_front-t-requires t c = let q = c.requires in front_asks q.plan _ q
 pub end_node-bounds-s-0 : goal.end_node-bounds-s-0
 end_node-bounds-s-0 t c = let q = c.requires in omega (arith, front_asks q.plan _ q.is)
 
--- a range
+pub end_node-slice_bounds-contents-end : goal.end_node-slice_bounds-contents-end
+end_node-slice_bounds-contents-end t c = let q = c.requires in omega (arith, (end_in q.plan _ q.is _ c.read_front-t.ensures).1)
 
-pub end_node-slice_bounds-range_end-end : goal.end_node-slice_bounds-range_end-end
-end_node-slice_bounds-range_end-end t c = let q = c.requires in omega (arith, (end_in q.plan _ q.is _ c.read_front-t.ensures).1)
+-- a range
 
 pub end_node-range_end-requires : goal.end_node-range_end-requires
 end_node-range_end-requires t c = range_asks _ _ _ c.requires _ c.read_front-t.ensures c.if-s-eq4.true
@@ -84,9 +84,6 @@ end_node-returns-then-s-eq4 t c = λ q. range_gives _ _ _ q _ c.read_front-t.ens
 
 -- a leaf
 
-pub end_node-slice_bounds-text_end-end : goal.end_node-slice_bounds-text_end-end
-end_node-slice_bounds-text_end-end t c = let q = c.requires in omega (arith, (end_in q.plan _ q.is _ c.read_front-t.ensures).1)
-
 pub end_node-text_end-requires : goal.end_node-text_end-requires
 end_node-text_end-requires t c = leaf_asks _ _ _ c.requires _ c.read_front-t.ensures c.if-s-eq4.false c.if-t.true (omega arith)
 
@@ -95,17 +92,14 @@ end_node-returns-then-t t c = λ q. leaf_gives _ _ _ q _ c.read_front-t.ensures 
 
 -- a group
 
-pub end_node-slice_bounds-end_group-end : goal.end_node-slice_bounds-end_group-end
-end_node-slice_bounds-end_group-end t c = let q = c.requires in omega (arith, (end_in q.plan _ q.is _ c.read_front-t.ensures).1)
-
 pub end_node-end_group-requires : goal.end_node-end_group-requires
 end_node-end_group-requires t c =
     let q = c.requires in
     let e = c.read_front-t.ensures in
     (omega (arith, c.decreases, inside_shorter q.plan _ q.is _ e), group_ready _ _ _ q _ e c.if-s-eq4.false c.if-t.false)
 
-pub end_node-returns : goal.end_node-returns
-end_node-returns t c = λ q.
+pub end_node-returns-else-t : goal.end_node-returns-else-t
+end_node-returns-else-t t c = λ q.
     let e = c.read_front-t.ensures in
     let n = c.if-s-eq4.false in
     let h = c.if-t.false in

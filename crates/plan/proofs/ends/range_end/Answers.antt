@@ -1,14 +1,11 @@
-use mathlib.Core.Path.{◌∙◌}
 use native.Mathlib.Omega.{arith}
 use Rattle.plan.specs.Ends.{range_size}
 use Rattle.plan.proofs.ends.range_end.Goals as goal
 
 pub padded-requires : goal.padded-requires
 unfolding range_size
-padded-requires c =
-    let k = c.requires.1 in
-    rw (c.wide-h.ensures.value, c.pick_byte-2.ensures, c.wide-w.ensures.value, c.pick_byte.ensures)
-    (omega (arith, k.wide), omega (arith, k.tall))
+padded-requires c = let k = rw c.if-most.true at c.requires.1 in (omega (arith, k.wide), omega (arith, k.tall))
 
-pub returns : goal.returns
-returns c = c.padded.ensures ∙ rw (c.wide-h.ensures.value, c.pick_byte-2.ensures, c.wide-w.ensures.value, c.pick_byte.ensures)
+pub padded-requires-else-most : goal.padded-requires-else-most
+unfolding range_size
+padded-requires-else-most c = let k = rw c.if-most.false at c.requires.1 in (omega (arith, k.wide), omega (arith, k.tall))

@@ -8,6 +8,6 @@ pub returns : goal.returns
 returns c =
     let both =
     place_put _ _ c.if-line-eq0.false _ _ _ _ _ _ _ _ _ _ _
-    c.copy_bytes-first.ensures c.put_digits-second.ensures.wrote c.copy_bytes-third.ensures
-    c.put_digits-fourth.ensures.wrote c.copy_bytes.ensures in
+    c.copy-first.ensures c.put_digits-second.ensures.wrote c.copy-third.ensures
+    c.put_digits-fourth.ensures.wrote c.copy.ensures in
     record { wrote = both.0; few = both.1 }

@@ -6,10 +6,10 @@ use Rattle.tree.proofs.Fronts.{front_asks}
 use Rattle.tree.proofs.Passing.{Some, More, turn, over, InsideNext, inside_at, next_is}
 use Rattle.sizes.specs.declared.Size.{Size}
 use Rattle.sizes.specs.Clauses.{ReadyTrees, Allots, put_size, group_of, child_of, natural_at}
-use Rattle.sizes.proofs.Allotted.{Turn, Kid, room, begins, kid_ready, child_low, has_part, index_low, next, ends, text_shorter, store_asks, leaf_gives}
+use Rattle.sizes.proofs.Allotted.{Turn, Kid, begins, kid_ready, child_low, has_part, index_low, next, ends, text_shorter, store_asks, leaf_gives}
 use Rattle.sizes.proofs.Allotted.{group_ready, group_gives}
 use Rattle.sizes.proofs.allot.+allot_group.Goals as goal
-use Rattle.sizes.proofs.allot.+allot_group.Goals.{In-loop-at}
+use Rattle.sizes.proofs.allot.+allot_group.Goals.{In-loop-at, then-t, else-t}
 
 -- ---- inside the loop, and what is known there
 
@@ -21,9 +21,9 @@ list_at t k = k.open_group-g.new.list
 record Known (t : ℕ) (k : In-loop-at t) : Type 0 where
   z : Size
   own : List ℕ
-  q : let a = k.args in ReadyTrees a.p a.s.now a.across a.node z own
+  q : let a = k.args in ReadyTrees a.settings.now a.s.now a.across a.node z own
   le : list_at t k ≡ put_size own (4 * k.args.node + 2) z
-  is : k.open_group-g.result ≡ group_of q.settings k.args.across q.trees z
+  is : k.open_group-g.result ≡ group_of k.args.settings.now k.args.across q.trees z
 
 abbrev known_at : (t : ℕ) (k : In-loop-at t) → Known t k
 known_at t k =
@@ -31,7 +31,7 @@ known_at t k =
     record { z = k.args.z; own = k.args.list.now; q = k.requires; le = d.ensures.stored; is = d.ensures.value k.requires }
 
 abbrev turn_at : (t : ℕ) (k : In-loop-at t) (x : Known t k) → let a = k.args in let m = k.loop-at in
-    More (Turn a.p a.s.now a.across a.node x.z x.own x.q (list_at t k) x.le m.at m.i m.child m.list)
+    More (Turn a.settings.now a.s.now a.across a.node x.z x.own x.q (list_at t k) x.le m.at m.i m.child m.list)
 turn_at t k x = let m = k.loop-at in turn k.args.s.now m.at _ (λ rest l. l.passing) (m.invariant x.z x.own x.q x.le x.is) k.loop-at-test.true
 
 -- the bytes of the next child and of those after it
@@ -48,28 +48,28 @@ inside t k f e =
 -- its sizes are known: the natural one, and the one that it is allotted
 module _ (t : ℕ) (k : In-loop-at t) (x : Known t k) (n c : Size) (ne : n ≡ natural_at k.loop-at.list k.loop-at.child)
     (ce : c ≡ child_of k.open_group-g.result n k.loop-at.i) where
-  abbrev kid_at : let m = k.loop-at in Kid x.q.settings (part_at t k) m.child c m.list
+  abbrev kid_at : let m = k.loop-at in Kid k.args.settings.now (part_at t k) m.child c m.list
   kid_at =
       let m = k.loop-at in
       kid_ready _ _ _ _ _ _ x.q (list_at t k) x.le m.at m.i m.child m.list _ _ (turn_at t k x).holds _ x.is _ _ ne ce _ (part_to_end k.args.s.now m.at)
 
   module _ (f : Front) (fe : f ≡ front_of (part_at t k)) where
     abbrev leaf_done : f.leaf ≡ true → (l : List ℕ) → l ≡ put_size k.loop-at.list (4 * k.loop-at.child + 2) c
-        → let m = k.loop-at in Allots x.q.settings kid_at.tree m.child c (m.child + 1) m.list l
-    leaf_done b l e = leaf_gives _ _ x.q.sharing _ _ _ _ kid_at _ fe b _ _ refl e
+        → let m = k.loop-at in Allots k.args.settings.now kid_at.tree m.child c (m.child + 1) m.list l
+    leaf_done b l e = leaf_gives _ _ _ _ _ kid_at _ fe b _ _ refl e
 
     -- a turn is done
-    abbrev step : (r : ℕ) (l : List ℕ) → let m = k.loop-at in let a = k.args in Allots x.q.settings kid_at.tree m.child c r m.list l
-        → Some (Turn a.p a.s.now a.across a.node x.z x.own x.q (list_at t k) x.le (m.at + f.end) (m.i + 1) r l)
+    abbrev step : (r : ℕ) (l : List ℕ) → let m = k.loop-at in let a = k.args in Allots k.args.settings.now kid_at.tree m.child c r m.list l
+        → Some (Turn a.settings.now a.s.now a.across a.node x.z x.own x.q (list_at t k) x.le (m.at + f.end) (m.i + 1) r l)
     step r l d =
         let m = k.loop-at in
         next _ _ _ _ _ _ x.q (list_at t k) x.le m.at m.i m.child m.list _ _ (turn_at t k x).holds _ x.is _ _ ne ce _ (part_to_end k.args.s.now m.at) _ _ d _ fe
 
 -- ---- before the next child is allotted its size
 
-pub natural_at-natural-requires : goal.natural_at-natural-requires
-natural_at-natural-requires t c =
-    let k = (goal.at.natural_at-natural-requires t c).In-loop-at in
+pub natural_at-requires : goal.natural_at-requires
+natural_at-requires t c =
+    let k = (goal.at.natural_at-requires t c).In-loop-at in
     let m = c.loop-at in
     let x = known_at t k in
     let long : length m.list ≡ 2048 = search rules in
@@ -82,12 +82,12 @@ read_front-t-requires t c =
     let m = c.loop-at in
     front_asks _ _ (next_is s m.at (turn_at t k (known_at t k)).holds.passing _ (part_to_end s m.at))
 
-pub child_size-c-requires : goal.child_size-c-requires
-child_size-c-requires t c =
-    let k = (goal.at.child_size-c-requires t c).In-loop-at in
+pub child_size-size-requires : goal.child_size-size-requires
+child_size-size-requires t c =
+    let k = (goal.at.child_size-size-requires t c).In-loop-at in
     let m = c.loop-at in
     let x = known_at t k in
-    (has_part _ _ _ _ _ _ x.q (list_at t k) x.le m.at m.i m.child m.list _ _ (turn_at t k x).holds _ x.is, c.natural_at-natural.ensures.small)
+    (has_part _ _ _ _ _ _ x.q (list_at t k) x.le m.at m.i m.child m.list _ _ (turn_at t k x).holds _ x.is, c.natural_at.ensures.small)
 
 pub overflow_add-i : goal.overflow_add-i
 overflow_add-i t c =
@@ -102,22 +102,13 @@ pub store_allotted-requires : goal.store_allotted-requires
 store_allotted-requires t c =
     let k = (goal.at.store_allotted-requires t c).In-loop-at in
     let x = known_at t k in
-    store_asks _ _ x.q.sharing _ _ _ _ (kid_at t k x _ _ c.natural_at-natural.ensures.value c.child_size-c.ensures) _ c.read_front-t.ensures
+    store_asks _ _ _ _ _ (kid_at t k x _ _ c.natural_at.ensures.value c.child_size-size.ensures) _ c.read_front-t.ensures
 
 pub overflow_add-child-then-t : goal.overflow_add-child-then-t
 overflow_add-child-then-t t c =
     let k = (goal.at.overflow_add-child-then-t t c).In-loop-at in
     let x = known_at t k in
-    omega (arith, (store_asks _ _ x.q.sharing _ _ _ _ (kid_at t k x _ _ c.natural_at-natural.ensures.value c.child_size-c.ensures) _ c.read_front-t.ensures).0)
-
-pub loop-at-preserved-then-t : goal.loop-at-preserved-then-t
-loop-at-preserved-then-t t c = λ z own q le ge.
-    let k = (goal.at.loop-at-preserved-then-t t c).In-loop-at in
-    let x : Known t k = record { z = z; own = own; q = q; le = le; is = ge } in
-    let ne = c.natural_at-natural.ensures.value in
-    let ce = c.child_size-c.ensures in
-    let fe = c.read_front-t.ensures in
-    step t k x _ _ ne ce _ fe _ _ (leaf_done t k x _ _ ne ce _ fe c.if-t.true _ c.store_allotted.ensures)
+    omega (arith, (store_asks _ _ _ _ _ (kid_at t k x _ _ c.natural_at.ensures.value c.child_size-size.ensures) _ c.read_front-t.ensures).0)
 
 -- ---- a group
 
@@ -129,33 +120,36 @@ pub allot_group-child-requires : goal.allot_group-child-requires
 allot_group-child-requires t c =
     let k = (goal.at.allot_group-child-requires t c).In-loop-at in
     let x = known_at t k in
-    let y = kid_at t k x _ _ c.natural_at-natural.ensures.value c.child_size-c.ensures in
+    let y = kid_at t k x _ _ c.natural_at.ensures.value c.child_size-size.ensures in
     let v = c.read_front-t.ensures in
     let i = inside t k _ v in (
-      omega (arith, c.decreases, text_shorter _ _ x.q.sharing _ _ _ _ y _ v _ i.part),
-      group_ready _ _ x.q.sharing _ _ _ _ y _ v _ i.part c.if-t.false,
+      omega (arith, c.decreases, text_shorter _ _ _ _ _ y _ v _ i.part),
+      group_ready _ _ _ _ _ y _ v _ i.part c.if-t.false,
     )
+
+-- ---- either
 
 pub loop-at-preserved : goal.loop-at-preserved
 loop-at-preserved t c = λ z own q le ge.
     let k = (goal.at.loop-at-preserved t c).In-loop-at in
     let x : Known t k = record { z = z; own = own; q = q; le = le; is = ge } in
-    let ne = c.natural_at-natural.ensures.value in
-    let ce = c.child_size-c.ensures in
+    let ne = c.natural_at.ensures.value in
+    let ce = c.child_size-size.ensures in
     let v = c.read_front-t.ensures in
     let y = kid_at t k x _ _ ne ce in
     let i = inside t k _ v in
-    let h = c.if-t.false in
     step t k x _ _ ne ce _ v _ _
-    (group_gives _ _ x.q.sharing _ _ _ _ y _ v _ i.part h _ _ (c.allot_group-child.ensures (group_ready _ _ x.q.sharing _ _ _ _ y _ v _ i.part h)))
+    (elim c.if-t.branch [
+      | then-t w ↦ rw (w.child-is, w.list-is) (leaf_done t k x _ _ ne ce _ v w.if-t.true _ w.store_allotted.ensures)
+      | else-t w ↦ let h = w.if-t.false in
+          rw (w.child-is, w.list-is)
+          (group_gives _ _ _ _ _ y _ v _ i.part h _ _ (w.allot_group-child.ensures (group_ready _ _ _ _ _ y _ v _ i.part h)))
+    ])
 
 -- ---- all are allotted theirs
 
 pub loop-at-init : goal.loop-at-init
 loop-at-init t c = λ z own q le e. begins _ _ _ _ _ _ q _ le
-
-pub overflow_add-child : goal.overflow_add-child
-overflow_add-child t c = omega (arith, room _ _ _ _ _ _ c.requires)
 
 pub returns : goal.returns
 returns t c = λ q.

@@ -15,28 +15,22 @@ returns-then-t c = λ q.
     let long : length c.args.list.now ≡ 2048 = search rules in
     let z = c.natural_at-z.ensures.value in
     root_gives _ _ _ q long _ z _ _
-    (leaf_gives _ _ refl _ _ _ _ (root_kid _ _ _ q long _ z) _ c.read_front-t.ensures c.if-t.true _ _
+    (leaf_gives _ _ _ _ _ (root_kid _ _ _ q long _ z) _ c.read_front-t.ensures c.if-t.true _ _
     (omega arith) c.store_allotted.ensures)
-
-pub slice_bounds-allot_group-count : goal.slice_bounds-allot_group-count
-slice_bounds-allot_group-count c = omega (arith, (end_in c.requires.tree _ c.requires.is _ c.read_front-t.ensures).0)
-
-pub slice_bounds-allot_group-start : goal.slice_bounds-allot_group-start
-slice_bounds-allot_group-start c = omega (arith, (end_in c.requires.tree _ c.requires.is _ c.read_front-t.ensures).0)
 
 pub slice_bounds-allot_group-end : goal.slice_bounds-allot_group-end
 slice_bounds-allot_group-end c = omega (arith, (end_in c.requires.tree _ c.requires.is _ c.read_front-t.ensures).1)
 
 pub allot_group-requires : goal.allot_group-requires
 allot_group-requires c = let long : length c.args.list.now ≡ 2048 = search rules in
-    group_ready _ _ refl _ _ _ _ (root_kid _ _ _ c.requires long _ c.natural_at-z.ensures.value) _
+    group_ready _ _ _ _ _ (root_kid _ _ _ c.requires long _ c.natural_at-z.ensures.value) _
     c.read_front-t.ensures _ refl c.if-t.false
 
-pub returns : goal.returns
-returns c = λ q.
+pub returns-else-t : goal.returns-else-t
+returns-else-t c = λ q.
     let long : length c.args.list.now ≡ 2048 = search rules in
     let z = c.natural_at-z.ensures.value in
     let h = c.if-t.false in
     root_gives _ _ _ q long _ z _ _
-    (group_gives _ _ refl _ _ _ _ (root_kid _ _ _ q long _ z) _ c.read_front-t.ensures _ refl h _ _
-    (c.allot_group.ensures (group_ready _ _ refl _ _ _ _ (root_kid _ _ _ q long _ z) _ c.read_front-t.ensures _ refl h)))
+    (group_gives _ _ _ _ _ (root_kid _ _ _ q long _ z) _ c.read_front-t.ensures _ refl h _ _
+    (c.allot_group.ensures (group_ready _ _ _ _ _ (root_kid _ _ _ q long _ z) _ c.read_front-t.ensures _ refl h)))

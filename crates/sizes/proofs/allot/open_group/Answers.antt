@@ -21,6 +21,6 @@ overflow_sub-spare c = rw (
 pub returns : goal.returns
 returns c = record {
   value = λ q. group_opened _ _ _ _ _ _ q _ _ _ (rw (c.along-2.ensures, c.along.ensures, c.natural_at-natural.ensures.value))
-      (c.count_sharers-n.ensures (record { trees = q.trees; are = q.are })) c.priority_of-q.ensures;
+      (c.count_sharers.ensures (record { trees = q.trees; are = q.are })) c.priority.ensures;
   stored = c.store_allotted.ensures;
 }

@@ -1,16 +1,9 @@
-use Prim.Native.Nat.{ℕ}
-use native.Mathlib.Omega.{arith}
-use lib.ListN.{length-set, length-replicate}
-use Rattle.sizes.proofs.Numbers.{numbers_on}
+use Rattle.std.proofs.Common.{◌+◌, ◌*◌, get_or, arith, rules}
+use Rattle.std.proofs.lemmas.List.Edits.{fill_by_more}
 use Rattle.sizes.proofs.lists.numbers_of.Goals as goal
 
-pub loop-i-init : goal.loop-i-init
-loop-i-init c = (omega arith, length-replicate {A = ℕ} 512 0, λ n h. absurd (omega arith))
-
-pub loop-i-preserved : goal.loop-i-preserved
-loop-i-preserved c = let l = c.loop-i in
-    let u = c.args in
-    (omega arith, simp length-set l.invariant.1, numbers_on u.list.now l.out u.k l.i (omega arith) l.invariant.2)
-
-pub returns : goal.returns
-returns c = λ n h. c.loop-i.invariant.2 n (omega arith)
+pub loop-n-preserved : goal.loop-n-preserved
+loop-n-preserved c = record {
+  long = search rules;
+  below = fill_by_more (λ i. get_or c.args.list.now (4 * i + c.args.k) 0) c.loop-n.out _ _ (omega arith) c.loop-n.invariant.below;
+}

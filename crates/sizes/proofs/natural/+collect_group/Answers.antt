@@ -7,7 +7,7 @@ use Rattle.sizes.specs.Clauses.{ReadyGroup}
 use Rattle.tree.proofs.Passing.{More, turn, over, InsideNext, inside_at}
 use Rattle.sizes.proofs.Naturals.{Turn, Kid, kid_ready, child_asks, next, span_asks, ends, text_shorter, leaf_asks, leaf_gives, group_ready, group_gives}
 use Rattle.sizes.proofs.natural.+collect_group.Goals as goal
-use Rattle.sizes.proofs.natural.+collect_group.Goals.{In-loop-at}
+use Rattle.sizes.proofs.natural.+collect_group.Goals.{In-loop-at, then-t, else-t}
 
 -- ---- inside the loop, and what is known there
 
@@ -40,44 +40,19 @@ read_front-t-requires t c = let k = (goal.at.read_front-t-requires t c).In-loop-
 
 -- ---- a leaf is collected
 
-pub slice_bounds-collect_leaf-end : goal.slice_bounds-collect_leaf-end
-slice_bounds-collect_leaf-end t c =
-    let k = (goal.at.slice_bounds-collect_leaf-end t c).In-loop-at in omega (arith, (inside t k _ c.read_front-t.ensures).high)
+pub slice_bounds-inner-end : goal.slice_bounds-inner-end
+slice_bounds-inner-end t c =
+    let k = (goal.at.slice_bounds-inner-end t c).In-loop-at in omega (arith, (inside t k _ c.read_front-t.ensures).high)
 
-pub collect_leaf-c-requires : goal.collect_leaf-c-requires
-collect_leaf-c-requires t c =
-    let k = (goal.at.collect_leaf-c-requires t c).In-loop-at in
+pub collect_leaf-child-requires : goal.collect_leaf-child-requires
+collect_leaf-child-requires t c =
+    let k = (goal.at.collect_leaf-child-requires t c).In-loop-at in
     let q = c.requires in
     leaf_asks _ _ q.around _ _ (kid_at t k q) _ c.read_front-t.ensures _ (inside t k _ c.read_front-t.ensures).part c.if-t.true (omega arith)
 
-pub with_child-g-requires : goal.with_child-g-requires
-with_child-g-requires t c =
-    let k = (goal.at.with_child-g-requires t c).In-loop-at in
-    let q = c.requires in
-    let m = c.loop-at in
-    child_asks _ _ _ _ q c.args.list.now m.at m.next m.g m.list _ _ (turn_at t k q).holds _ (part_to_end c.args.s.now m.at) _ _
-    (leaf_gives _ _ q.around _ _ (kid_at t k q) _ c.read_front-t.ensures _ (inside t k _ c.read_front-t.ensures).part c.if-t.true _ _ _
-    c.collect_leaf-c.ensures.value c.collect_leaf-c.ensures.stored)
-
-pub loop-at-preserved-then-t : goal.loop-at-preserved-then-t
-loop-at-preserved-then-t t c = λ q.
-    let k = (goal.at.loop-at-preserved-then-t t c).In-loop-at in
-    let m = c.loop-at in
-    rw c.with_child-g.ensures
-    (next _ _ _ _ q c.args.list.now m.at m.next m.g m.list _ _ (turn_at t k q).holds _ (part_to_end c.args.s.now m.at) _ _
-    (leaf_gives _ _ q.around _ _ (kid_at t k q) _ c.read_front-t.ensures _ (inside t k _ c.read_front-t.ensures).part c.if-t.true _ _ _
-    c.collect_leaf-c.ensures.value c.collect_leaf-c.ensures.stored)
-    _ c.read_front-t.ensures)
-
--- ---- a group is collected
-
-pub slice_bounds-collect_group-end : goal.slice_bounds-collect_group-end
-slice_bounds-collect_group-end t c =
-    let k = (goal.at.slice_bounds-collect_group-end t c).In-loop-at in omega (arith, (inside t k _ c.read_front-t.ensures).high)
-
-pub collect_group-c-requires : goal.collect_group-c-requires
-collect_group-c-requires t c =
-    let k = (goal.at.collect_group-c-requires t c).In-loop-at in
+pub collect_group-child-requires : goal.collect_group-child-requires
+collect_group-child-requires t c =
+    let k = (goal.at.collect_group-child-requires t c).In-loop-at in
     let q = c.requires in
     let x = kid_at t k q in
     let e = c.read_front-t.ensures in
@@ -86,17 +61,24 @@ collect_group-c-requires t c =
       group_ready _ _ q.around _ _ x _ e _ i.part c.if-t.false,
     )
 
-pub with_child-g-requires-else-t : goal.with_child-g-requires-else-t
-with_child-g-requires-else-t t c =
-    let k = (goal.at.with_child-g-requires-else-t t c).In-loop-at in
+-- ---- either
+
+pub with_child-g-requires : goal.with_child-g-requires
+with_child-g-requires t c =
+    let k = (goal.at.with_child-g-requires t c).In-loop-at in
     let q = c.requires in
     let m = c.loop-at in
     let x = kid_at t k q in
     let e = c.read_front-t.ensures in
-    let h = c.if-t.false in
     let i = inside t k _ e in
-    child_asks _ _ _ _ q c.args.list.now m.at m.next m.g m.list _ _ (turn_at t k q).holds _ (part_to_end c.args.s.now m.at) _ _
-    (group_gives _ _ q.around _ _ x _ e _ i.part h _ _ _ (c.collect_group-c.ensures (group_ready _ _ q.around _ _ x _ e _ i.part h)))
+    child_asks _ _ _ _ q c.args.list.now m.at m.next m.g m.list _ _ (turn_at t k q).holds _ (part_to_end c.args.s.now m.at) c.if-t.child c.if-t.list
+    (elim c.if-t.branch [
+      | then-t w ↦ rw (w.child-is, w.list-is)
+          (leaf_gives _ _ q.around _ _ x _ e _ i.part w.if-t.true _ _ _ w.collect_leaf-child.ensures.value w.collect_leaf-child.ensures.stored)
+      | else-t w ↦ let h = w.if-t.false in
+          rw (w.child-is, w.list-is)
+          (group_gives _ _ q.around _ _ x _ e _ i.part h _ _ _ (w.collect_group-child.ensures (group_ready _ _ q.around _ _ x _ e _ i.part h)))
+    ])
 
 pub loop-at-preserved : goal.loop-at-preserved
 loop-at-preserved t c = λ q.
@@ -104,12 +86,16 @@ loop-at-preserved t c = λ q.
     let m = c.loop-at in
     let x = kid_at t k q in
     let e = c.read_front-t.ensures in
-    let h = c.if-t.false in
     let i = inside t k _ e in
-    rw c.with_child-g-else-t.ensures
+    rw c.with_child-g.ensures
     (next _ _ _ _ q c.args.list.now m.at m.next m.g m.list _ _ (turn_at t k q).holds _ (part_to_end c.args.s.now m.at) _ _
-    (group_gives _ _ q.around _ _ x _ e _ i.part h _ _ _ (c.collect_group-c.ensures (group_ready _ _ q.around _ _ x _ e _ i.part h)))
-    _ c.read_front-t.ensures)
+    (elim c.if-t.branch [
+      | then-t w ↦ rw (w.child-is, w.list-is)
+          (leaf_gives _ _ q.around _ _ x _ e _ i.part w.if-t.true _ _ _ w.collect_leaf-child.ensures.value w.collect_leaf-child.ensures.stored)
+      | else-t w ↦ let h = w.if-t.false in
+          rw (w.child-is, w.list-is)
+          (group_gives _ _ q.around _ _ x _ e _ i.part h _ _ _ (w.collect_group-child.ensures (group_ready _ _ q.around _ _ x _ e _ i.part h)))
+    ]) _ c.read_front-t.ensures)
 
 -- ---- all are collected
 

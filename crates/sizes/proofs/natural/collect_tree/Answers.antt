@@ -7,39 +7,24 @@ use Rattle.sizes.proofs.natural.collect_tree.Goals as goal
 pub read_front-t-requires : goal.read_front-t-requires
 read_front-t-requires c = front_asks c.requires.tree _ c.requires.is
 
-pub slice_bounds-collect_leaf-count : goal.slice_bounds-collect_leaf-count
-slice_bounds-collect_leaf-count c = omega (arith, (end_in c.requires.tree _ c.requires.is _ c.read_front-t.ensures).0)
-
-pub slice_bounds-collect_leaf-start : goal.slice_bounds-collect_leaf-start
-slice_bounds-collect_leaf-start c = omega (arith, (end_in c.requires.tree _ c.requires.is _ c.read_front-t.ensures).0)
-
-pub slice_bounds-collect_leaf-end : goal.slice_bounds-collect_leaf-end
-slice_bounds-collect_leaf-end c = omega (arith, (end_in c.requires.tree _ c.requires.is _ c.read_front-t.ensures).1)
+pub slice_bounds-inner-end : goal.slice_bounds-inner-end
+slice_bounds-inner-end c = omega (arith, (end_in c.requires.tree _ c.requires.is _ c.read_front-t.ensures).1)
 
 pub collect_leaf-requires : goal.collect_leaf-requires
-collect_leaf-requires c = leaf_asks _ _ c.around_of-a.ensures _ _ (root_kid c.requires) _ c.read_front-t.ensures _ refl
+collect_leaf-requires c = leaf_asks _ _ c.of-a.ensures _ _ (root_kid c.requires) _ c.read_front-t.ensures _ refl
     c.if-t.true (omega (arith, c.well_formed.0))
 
 pub returns-then-t : goal.returns-then-t
 returns-then-t c = λ q.
-    leaf_gives _ _ c.around_of-a.ensures _ _ (root_kid q) _ c.read_front-t.ensures _
+    leaf_gives _ _ c.of-a.ensures _ _ (root_kid q) _ c.read_front-t.ensures _
     refl c.if-t.true _ _ _ c.collect_leaf.ensures.value c.collect_leaf.ensures.stored
 
-pub slice_bounds-collect_group-count : goal.slice_bounds-collect_group-count
-slice_bounds-collect_group-count c = omega (arith, (end_in c.requires.tree _ c.requires.is _ c.read_front-t.ensures).0)
-
-pub slice_bounds-collect_group-start : goal.slice_bounds-collect_group-start
-slice_bounds-collect_group-start c = omega (arith, (end_in c.requires.tree _ c.requires.is _ c.read_front-t.ensures).0)
-
-pub slice_bounds-collect_group-end : goal.slice_bounds-collect_group-end
-slice_bounds-collect_group-end c = omega (arith, (end_in c.requires.tree _ c.requires.is _ c.read_front-t.ensures).1)
-
 pub collect_group-requires : goal.collect_group-requires
-collect_group-requires c = group_ready _ _ c.around_of-a.ensures _ _ (root_kid c.requires) _
+collect_group-requires c = group_ready _ _ c.of-a.ensures _ _ (root_kid c.requires) _
     c.read_front-t.ensures _ refl c.if-t.false
 
-pub returns : goal.returns
-returns c = λ q.
+pub returns-else-t : goal.returns-else-t
+returns-else-t c = λ q.
     let h = c.if-t.false in
-    group_gives _ _ c.around_of-a.ensures _ _ (root_kid q) _ c.read_front-t.ensures _ refl h _ _ _
-    (c.collect_group.ensures (group_ready _ _ c.around_of-a.ensures _ _ (root_kid q) _ c.read_front-t.ensures _ refl h))
+    group_gives _ _ c.of-a.ensures _ _ (root_kid q) _ c.read_front-t.ensures _ refl h _ _ _
+    (c.collect_group.ensures (group_ready _ _ c.of-a.ensures _ _ (root_kid q) _ c.read_front-t.ensures _ refl h))

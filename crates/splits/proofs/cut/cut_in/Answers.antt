@@ -1,30 +1,21 @@
 use mathlib.Core.Path.{refl}
 use native.Mathlib.Omega.{arith}
 use lib.Seq.{take-set-le}
-use Rattle.splits.proofs.Cuts.{cut_none, cut_yes, cut_no, cuts_in, first_set}
 use lib.ListN.{drop_of_length-le}
+use Rattle.splits.proofs.Cuts.{cut_none, cut_yes, cut_no, cuts_in, first_set}
 use Rattle.splits.proofs.cut.cut_in.Goals as goal
 
-pub returns-then-pieces-at : goal.returns-then-pieces-at
-returns-then-pieces-at c = cuts_in c.reach_in-k.ensures _ _ (cut_none c.reach_in-k.ensures (omega arith)) _ _ (omega arith)
-    (omega (arith, c.reach_in-k.ensures.within)) refl (drop_of_length-le
-    c.args.pieces.now {i = c.reach_in-k.result.count} (omega arith))
-
-pub overflow_cast-short : goal.overflow_cast-short
-overflow_cast-short c = omega (arith, c.slice_known-2-1.given c.reach_in-k.result.count)
-
-pub overflow_sub-short-2 : goal.overflow_sub-short-2
-overflow_sub-short-2 c = omega (arith, c.reach_in-k.ensures.high (omega arith))
+pub returns-then-taken-pieces : goal.returns-then-taken-pieces
+returns-then-taken-pieces c = let k = c.reach_in-taken in
+    cuts_in k.ensures _ _ (cut_none k.ensures (omega arith)) _ _ (omega arith) (omega arith) refl
+    (drop_of_length-le c.args.pieces.now {i = k.result.0} (omega arith))
 
 pub returns-then-short-eq0 : goal.returns-then-short-eq0
-returns-then-short-eq0 c = cuts_in c.reach_in-k.ensures _ _ (cut_yes c.reach_in-k.ensures (omega arith) (omega arith)) _ _ (omega arith) (omega arith) refl refl
-
-pub overflow_cast-rest : goal.overflow_cast-rest
-overflow_cast-rest c = omega (arith, c.slice_known-2-1.given c.reach_in-k.result.count)
+returns-then-short-eq0 c = let k = c.reach_in-taken in
+    cuts_in k.ensures _ _ (cut_yes k.ensures (omega arith) (omega arith)) _ _ (omega arith) (omega arith) refl refl
 
 pub returns : goal.returns
 returns c = let s = c.args.pieces.now in
-    let k = c.reach_in-k.result.count in
-    cuts_in c.reach_in-k.ensures _ _ (cut_no c.reach_in-k.ensures (omega arith) (λ z. omega arith)) _ _ (omega arith) (omega arith)
-    (take-set-le k s k _ (omega arith))
-    (first_set s k _ (omega arith))
+    let k = c.reach_in-taken in
+    rw (c.from.ensures, c.from-2.ensures) (cuts_in k.ensures _ _ (cut_no k.ensures (omega arith) (λ z. omega arith)) _ _ (omega arith) (omega arith)
+    (take-set-le k.result.0 s k.result.0 _ (omega arith)) (first_set s k.result.0 _ (omega arith)))

@@ -10,4 +10,4 @@ pub returns : goal.returns
 returns c = let a = c.args in
     let s = take a.n (drop a.from a.pieces.now) in
     let long : length s ≡ a.n = length-take-le a.n (drop a.from a.pieces.now) (rw length-drop (omega arith)) in
-    stored_zeros s long (omega arith) (c.copy_numbers.ensures.out_is ∙ rw (add-sub_cancel_left a.from a.n))
+    stored_zeros s long (omega arith) (c.copy.ensures.out_is ∙ rw (add-sub_cancel_left a.from a.n))

@@ -1,15 +1,18 @@
-use native.Mathlib.Omega.{arith}
-use Rattle.typed.proofs.OneLine.{spaced_none, spaced_on, spaced_stop, spaced_all}
+use mathlib.Core.Path.{◌∙◌}
+use lib.Dec.{eqb}
+use Rattle.std.proofs.Common.{rules, tests}
+use Rattle.std.proofs.lemmas.Iterator.{YieldsList-from_slice}
+use Rattle.std.proofs.lemmas.Iterator.Consumers.{count_from_yields_List}
+use Rattle.std.proofs.lemmas.Iterator.Search.{YieldsList-from_take_while}
+use Rattle.std.proofs.lemmas.List.Folds.{length-prefix_len}
+use Rattle.typed.proofs.OneLine.{spaces_is}
 use Rattle.typed.proofs.line.indent.Goals as goal
 
-pub loop-i-init : goal.loop-i-init
-loop-i-init c = spaced_none _
-
-pub returns-then-line-i-ne32 : goal.returns-then-line-i-ne32
-returns-then-line-i-ne32 c = record { value = spaced_stop _ _ c.loop-i.invariant (omega arith) c.if-line-i-ne32.true; within = c.loop-i.invariant.within }
-
-pub loop-i-preserved : goal.loop-i-preserved
-loop-i-preserved c = spaced_on _ _ c.loop-i.invariant (omega arith) c.if-line-i-ne32.false
-
 pub returns : goal.returns
-returns c = record { value = spaced_all _ _ c.loop-i.invariant (omega arith); within = c.loop-i.invariant.within }
+returns c =
+    let s = c.args.line.now in
+    count_from_yields_List c.take_while.result _ c.count.ensures.ran
+    (YieldsList-from_take_while _ (λ b. eqb b 32) (YieldsList-from_slice s cc) c.take_while.ensures.closure c.take_while.ensures.done
+    (λ x b q k. search (rules, tests)))
+    ∙ length-prefix_len (λ b. eqb b 32) s
+    ∙ spaces_is s

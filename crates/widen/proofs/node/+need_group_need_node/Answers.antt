@@ -1,4 +1,4 @@
-use Rattle.std.proofs.Common.{◌≡◌, ap, ◌∙◌, arith, rules, ℕ, ◌+◌, ◌-◌, ◌≤◌, ◌<◌, List, length, take, drop, get_or, length-drop}
+use Rattle.std.proofs.Common.{◌≡◌, ap, ◌∙◌, arith, rules, ℕ, ◌+◌, ◌-◌, ◌≤◌, ◌<◌, List, length, take, drop, get_or, length-drop, length-set, refl}
 use native.Mathlib.Nat.{add-sub_cancel_left}
 use lib.Seq.{length-take-le}
 use borrow.Author.Rules.{part_to_end}
@@ -30,13 +30,13 @@ whole_at : (t : ℕ) (k : need_group-In-loop-at t)
 whole_at t k = let s = k.args.s.now in let at = k.loop-at.at in next_whole s at (turn_at t k k.requires).holds.passing _ (part_to_end s at)
 
 width_at : (t : ℕ) (k : need_group-In-loop-at t) (q : Description t k) → let a = k.args in let m = k.loop-at in
-    (m.next < length a.widths.now) × (get_or a.widths.now m.next 0 ≤ k.wide16-w.result)
+    (m.next < length a.widths.now) × (get_or a.widths.now m.next 0 ≤ k.from-w.result)
 width_at t k q =
     let a = k.args in
     let m = k.loop-at in
     let x = turn_at t k q in
     let f = kid_width _ _ _ _ _ _ q a.needs.now m.at m.next m.needs _ _ x.holds _ (part_to_end a.s.now m.at) in
-    (f.0, omega (arith, f.1, f.2, q.w_is, k.wide16-w.ensures.value))
+    (f.0, omega (arith, f.1, f.2, q.w_is, k.from-w.ensures))
 
 pub need_group-length_at-used-requires : goal.need_group-length_at-used-requires
 need_group-length_at-used-requires t c = omega (arith, (whole_at t (goal.at.need_group-length_at-used-requires t c).In-loop-at).0)
@@ -50,13 +50,13 @@ need_group-bounds-widths-next t c = (width_at t (goal.at.need_group-bounds-width
 
 pub need_group-lost-more-requires : goal.need_group-lost-more-requires
 need_group-lost-more-requires t c =
-    omega (arith, (width_at t (goal.at.need_group-lost-more-requires t c).In-loop-at c.requires).1, c.wide16.ensures.value)
+    omega (arith, (width_at t (goal.at.need_group-lost-more-requires t c).In-loop-at c.requires).1, c.from.ensures)
 
 -- the child, once what it loses is known
 lost_is : (t : ℕ) (c : need_group-After-lost-more t) → let a = c.args in
     (q : NeedGroup a.s.now a.across a.node a.slack a.widths.now (length a.needs.now))
-    → c.lost-more.result ≡ widening.lost (axis_of a.across) q.w c.wide16.result
-lost_is t c q = c.lost-more.ensures ∙ ap (λ (y : ℕ). widening.lost (axis_of c.args.across) y c.wide16.result) (c.wide16-w.ensures.value ∙ q.w_is)
+    → c.lost-more.result ≡ widening.lost (axis_of a.across) q.w c.from.result
+lost_is t c q = c.lost-more.ensures ∙ ap (λ (y : ℕ). widening.lost (axis_of c.args.across) y c.from.result) (c.from-w.ensures ∙ q.w_is)
 
 abbrev kid_at : (t : ℕ) (k : need_group-In-loop-at t) (q : Description t k) (v more : ℕ) → v ≡ get_or k.args.widths.now k.loop-at.next 0
     → more ≡ widening.lost (axis_of k.args.across) q.w v
@@ -71,14 +71,14 @@ pub need_group-overflow_add-slack : goal.need_group-overflow_add-slack
 need_group-overflow_add-slack t c =
     let g = goal.at.need_group-overflow_add-slack t c in
     let q = c.requires in
-    omega (arith, (kid_at t g.In-loop-at q _ _ c.wide16.ensures.value (lost_is t g.After-lost-more q)).small)
+    omega (arith, (kid_at t g.In-loop-at q _ _ c.from.ensures (lost_is t g.After-lost-more q)).small)
 
 pub need_group-need_node-next-requires : goal.need_group-need_node-next-requires
 need_group-need_node-next-requires t c =
     let g = goal.at.need_group-need_node-next-requires t c in
     let q = c.requires in
     let k = g.In-loop-at in
-    (part_shorter c.args.s.now c.loop-at.at t c.decreases, kid_at t k q _ _ c.wide16.ensures.value (lost_is t g.After-lost-more q))
+    (part_shorter c.args.s.now c.loop-at.at t c.decreases, kid_at t k q _ _ c.from.ensures (lost_is t g.After-lost-more q))
 
 pub need_group-loop-at-preserved : goal.need_group-loop-at-preserved
 need_group-loop-at-preserved t c =
@@ -89,9 +89,9 @@ need_group-loop-at-preserved t c =
       c.need_node-next.auto.needs ∙ m.invariant.0,
       λ q. let l = lost_is t g.After-lost-more q in
           rw c.length_at-used.ensures.value
-          (turned _ _ _ _ _ _ q a.needs.now m.at m.next m.needs _ _ (turn_at t k q).holds _ (part_to_end a.s.now m.at) c.wide16.result
-          c.lost-more.result c.wide16.ensures.value l (length m.needs) m.invariant.0 _ _
-          (c.need_node-next.ensures (kid_at t k q _ _ c.wide16.ensures.value l))),
+          (turned _ _ _ _ _ _ q a.needs.now m.at m.next m.needs _ _ (turn_at t k q).holds _ (part_to_end a.s.now m.at) c.from.result
+          c.lost-more.result c.from.ensures l (length m.needs) m.invariant.0 _ _
+          (c.need_node-next.ensures (kid_at t k q _ _ c.from.ensures l))),
     )
 
 pub need_group-returns : goal.need_group-returns
@@ -112,14 +112,14 @@ need_node-bounds-s-0 t c = omega (arith, (node_asks _ _ _ _ _ c.requires).0)
 pub need_node-length_at-end-requires : goal.need_node-length_at-end-requires
 need_node-length_at-end-requires t c = omega (arith, (node_asks _ _ _ _ _ c.requires).0)
 
-pub need_node-store_need-requires : goal.need_node-store_need-requires
-need_node-store_need-requires t c = let k = node_asks _ _ _ _ _ c.requires in (omega (arith, k.1), omega (arith, k.2))
+pub need_node-bounds-needs-node : goal.need_node-bounds-needs-node
+need_node-bounds-needs-node t c = omega (arith, (node_asks _ _ _ _ _ c.requires).1)
+
+pub need_node-bounds-needs-node-2 : goal.need_node-bounds-needs-node-2
+need_node-bounds-needs-node-2 t c = omega (arith, (node_asks _ _ _ _ _ c.requires).1)
 
 pub need_node-returns-then-tag-eq1 : goal.need_node-returns-then-tag-eq1
-need_node-returns-then-tag-eq1 t c = λ q. cell_gives _ _ _ _ _ q c.if-tag-eq1.true _ _ c.store_need.ensures
-
-pub need_node-store_need-requires-2 : goal.need_node-store_need-requires-2
-need_node-store_need-requires-2 t c = (omega (arith, (node_asks _ _ _ _ _ c.requires).1), omega arith)
+need_node-returns-then-tag-eq1 t c = λ q. cell_gives _ _ _ _ _ q c.if-tag-eq1.true _ _ refl
 
 pub need_node-slice_bounds-need_group-end : goal.need_node-slice_bounds-need_group-end
 need_node-slice_bounds-need_group-end t c = omega (arith, (node_asks _ _ _ _ _ c.requires).0, c.length_at-end.ensures.value)
@@ -130,13 +130,13 @@ need_node-need_group-requires t c =
     let q = c.requires in
     let l = c.length_at-end in (
       inside_shorter a.s.now l.result t (omega (arith, (node_asks _ _ _ _ _ q).0, l.ensures.value)) c.decreases,
-      group_ready _ _ _ _ _ q c.if-tag-eq1.false _ (inside_is a.s.now l.result l.ensures.value) _ c.store_need-2.auto.needs,
+      group_ready _ _ _ _ _ q c.if-tag-eq1.false _ (inside_is a.s.now l.result l.ensures.value) _ (length-set _ _ _),
     )
 
 pub need_node-returns : goal.need_node-returns
 need_node-returns t c =
     let a = c.args in
     let e = inside_is a.s.now c.length_at-end.result c.length_at-end.ensures.value in
-    let n = c.store_need-2.auto.needs in
-    λ q. group_gives _ _ _ _ _ q c.if-tag-eq1.false _ e _ n _ _ _ _ c.store_need-2.ensures
+    let n = (length-set _ _ _) in
+    λ q. group_gives _ _ _ _ _ q c.if-tag-eq1.false _ e _ n _ _ _ _ refl
     (c.need_group.ensures (group_ready _ _ _ _ _ q c.if-tag-eq1.false _ e _ n))

@@ -6,6 +6,6 @@ pub returns-then-across : goal.returns-then-across
 unfolding widening.lost
 returns-then-across c = rw c.if-across.true refl
 
-pub returns : goal.returns
+pub returns-else-across : goal.returns-else-across
 unfolding widening.lost
-returns c = rw c.if-across.false refl
+returns-else-across c = rw c.if-across.false refl
