@@ -1,4 +1,5 @@
 use mathlib.Core.Path.{◌≡◌}
+use Prim.Native.Nat.{◌-◌}
 use native.Mathlib.Omega.{arith}
 use borrow.Author.Rules.{rules}
 use lib.ListN.{length}
@@ -8,9 +9,10 @@ use Rattle.splits.proofs.SplitList.lessened.Goals as goal
 pub returns-then-from-self : goal.returns-then-from-self
 returns-then-from-self c = let a = c.args in
     let long : length a.self.now.pieces ≡ 512 = search rules in
-    loses_first a.self.now.pieces a.from a.self.now.count a.by _ (omega arith) c.list_at-left.ensures c.if-from-self.true
+    let none : a.self.now.count - a.from ≡ 0 = omega arith in
+    loses_none a.self.now.pieces a.from a.self.now.count a.by _ (omega arith) (rw (none, c.no_pieces.ensures)) (omega arith)
 
-pub returns-else-from-self : goal.returns-else-from-self
-returns-else-from-self c = let a = c.args in
+pub returns : goal.returns
+returns c = let a = c.args in
     let long : length a.self.now.pieces ≡ 512 = search rules in
-    loses_none a.self.now.pieces a.from a.self.now.count a.by _ (omega arith) c.list_at-left.ensures (omega arith)
+    loses_first a.self.now.pieces a.from a.self.now.count a.by _ (omega arith) c.list_at-left.ensures (omega arith)

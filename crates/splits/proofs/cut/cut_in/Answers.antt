@@ -5,8 +5,8 @@ use lib.ListN.{drop_of_length-le}
 use Rattle.splits.proofs.Cuts.{cut_none, cut_yes, cut_no, cuts_in, first_set}
 use Rattle.splits.proofs.cut.cut_in.Goals as goal
 
-pub returns-then-taken-pieces : goal.returns-then-taken-pieces
-returns-then-taken-pieces c = let k = c.reach_in-taken in
+pub returns-then-pieces-taken : goal.returns-then-pieces-taken
+returns-then-pieces-taken c = let k = c.reach_in-taken in
     cuts_in k.ensures _ _ (cut_none k.ensures (omega arith)) _ _ (omega arith) (omega arith) refl
     (drop_of_length-le c.args.pieces.now {i = k.result.0} (omega arith))
 
