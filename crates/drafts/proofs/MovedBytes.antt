@@ -51,6 +51,11 @@ gap_closed d at size s z h p q =
     (drop_of_length-le (drop (length s - size) s) {i = length s - (length s - size)} (omega (arith, length-drop (length s - size) s))) in
     e ∙ rw (append-nil z, t, q, n) (append_assoc (take at d) (drop (at + size) d) (replicate size 0))
 
+pub nothing_out : (d : List ℕ) (at size : ℕ) → size ≡ 0 → d ≡ take at d ++ (drop (at + size) d ++ replicate size 0)
+nothing_out d at size h =
+    let e : at + 0 ≡ at = omega arith in
+    rw (h, e) (sym (ap (λ (l : List ℕ). take at d ++ l) (append-nil (drop at d)) ∙ take-append-drop at d))
+
 -- a gap among the first bytes of d, with zero bytes behind them
 pub part_out : (d g : List ℕ) (at size used : ℕ) → at + size ≤ used → used ≤ length d → drop used d ≡ replicate (length d - used) 0
     → g ≡ take at (take used d) ++ (drop (at + size) (take used d) ++ replicate size 0)

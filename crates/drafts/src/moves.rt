@@ -27,11 +27,14 @@ fn close_gap(s: &mut [u8], field: FieldAt)
     s[end..].fill(0);
 }
 
-// The same where all bytes from `used` on are zero: these stay.
+// The same where all bytes from `used` on are zero: these stay, and nothing moves where the field has no bytes.
 pub fn take_out(s: &mut [u8], field: FieldAt, used: usize)
     requires { (field.at + field.size ≤ used) × (used ≤ length s.old) × (drop used s.old ≡ replicate (length s.old - used) 0) }
     ensures { s.new ≡ take field.at s.old ++ (drop (field.at + field.size) s.old ++ replicate field.size 0) }
 {
+    if field.size == 0 {
+        return;
+    }
     close_gap(&mut s[..used], field);
 }
 

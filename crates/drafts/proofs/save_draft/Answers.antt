@@ -41,7 +41,7 @@ pub returns-then-store-others : goal.returns-then-store-others
 returns-then-store-others c =
     let d = (goal.at.returns-then-store-others c).Else-fault-ne0 in
     let e = older_at (goal.at.returns-then-store-others c).After-map_or in
-    let k = save_full _ _ _ (ready_at d) _ (read_at d) (rw e at c.if-store-others.true) in
+    let k = save_full _ _ _ (ready_at d) _ (read_at d) (omega (arith, e, c.if-store-others.true)) in
     record { value = c.number-then-store-others.ensures ∙ ap (λ y. y.answer) k; left = ap (λ y. y.memory) k }
 
 pub take_out-requires : goal.take_out-requires
@@ -62,5 +62,5 @@ returns c =
       | in-Some w ↦ w.store-is ∙ w.take_out.ensures ∙ r.closed _ w.in-Some.is
       | in_default w ↦ w.store-is ∙ r.whole (none_is _ w.in_default.not-Some)
     ] in
-    let k = save_there _ _ _ (ready_at d) _ (read_at d) (rw e at c.if-store-others.false) _ _ _ c.tag_of.ensures s (rw e at c.put_field.ensures) in
+    let k = save_there _ _ _ (ready_at d) _ (read_at d) (omega (arith, e, c.if-store-others.false)) _ _ _ c.tag_of.ensures s (rw e at c.put_field.ensures) in
     record { value = ap (λ y. y.answer) k; left = ap (λ y. y.memory) k }
