@@ -2,11 +2,9 @@
 ghost use Rattle.std.specs.Prelude.{◌≤◌, ◌<◌, IfOk, length, take};
 ghost use Rattle.std.specs.Io.KnownBytes.{Consumes, IsAtEnd};
 
+use crate::TRIES;
 use std::io;
 use std::io::{ErrorKind, Read};
-
-// How many calls that a signal interrupts are made again, in all: more than anyone sends.
-const TRIES: usize = 1000000000;
 
 // The input's bytes at the front of the buffer, all or as many as it holds; the answer is how many.
 pub fn read_input<R: Read>(input: &mut R, buffer: &mut [u8]) -> io::Result<usize>

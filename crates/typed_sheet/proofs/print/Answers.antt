@@ -15,4 +15,4 @@ pub returns : goal.returns
 returns g c =
     let n = c.answer_typed-n in
     let within : n.result ≤ length n.new.out = omega (arith, n.ensures.within.0, n.ensures.within.1) in
-    rw (front n.result n.new.out _ _ n.ensures.wrote.end_is n.ensures.wrote.out_is within) at c.write_answer.ensures
+    rw (← front n.result n.new.out _ _ n.ensures.wrote.end_is n.ensures.wrote.out_is within) c.write_answer.ensures
