@@ -8,8 +8,6 @@
 // The last three arguments give FAILED: a file that names no library, one that does not exist, and one that does not end.
 #![tactic(auto)]
 
-use std::io;
-
-fn main(rt: HostRuntime) -> io::Result<()> {
-    test_cases::run(&rt, rt.alloc())
+fn main(rt: HostRuntime) {
+    test_cases::run(&rt);
 }

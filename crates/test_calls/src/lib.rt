@@ -12,14 +12,12 @@ mod measures;
 mod printers;
 mod readers;
 
-use std::alloc::Global;
 use std::io;
 use test_lines::report;
 
 // Makes the call of a line: an arm for each kind. `want` is what the line has, after the bytes of `&` lines before it.
 pub fn ask(
     rt: &impl Print,
-    alloc: Global,
     kind: u8,
     settings: &[u8],
     tree: &[u8],
@@ -27,12 +25,12 @@ pub fn ask(
     want: &[u8],
 ) -> io::Result<()> {
     match kind {
-        b'?' => leaves::record(rt, alloc, settings, tree, node, want),
+        b'?' => leaves::record(rt, settings, tree, node, want),
         b'>' => {
             print!(rt; "node {node}")?;
             printers::printed(rt, |out| leaf::print_leaf(settings, tree, node, out), want)
         }
-        b'!' => leaves::refused(rt, alloc, settings, tree, node, want),
+        b'!' => leaves::refused(rt, settings, tree, node, want),
         b'$' => {
             print!(rt; "sheet")?;
             printers::printed(rt, |out| sheet::print_sheet(settings, tree, out), want)
@@ -41,7 +39,7 @@ pub fn ask(
             print!(rt; "sheet")?;
             printers::refused(rt, |out| sheet::print_sheet(settings, tree, out), want)
         }
-        b's' => measures::measured(rt, alloc, settings, tree, node, want),
+        b's' => measures::measured(rt, settings, tree, node, want),
         b'r' => readers::settings(rt, settings, want),
         b'f' => readers::fields(rt, settings, want),
         b'd' => readers::defaults(rt, want),

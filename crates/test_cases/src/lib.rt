@@ -9,41 +9,36 @@
 mod libraries;
 
 use libraries::Library;
-use std::alloc::Global;
+use standard_streams::input;
 use std::env::{Env, FillError};
 use std::fs::Files;
 use std::io::{ErrorKind, Read};
 use std::{fs, io, str};
 use test_lines::given::Given;
+use test_lines::report::Lossy;
 use test_lines::{contents, given, report};
 
 // A file has fewer bytes than this.
-const MOST: u64 = 131072;
+const MOST: usize = 131072;
 
 // Makes the call of a line with the inputs so far; a title is printed.
-fn ask(rt: &impl Print, alloc: Global, of: Library, kind: u8, given: &mut Given) -> io::Result<()> {
+fn ask(rt: &impl Print, of: Library, kind: u8, given: &mut Given) -> io::Result<()> {
     if kind == b'#' {
-        report::bytes(rt, &given.want.bytes)?;
+        report::bytes(rt, given.want.bytes())?;
         return println!(rt);
     }
     if given::gives(kind) {
         return Ok(());
     }
-    of.ask(rt, alloc, kind, given)
+    of.ask(rt, kind, given)
 }
 
 // One line: the input that it sets, then its call.
-fn step(
-    rt: &impl Print,
-    alloc: Global,
-    of: Library,
-    line: &[u8],
-    given: &mut Given,
-) -> io::Result<()> {
+fn step(rt: &impl Print, of: Library, line: &[u8], given: &mut Given) -> io::Result<()> {
     match line {
         [kind, _, rest @ ..] => {
             given.give(rt, *kind, rest)?;
-            ask(rt, alloc, of, *kind, given)?;
+            ask(rt, of, *kind, given)?;
             given.end_line(*kind);
             Ok(())
         }
@@ -52,32 +47,35 @@ fn step(
 }
 
 // The lines of a file after its first.
-fn run_lines(rt: &impl Print, alloc: Global, of: Library, lines: &[u8]) -> io::Result<()> {
-    let mut given = Given::new(alloc);
+fn run_lines(rt: &impl Print, of: Library, lines: &[u8]) -> io::Result<()> {
+    let mut given = Given::new();
     for line in lines.split_inclusive(|b| *b == b'\n') {
         let line = line.strip_suffix(b"\n").unwrap_or(line);
-        step(rt, alloc, of, line, &mut given)?;
+        step(rt, of, line, &mut given)?;
     }
     Ok(())
 }
 
 // The bytes of a file, of which the first line names the library.
-fn run_bytes(rt: &impl Print, alloc: Global, cases: &[u8]) -> io::Result<()> {
+fn run_bytes(rt: &impl Print, cases: &[u8]) -> io::Result<()> {
     let end = contents::find(cases, b'\n');
     match Library::named(&cases[..end]) {
         None => report::failed(rt, ": names no library"),
         Some(of) => {
             println!(rt)?;
-            run_lines(rt, alloc, of, contents::past(cases, end))
+            run_lines(rt, of, contents::past(cases, end))
         }
     }
 }
 
-// The bytes of an open file, or as many as are too many.
-fn read<F: Read + Drop>(alloc: Global, file: F) -> io::Result<Vec<u8>> {
-    let mut bytes = Vec::new(alloc);
-    file.take(MOST).read_to_end(&mut bytes)?;
-    Ok(bytes)
+// An open file, read and closed.
+fn run_open<F: Read + Drop>(rt: &impl Print, mut file: F) -> io::Result<()> {
+    let mut cases = [0u8; MOST];
+    match input::read_input(&mut file, &mut cases) {
+        Ok(MOST) => report::failed(rt, ": does not end"),
+        Ok(n) => run_bytes(rt, &cases[..n]),
+        Err(_) => report::failed(rt, ": cannot be read"),
+    }
 }
 
 fn open<R: Files>(rt: &R, name: &[u8]) -> io::Result<R::File> {
@@ -87,28 +85,29 @@ fn open<R: Files>(rt: &R, name: &[u8]) -> io::Result<R::File> {
     }
 }
 
-fn run_file(rt: &(impl Print + Files), alloc: Global, name: &[u8]) -> io::Result<()> {
+fn run_file(rt: &impl Print, files: &impl Files, name: &[u8]) -> io::Result<()> {
     print!(rt; "file ")?;
     report::bytes(rt, name)?;
-    let Ok(file) = open(rt, name) else {
-        return report::failed(rt, ": cannot be opened");
-    };
-    match read(alloc, file) {
-        Ok(cases) if cases.len() as u64 == MOST => report::failed(rt, ": does not end"),
-        Ok(cases) => run_bytes(rt, alloc, &cases),
-        Err(_) => report::failed(rt, ": cannot be read"),
+    match open(files, name) {
+        Ok(file) => run_open(rt, file),
+        Err(_) => report::failed(rt, ": cannot be opened"),
     }
 }
 
 // All files that the arguments name; an argument that is longer than any path names none.
-pub fn run(rt: &(impl Print + Files + Env), alloc: Global) -> io::Result<()> {
+fn run_files(rt: &impl Print, files: &(impl Files + Env)) -> io::Result<()> {
     let mut name = [0u8; 4096];
     for i in 1..usize::MAX {
-        match rt.arg(i, &mut name) {
-            Ok(n) => run_file(rt, alloc, &name[..n])?,
-            Err(FillError::TooLong) => run_file(rt, alloc, b"")?,
+        match files.arg(i, &mut name) {
+            Ok(n) => run_file(rt, files, &name[..n])?,
+            Err(FillError::TooLong) => run_file(rt, files, b"")?,
             Err(FillError::NotPresent) => return Ok(()),
         }
     }
     Ok(())
+}
+
+// The same, and a print that fails stops nothing.
+pub fn run(rt: &(impl Print + Files + Env)) {
+    let _ = run_files(&Lossy(rt), rt);
 }

@@ -1,5 +1,4 @@
 // The libraries that make the calls of lines.
-use std::alloc::Global;
 use std::io;
 use test_lines::given::Given;
 
@@ -36,18 +35,12 @@ impl Library {
     }
 
     // Makes the call of a line with the inputs so far.
-    pub fn ask(
-        self,
-        rt: &impl Print,
-        alloc: Global,
-        kind: u8,
-        given: &mut Given,
-    ) -> io::Result<()> {
-        let settings = given.settings.bytes.as_mut_slice();
-        let tree = given.tree.bytes.as_mut_slice();
-        let want = given.want.bytes.as_slice();
+    pub fn ask(self, rt: &impl Print, kind: u8, given: &mut Given) -> io::Result<()> {
+        let settings = given.settings.bytes_mut();
+        let tree = given.tree.bytes_mut();
+        let want = given.want.bytes();
         match self {
-            Library::Calls => test_calls::ask(rt, alloc, kind, settings, tree, given.node, want),
+            Library::Calls => test_calls::ask(rt, kind, settings, tree, given.node, want),
             Library::Places => test_places::ask(rt, kind, settings, tree, want),
             Library::Splits => test_splits::ask(rt, kind, want),
             Library::Sizes => test_sizes::ask(rt, kind, settings, tree, want),

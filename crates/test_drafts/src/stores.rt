@@ -10,7 +10,7 @@ const MOST: usize = 64;
 // Prints the call's name.
 fn name_in(rt: &impl Print, call: &str, want: &[u8]) -> io::Result<u8> {
     let name = contents::nth(want, 0);
-    print!(rt; "{call} {name}")?;
+    print!(rt; "{call}{name}")?;
     Ok((name % 256) as u8)
 }
 
@@ -22,13 +22,13 @@ fn judge(rt: &impl Print, number: u8, store: &[u8], want: &[u8]) -> io::Result<(
 }
 
 pub fn save(rt: &impl Print, store: &mut [u8], tree: &[u8], want: &[u8]) -> io::Result<()> {
-    let name = name_in(rt, "save", want)?;
+    let name = name_in(rt, "save ", want)?;
     let number = drafts::save_draft(store, name, tree);
     judge(rt, number, store, want)
 }
 
 pub fn forget(rt: &impl Print, store: &mut [u8], want: &[u8]) -> io::Result<()> {
-    let name = name_in(rt, "forget", want)?;
+    let name = name_in(rt, "forget ", want)?;
     let number = drafts::forget_draft(store, name);
     judge(rt, number, store, want)
 }
@@ -41,7 +41,7 @@ pub fn give_back(rt: &impl Print, store: &[u8], want: &[u8]) -> io::Result<()> {
     }
     let mut out = [compare::MADE_OF; MOST];
     let out = &mut out[..room];
-    let name = name_in(rt, "return", want)?;
+    let name = name_in(rt, "return ", want)?;
     let r = drafts::return_draft(store, name, out);
     print!(rt; ", lent {room}")?;
     let number = is_nth(rt, ": number ", usize::from(r.number), want, 2)?;

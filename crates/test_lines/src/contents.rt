@@ -13,16 +13,16 @@ impl<'a> Iterator for Decoded<'a> {
 
     fn next(&mut self) -> Option<u8> {
         match self.0 {
-            [b'\\', high, low, rest @ ..] => {
+            [b, rest @ ..] if *b != b'\\' => {
+                self.0 = rest;
+                Some(*b)
+            }
+            [_, high, low, rest @ ..] => {
                 self.0 = rest;
                 Some(hex(*high) * 16 + hex(*low))
             }
-            [b'\\', ..] => {
+            [b, ..] => {
                 self.0 = &[];
-                Some(b'\\')
-            }
-            [b, rest @ ..] => {
-                self.0 = rest;
                 Some(*b)
             }
             [] => None,

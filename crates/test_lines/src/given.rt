@@ -1,29 +1,42 @@
 // The inputs that the lines so far have set.
+ghost use Rattle.std.specs.Prelude.{◌≤◌};
+
 use crate::contents::{Decoded, number, repeated};
 use crate::report;
-use std::alloc::Global;
 use std::io;
 
-// Bytes, at most so many.
-#[derive(Drop)]
-pub struct Bounded {
-    pub bytes: Vec<u8>,
-    most: usize,
+// Bytes, at most N.
+#[derive(Clone, Copy)]
+pub struct Bounded<const N: usize> {
+    room: [u8; N],
+    count: usize,
+    ghost within: { count ≤ N },
 }
 
-impl Bounded {
-    fn new(alloc: Global, most: usize) -> Self {
+impl<const N: usize> Bounded<N> {
+    fn new() -> Self {
         Bounded {
-            bytes: Vec::new(alloc),
-            most,
+            room: [0; N],
+            count: 0,
         }
+    }
+
+    pub fn bytes(&self) -> &[u8] {
+        &self.room[..self.count]
+    }
+
+    pub fn bytes_mut(&mut self) -> &mut [u8] {
+        let count = self.count;
+        let room = &mut self.room;
+        &mut room[..count]
     }
 
     // What `s` encodes, after the bytes that are there, as far as there is room.
     fn add(&mut self, rt: &impl Print, s: &[u8]) -> io::Result<()> {
         for b in Decoded(s) {
-            if self.bytes.len() < self.most {
-                self.bytes.push(b)?;
+            if self.count < N {
+                self.room[self.count] = b;
+                self.count += 1;
             } else {
                 report::too_long(rt)?;
             }
@@ -33,7 +46,7 @@ impl Bounded {
 
     // What `s` encodes, in place of the bytes that are there.
     fn set(&mut self, rt: &impl Print, s: &[u8]) -> io::Result<()> {
-        self.bytes.clear();
+        self.count = 0;
         self.add(rt, s)
     }
 
@@ -48,11 +61,14 @@ impl Bounded {
 }
 
 // The bytes of settings, of a tree, and of what a line expects; and the node.
-#[derive(Drop)]
+#[derive(Clone, Copy)]
 pub struct Given {
-    pub settings: Bounded,
-    pub tree: Bounded,
-    pub want: Bounded,
+    // Room for settings or a store of drafts.
+    pub settings: Bounded<300>,
+    // Room for a tree, or a typed list of one byte more than allowed.
+    pub tree: Bounded<131100>,
+    // Room for what a line expects, of which a sheet of 64,159 bytes is the longest.
+    pub want: Bounded<66000>,
     pub node: usize,
 }
 
@@ -62,13 +78,11 @@ pub fn gives(kind: u8) -> bool {
 }
 
 impl Given {
-    // Room for settings or a store of drafts; for a tree, or a typed list of one byte more than allowed; for what a line expects, of which a sheet of
-    // 64,159 bytes is the longest.
-    pub fn new(alloc: Global) -> Self {
+    pub fn new() -> Self {
         Given {
-            settings: Bounded::new(alloc, 300),
-            tree: Bounded::new(alloc, 131100),
-            want: Bounded::new(alloc, 66000),
+            settings: Bounded::new(),
+            tree: Bounded::new(),
+            want: Bounded::new(),
             node: 0,
         }
     }
@@ -91,7 +105,7 @@ impl Given {
     // Wanted bytes are used once.
     pub fn end_line(&mut self, kind: u8) {
         if kind != b'&' {
-            self.want.bytes.clear();
+            self.want.count = 0;
         }
     }
 }

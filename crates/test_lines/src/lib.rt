@@ -5,3 +5,4 @@ pub mod compare;
 pub mod contents;
 pub mod given;
 pub mod report;
+pub mod texts;

@@ -5,7 +5,6 @@ use block::Flags;
 use collector::SizeRecord;
 use leaf::LeafRecord;
 use splits::SplitList;
-use std::alloc::{AllocError, Global};
 use std::fmt;
 
 // A list; one with too many pieces, or with entries past them, is left out.
@@ -68,23 +67,37 @@ impl fmt::Display for Letters {
 }
 
 // A leaf's record: its size, the two lists, the flags, the pair of its cut.
-pub fn record(alloc: Global, r: &LeafRecord) -> Result<String, AllocError> {
-    format!(in alloc;
-        "{} by {}, across{}, down{}, {}, pair {} {}",
-        r.size.width,
-        r.size.height,
-        Pieces(&r.horizontal),
-        Pieces(&r.vertical),
-        Letters(r.flags),
-        r.pair.taken,
-        r.pair.rest
-    )
+#[derive(Clone, Copy)]
+pub struct Record<'a>(pub &'a LeafRecord);
+
+impl fmt::Display for Record<'_> {
+    fn fmt<W: fmt::Write>(&self, f: &mut fmt::Formatter<W>) -> fmt::Result {
+        let r = self.0;
+        write!(
+            f,
+            "{} by {}, across{}, down{}, {}, pair {} {}",
+            r.size.width,
+            r.size.height,
+            Pieces(&r.horizontal),
+            Pieces(&r.vertical),
+            Letters(r.flags),
+            r.pair.taken,
+            r.pair.rest
+        )
+    }
 }
 
 // A node's sizes, the natural one and the allotted one, and the number of nodes below it.
-pub fn measured(alloc: Global, z: SizeRecord) -> Result<String, AllocError> {
-    format!(in alloc;
-        "{} by {}, {} by {}, below {}",
-        z.natural_width, z.natural_height, z.width, z.height, z.below
-    )
+#[derive(Clone, Copy)]
+pub struct Measured(pub SizeRecord);
+
+impl fmt::Display for Measured {
+    fn fmt<W: fmt::Write>(&self, f: &mut fmt::Formatter<W>) -> fmt::Result {
+        let z = self.0;
+        write!(
+            f,
+            "{} by {}, {} by {}, below {}",
+            z.natural_width, z.natural_height, z.width, z.height, z.below
+        )
+    }
 }

@@ -5,7 +5,7 @@
 #![tactic(auto)]
 
 use std::io;
-use test_lines::{compare, contents, report};
+use test_lines::{compare, contents, report, texts};
 
 // The most bytes lent.
 const MOST: usize = 33000;
@@ -15,7 +15,7 @@ fn show(rt: &impl Print, s: &[u8]) -> io::Result<()> {
     for b in s {
         match *b {
             b' '..=b'~' if *b != b'\\' => report::bytes(rt, &[*b])?,
-            b => print!(rt; "\\{b:02x}")?,
+            b => texts::print_whole(rt, format_args!("\\{b:02x}"))?,
         }
     }
     Ok(())
@@ -39,7 +39,7 @@ fn call(rt: &impl Print, text: &[u8], out: &mut [u8]) -> io::Result<()> {
     compare::renew(out);
     let r = typed::read_typed(text, out);
     if r.number == 0 {
-        print!(rt; "0, bytes {}", r.count)?;
+        print!(rt; "{}, bytes {}", r.number, r.count)?;
     } else {
         print!(rt; "{}, line {}, column {}", r.number, r.line, r.column)?;
     }
