@@ -49,15 +49,6 @@ module _ (s : Settings) (w : ℕ) (zs : List Size) where
   down_over (suc b) zero f h = refl
   down_over (suc b) (suc k) f h = absurd (omega arith)
 
-one_less : (n i : ℕ) → n - (i + 1) ≡ n - i - 1
-one_less n i = omega arith
-
-under_sub : (n i : ℕ) → i < n → 0 < n - i
-under_sub n i h = omega arith
-
-height_down : (one least m i : ℕ) → least ≡ m → i < one - least → one - 1 - i ≡ m + (one - least - i - 1)
-height_down one least m i e h = omega arith
-
 tallest_is : (ws hs : List ℕ) (g : ℕ) (q : Cells ws hs g) (least : ℕ) → least ≡ greatest hs → least ≡ tallest q.cells
 unfolding tallest
 tallest_is ws hs g q least e = e ∙ ap greatest q.heights
@@ -69,26 +60,25 @@ module _ (ws hs : List ℕ) (g w budget one least : ℕ) (q : Range ws hs g one 
   pub range_low : least ≤ one
   range_low = omega (arith, least_is, q.one_is, tallest_low q.known.settings q.known.cells)
 
+  -- the heights from t up are tried
   abbrev Down : ℕ → Tried → Type 0
-  Down i f = try_down q.known.settings w q.known.cells (budget - i) (one - least - i) f ≡ find q.known.settings w q.known.cells budget
+  Down t f = try_down q.known.settings w q.known.cells (budget - (one - t)) (t - least) f ≡ find q.known.settings w q.known.cells budget
 
-  pub begin_down : (f : Tried) → f ≡ record { best = one; tries = 0 } → Down 0 f
+  pub begin_down : (f : Tried) → f ≡ record { best = one; tries = 0 } → Down one f
   unfolding find
-  begin_down f e =
-      let e₁ : budget - 0 ≡ budget = omega arith in
-      let e₂ : one - least - 0 ≡ one - least = omega arith in
-      rw (e, e₁, e₂, q.one_is, least_is)
+  begin_down f e = let e₁ : budget - (one - one) ≡ budget = omega arith in rw (e, e₁, q.one_is, least_is)
 
-  pub turn_down : (i : ℕ) (f : Tried) → i < min budget (one - least) → Down i f → (r : Tried) → r ≡ try q.known.settings w q.known.cells (one - 1 - i) f
-      → Down (i + 1) r
-  turn_down i f h k r e =
-      let e₃ = height_down one least (tallest q.known.cells) i least_is (omega arith) in
-      rw (one_less budget i, one_less (one - least) i, e, e₃)
-      (sym (down_next q.known.settings w q.known.cells (budget - i) (one - least - i) f (under_sub budget i (omega arith))
-      (under_sub (one - least) i (omega arith))) ∙ k)
+  pub turn_down : (t : ℕ) (f : Tried) → one - min budget (one - least) < t → t ≤ one → Down t f
+      → (r : Tried) → r ≡ try q.known.settings w q.known.cells (t - 1) f → Down (t - 1) r
+  turn_down t f h u k r e =
+      let e₁ : budget - (one - (t - 1)) ≡ budget - (one - t) - 1 = omega arith in
+      let e₂ : t - 1 - least ≡ t - least - 1 = omega arith in
+      let e₃ : t - 1 ≡ tallest q.known.cells + (t - least - 1) = omega (arith, least_is, range_low) in
+      rw (e₁, e₂, e, e₃)
+      (sym (down_next q.known.settings w q.known.cells (budget - (one - t)) (t - least) f (omega arith) (omega (arith, range_low))) ∙ k)
 
-  pub over_down : (i : ℕ) (f : Tried) → min budget (one - least) ≤ i → Down i f → f ≡ find q.known.settings w q.known.cells budget
-  over_down i f h k = sym (down_over q.known.settings w q.known.cells (budget - i) (one - least - i) f (omega arith)) ∙ k
+  pub over_down : (t : ℕ) (f : Tried) → t ≤ one - min budget (one - least) → Down t f → f ≡ find q.known.settings w q.known.cells budget
+  over_down t f h k = sym (down_over q.known.settings w q.known.cells (budget - (one - t)) (t - least) f (omega (arith, range_low))) ∙ k
 
 -- ---- the answer
 
