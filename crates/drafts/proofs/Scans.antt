@@ -23,9 +23,17 @@ use Rattle.drafts.specs.Promises.{Field, Fields}
 
 -- ---- zero bytes
 
-zero_here : (s : List ℕ) (i : ℕ) → i < length s → get_or s i 0 ≡ 0 → all_zero (drop i s) ≡ all_zero (drop (i + 1) s)
+pub zero_here : (s : List ℕ) (i : ℕ) → i < length s → get_or s i 0 ≡ 0 → all_zero (drop i s) ≡ all_zero (drop (i + 1) s)
 unfolding all_zero
 zero_here s i h e = rw (drop-cons s i 0 h, add-one i, e)
+
+pub zero_not : (s : List ℕ) (i : ℕ) → i < length s → (get_or s i 0 ≡ 0 → ⊥) → all_zero (drop i s) ≡ false
+unfolding all_zero
+zero_not s i h e = rw (drop-cons s i 0 h, ne_eqb (get_or s i 0) 0 e)
+
+pub zero_end : (s : List ℕ) (i : ℕ) → length s ≤ i → all_zero (drop i s) ≡ true
+unfolding all_zero
+zero_end s i h = rw (drop_of_length-le s h)
 
 -- ---- what one byte leads to
 
@@ -246,9 +254,12 @@ module _ (o : List ℕ) (k : ℕ) (seen : List Bool) (p : Option FieldAt) (i : �
       go zero h = absurd (omega (arith, x.within))
       go (suc f) h = g f h
 
-  pub scan_end : length o ≤ i → Some (record { used = i; spot = p }) ≡ scan_of k (fields_of o)
-  unfolding read_fields
-  scan_end h = scanned true (x.reads ∙ ap (all_then x.done) (rw (drop_of_length-le o h) (fuelled (λ f. read_fields f [] ≡ some []) (λ f l. refl))))
+  pub scan_end : (z : Bool) → z ≡ all_zero (take (length o - i) (drop i o)) → length o ≤ i
+      → then_some z (record { used = i; spot = p }) ≡ scan_of k (fields_of o)
+  unfolding read_fields all_zero
+  scan_end z a h =
+      rw (a, part_to_end o i, drop_of_length-le o h) (scanned true
+      (x.reads ∙ ap (all_then x.done) (rw (drop_of_length-le o h) (fuelled (λ f. read_fields f [] ≡ some []) (λ f l. refl)))))
 
   module _ (h : i < length o) where
     rest : drop i o ≡ get_or o i 0 ∷ drop (i + 1) o

@@ -1,20 +1,15 @@
-use Rattle.std.proofs.Common.{◌≡◌, ◌∙◌, ◌&&◌, Bool, true, false, eqb, refl, rules, tests}
-use Rattle.std.proofs.lemmas.Iterator.{YieldsList-from_slice}
-use Rattle.std.proofs.lemmas.Iterator.Search.{all_from_yields_List}
-use Rattle.std.proofs.lemmas.List.Recursion.{same_from_clauses}
-use Rattle.std.specs.List.{list_all}
-use Rattle.common.specs.Choice.{pick}
-use Rattle.drafts.specs.Store.{all_zero}
+use Rattle.std.proofs.Common.{refl, sym, ◌∙◌}
+use Rattle.drafts.proofs.Scans.{zero_here, zero_not, zero_end}
 use Rattle.drafts.proofs.scan.all_zero.Goals as goal
 
-and_pick : (c r : Bool) → (c && r) ≡ pick c r false
-and_pick true r = refl
-and_pick false r = refl
+pub loop-b-init : goal.loop-b-init
+loop-b-init c = refl
+
+pub returns-then-b-ne0 : goal.returns-then-b-ne0
+returns-then-b-ne0 c = let l = c.loop-b in sym (l.invariant ∙ zero_not _ l.b-index c.loop-b-test.true c.if-b-ne0.true)
+
+pub loop-b-preserved : goal.loop-b-preserved
+loop-b-preserved c = let l = c.loop-b in l.invariant ∙ zero_here _ l.b-index c.loop-b-test.true c.if-b-ne0.false
 
 pub returns : goal.returns
-unfolding all_zero
-returns c =
-    let xs = c.args.s.now in
-    all_from_yields_List (λ b. eqb b 0) _ _ _ c.all.ensures.ran (YieldsList-from_slice xs cc) (λ x b q k. search (rules, tests))
-    ∙ same_from_clauses (list_all (λ b. eqb b 0)) all_zero (λ b r. pick (eqb b 0) r false) refl
-    (λ x xs. and_pick (eqb x 0) (list_all (λ b. eqb b 0) xs)) (λ x xs. refl) xs
+returns c = let l = c.loop-b in sym (l.invariant ∙ zero_end _ l.b-index c.loop-b-test.false)
