@@ -77,8 +77,8 @@ module _ (ws hs : List ℕ) (g w budget one least : ℕ) (q : Range ws hs g one 
       rw (e₁, e₂, e, e₃)
       (sym (down_next q.known.settings w q.known.cells (budget - (one - t)) (t - least) f (omega arith) (omega (arith, range_low))) ∙ k)
 
-  pub over_down : (t : ℕ) (f : Tried) → t ≤ one - min budget (one - least) → Down t f → f ≡ find q.known.settings w q.known.cells budget
-  over_down t f h k = sym (down_over q.known.settings w q.known.cells (budget - (one - t)) (t - least) f (omega (arith, range_low))) ∙ k
+  pub over_height : (t : ℕ) (f : Tried) → t ≤ one - min budget (one - least) → Down t f → f ≡ find q.known.settings w q.known.cells budget
+  over_height t f h k = sym (down_over q.known.settings w q.known.cells (budget - (one - t)) (t - least) f (omega (arith, range_low))) ∙ k
 
 -- ---- the answer
 

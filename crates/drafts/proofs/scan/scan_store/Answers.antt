@@ -1,5 +1,5 @@
 use Rattle.std.proofs.Common.{◌∙◌, arith}
-use Rattle.drafts.proofs.Scans.{scanning_none, scan_end, scan_zero, scan_bad, scan_tag, scan_again, scan_found, scan_other}
+use Rattle.drafts.proofs.Scans.{scanning_none, scan_zero_end, scan_zero, scan_bad, scan_tag, scan_again, scan_found, scan_other}
 use Rattle.drafts.proofs.scan.scan_store.Goals as goal
 use Rattle.drafts.proofs.scan.scan_store.Goals.{then-b-tag, else-b-tag, then-loop-i-test+else-s-i-ne0, else-loop-i-test}
 
@@ -38,5 +38,5 @@ loop-i-preserved c =
 pub returns : goal.returns
 returns c = c.then_some.ensures ∙ elim c.loop-i-test.branch [
   | then-loop-i-test+else-s-i-ne0 w ↦ scan_zero _ _ _ _ _ c.loop-i.invariant w.loop-i-test.true _ c.all_zero.ensures w.if-s-i-ne0.false
-  | else-loop-i-test w ↦ scan_end _ _ _ _ _ c.loop-i.invariant _ c.all_zero.ensures w.loop-i-test.false
+  | else-loop-i-test w ↦ scan_zero_end _ _ _ _ _ c.loop-i.invariant _ c.all_zero.ensures w.loop-i-test.false
 ]

@@ -1,7 +1,7 @@
 use native.Mathlib.Omega.{arith}
 use mathlib.Core.Path.{refl, ap, ◌∙◌}
 use Rattle.fold.specs.declared.Tried.{Tried}
-use Rattle.fold.proofs.Tries.{try_counts, range_low, begin_down, turn_down, over_down}
+use Rattle.fold.proofs.Tries.{try_counts, range_low, begin_down, turn_down, over_height}
 use Rattle.fold.proofs.CellSizes.find_height.Goals as goal
 
 pub overflow_sub-one : goal.overflow_sub-one
@@ -17,4 +17,4 @@ loop-t-preserved c = let l = c.loop-t in (
 )
 
 pub returns : goal.returns
-returns c = let l = c.loop-t in λ q. over_down _ _ _ _ _ _ _ q l.t l.f (omega (arith, c.min.ensures, c.loop-t-test.false)) (l.invariant.1 q)
+returns c = let l = c.loop-t in λ q. over_height _ _ _ _ _ _ _ q l.t l.f (omega (arith, c.min.ensures, c.loop-t-test.false)) (l.invariant.1 q)
