@@ -254,12 +254,15 @@ module _ (o : List ℕ) (k : ℕ) (seen : List Bool) (p : Option FieldAt) (i : �
       go zero h = absurd (omega (arith, x.within))
       go (suc f) h = g f h
 
+  pub scan_end : length o ≤ i → Some (record { used = i; spot = p }) ≡ scan_of k (fields_of o)
+  unfolding read_fields
+  scan_end h = scanned true (x.reads ∙ ap (all_then x.done) (rw (drop_of_length-le o h) (fuelled (λ f. read_fields f [] ≡ some []) (λ f l. refl))))
+
+  -- the same by what `all_zero` answers there
   pub scan_zero_end : (z : Bool) → z ≡ all_zero (take (length o - i) (drop i o)) → length o ≤ i
       → then_some z (record { used = i; spot = p }) ≡ scan_of k (fields_of o)
-  unfolding read_fields all_zero
-  scan_zero_end z a h =
-      rw (a, part_to_end o i, drop_of_length-le o h) (scanned true
-      (x.reads ∙ ap (all_then x.done) (rw (drop_of_length-le o h) (fuelled (λ f. read_fields f [] ≡ some []) (λ f l. refl)))))
+  unfolding all_zero
+  scan_zero_end z a h = rw (a, part_to_end o i, drop_of_length-le o h) (scan_end h)
 
   module _ (h : i < length o) where
     rest : drop i o ≡ get_or o i 0 ∷ drop (i + 1) o

@@ -77,8 +77,15 @@ module _ (ws hs : List ℕ) (g w budget one least : ℕ) (q : Range ws hs g one 
       rw (e₁, e₂, e, e₃)
       (sym (down_next q.known.settings w q.known.cells (budget - (one - t)) (t - least) f (omega arith) (omega (arith, range_low))) ∙ k)
 
+  -- after i tries, where no try or no height is left
+  pub over_down : (i : ℕ) (f : Tried) → min budget (one - least) ≤ i
+      → try_down q.known.settings w q.known.cells (budget - i) (one - least - i) f ≡ find q.known.settings w q.known.cells budget
+      → f ≡ find q.known.settings w q.known.cells budget
+  over_down i f h k = sym (down_over q.known.settings w q.known.cells (budget - i) (one - least - i) f (omega arith)) ∙ k
+
+  -- the same by the heights
   pub over_height : (t : ℕ) (f : Tried) → t ≤ one - min budget (one - least) → Down t f → f ≡ find q.known.settings w q.known.cells budget
-  over_height t f h k = sym (down_over q.known.settings w q.known.cells (budget - (one - t)) (t - least) f (omega (arith, range_low))) ∙ k
+  over_height t f h k = let e : t - least ≡ one - least - (one - t) = omega (arith, range_low) in over_down (one - t) f (omega arith) (rw e at k)
 
 -- ---- the answer
 
